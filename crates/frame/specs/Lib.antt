@@ -1,0 +1,4 @@
+pub mod Check
+pub mod Frame
+pub mod Read
+pub mod Says

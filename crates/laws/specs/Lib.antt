@@ -1,0 +1,4 @@
+pub mod Pick
+pub mod Tests
+pub mod Whole
+pub mod Over
