@@ -2,3 +2,4 @@ pub mod Pick
 pub mod Tests
 pub mod Whole
 pub mod Over
+pub mod Decimal
