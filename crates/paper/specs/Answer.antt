@@ -20,6 +20,12 @@ told f (done x) = done (f x)
 told f (refused n vs) = refused n vs
 told f (fault n vs) = fault n vs
 
+-- where an answer is done, go on with its values
+unfoldable pub onDone : {A B : Type 0} → Answer A → (A → Answer B) → Answer B
+onDone (done x) next = next x
+onDone (refused n vs) next = refused n vs
+onDone (fault n vs) next = fault n vs
+
 -- the bytes of an answer that has some, else none
 unfoldable pub bytesIn : Answer (List ℕ) → List ℕ
 bytesIn (done bytes) = bytes

@@ -1,0 +1,70 @@
+-- An hour's answer (document 01, "Journal and hours"). Assumes nothing.
+use mathlib.Core.Path.{_≡_, refl}
+use mathlib.Core.Bool.{Bool, true, false, _||_}
+use mathlib.Core.List.{List, [], _∷_, _++_}
+use Prim.Native.Nat.{ℕ, _+_, max}
+use lib.Dec.{eqb}
+use lib.IntN.{pos}
+use lib.ListN.{length}
+use lib.Ieee.{Float, binary64, div, ofInt}
+use Rattle.laws.specs.Pick.{pick}
+use Rattle.paper.specs.Answer.{Answer, told}
+use Rattle.journal.specs.Journal.{journalOf}
+use Rattle.journal.specs.declared.Line.{Line}
+use Rattle.journal.specs.declared.Line.the-variants.{Dose, On}
+use Rattle.hourly.specs.declared.Figures.{Figures}
+use Rattle.hourly.specs.declared.Hour.{Hour}
+use Rattle.hourly.specs.declared.Hour.the-variants.{Measured, Idle, Missing}
+
+-- the amount of a line that is a D of hour h
+unfoldable pub doseAt : ℕ → Line → List ℕ
+doseAt h (Dose x c a s) = pick (eqb x h) (a ∷ []) []
+doseAt h (On x) = []
+
+-- the amounts of the D lines of hour h, in their order
+unfoldable pub amountsAt : ℕ → List Line → List ℕ
+amountsAt h [] = []
+amountsAt h (l ∷ ls) = doseAt h l ++ amountsAt h ls
+
+-- a line that is the H of hour h: the box was on for all of that hour
+unfoldable pub isOn : ℕ → Line → Bool
+isOn h (Dose x c a s) = false
+isOn h (On x) = eqb x h
+
+unfoldable pub hasOn : ℕ → List Line → Bool
+hasOn h [] = false
+hasOn h (l ∷ ls) = isOn h l || hasOn h ls
+
+unfoldable pub total : List ℕ → ℕ
+total [] = 0
+total (a ∷ as') = a + total as'
+
+unfoldable pub greatest : List ℕ → ℕ
+greatest [] = 0
+greatest (a ∷ as') = max a (greatest as')
+
+-- a whole number as an f64
+unfoldable pub inFloat : ℕ → Float
+inFloat n = ofInt binary64 (pos n)
+
+-- its sum, largest amount and mean as f64: the first two exact, the mean one division of the sum by the number of doses
+unfoldable pub figuresOf : List ℕ → Figures
+figuresOf amounts =
+    record {
+      sum = inFloat (total amounts);
+      largest = inFloat (greatest amounts);
+      mean = div binary64 (inFloat (total amounts)) (inFloat (length amounts));
+    }
+
+-- An hour with an H is measured if it has a D, else idle
+unfoldable pub measuredOrIdle : List ℕ → Hour
+measuredOrIdle [] = Idle
+measuredOrIdle (a ∷ as') = Measured (figuresOf (a ∷ as'))
+
+-- without an H it is missing, whatever D lines it has
+unfoldable pub hourOf : List Line → ℕ → Hour
+hourOf ls h = pick (hasOn h ls) (measuredOrIdle (amountsAt h ls)) Missing
+
+-- the hour of a journal's bytes, or the journal's refusal
+unfoldable pub askOf : List ℕ → ℕ → Answer Hour
+askOf s h = told (λ (ls : List Line). hourOf ls h) (journalOf s)

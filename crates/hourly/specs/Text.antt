@@ -1,0 +1,91 @@
+-- The hour program's text (document 01, "Journal and hours"). Assumes nothing.
+use mathlib.Core.Path.{_≡_, refl}
+use mathlib.Core.Bool.{Bool, true, false}
+use mathlib.Core.List.{List, [], _∷_, _++_, map}
+use Prim.Native.Nat.{ℕ, zero, suc, _+_, _-_}
+use lib.ListN.{length}
+use lib.Ieee.{Float, binary64, toBits, div, ofInt}
+use Rattle.laws.specs.Pick.{pick}
+use Rattle.laws.specs.Decimal.{decimal, digitsOf, glyph, hexOf}
+use Rattle.paper.specs.Answer.{Answer, onDone, inRoom}
+use Rattle.journal.specs.Line.{LF, TAB}
+use Rattle.journal.specs.Journal.{journalOf, firstHour, lastHour, hourIn, example}
+use Rattle.journal.specs.declared.Line.{Line}
+use Rattle.hourly.specs.Hours.{hourOf, measuredOrIdle, hasOn, isOn, amountsAt, doseAt, total, greatest, figuresOf, inFloat}
+use Rattle.hourly.specs.declared.Hour.{Hour}
+use Rattle.hourly.specs.declared.Hour.the-variants.{Measured, Idle, Missing}
+
+abbrev pub letterM : ℕ
+letterM = 77
+
+abbrev pub letterI : ℕ
+letterI = 73
+
+abbrev pub letterX : ℕ
+letterX = 88
+
+-- what is printed of an hour: M, doses, sum, mean's bits; or I; or X
+pub data Row : Type 0 where
+  measured : ℕ → ℕ → ℕ → Row
+  idle : Row
+  missing : Row
+
+-- the hour's answer, with its amounts, as a row
+unfoldable pub rowFrom : Hour → List ℕ → Row
+rowFrom (Measured f) amounts = measured (length amounts) (total amounts) (toBits binary64 (f .mean))
+rowFrom Idle amounts = idle
+rowFrom Missing amounts = missing
+
+unfoldable pub rowOf : List Line → ℕ → Row
+rowOf ls h = rowFrom (hourOf ls h) (amountsAt h ls)
+
+-- hour, M, doses, sum, mean's bits in 16 hex digits; or hour, I; or hour, X
+unfoldable pub rowText : ℕ → Row → List ℕ
+rowText h (measured doses sum bits) =
+    decimal h ++ TAB ∷ letterM ∷ TAB ∷ (decimal doses ++ TAB ∷ (decimal sum ++ TAB ∷ (hexOf 16 bits ++ LF ∷ [])))
+rowText h idle = decimal h ++ TAB ∷ letterI ∷ LF ∷ []
+rowText h missing = decimal h ++ TAB ∷ letterX ∷ LF ∷ []
+
+-- n hours from h on
+unfoldable pub hoursFrom : ℕ → ℕ → List ℕ
+hoursFrom h zero = []
+hoursFrom h (suc n) = h ∷ hoursFrom (suc h) n
+
+-- every hour from first to last; none of an empty journal
+unfoldable pub spanOf : List Line → List ℕ
+spanOf [] = []
+spanOf (l ∷ ls) = hoursFrom (firstHour (l ∷ ls)) (suc (lastHour (l ∷ ls) - firstHour (l ∷ ls)))
+
+-- an hour and its row
+pub record HourRow : Type 0 where
+  pub hour : ℕ
+  pub row : Row
+
+unfoldable pub rowsOf : List Line → List HourRow
+rowsOf ls = map (λ h. record { hour = h; row = rowOf ls h }) (spanOf ls)
+
+unfoldable pub rowsText : List HourRow → List ℕ
+rowsText [] = []
+rowsText (p ∷ ps) = rowText (p .hour) (p .row) ++ rowsText ps
+
+unfoldable pub hoursText : List Line → List ℕ
+hoursText ls = rowsText (rowsOf ls)
+
+-- the journal's refusals, then R8
+unfoldable pub printOf : List ℕ → ℕ → Answer (List ℕ)
+printOf s room = onDone (journalOf s) (λ ls. inRoom [] room (hoursText ls))
+
+abbrev printed : ℕ → Row → HourRow
+printed h r = record { hour = h; row = r }
+
+-- document 01's example, and its first and last row as bytes
+pub example-rows : rowsOf example ≡ printed 10 (measured 2 998 0x407F300000000000) ∷ printed 11 idle ∷ printed 12 missing ∷ printed 13 idle ∷ []
+unfolding rowsOf spanOf hoursFrom firstHour lastHour hourIn rowOf rowFrom hourOf measuredOrIdle hasOn isOn amountsAt doseAt total greatest figuresOf inFloat toBits div ofInt pick
+example-rows = refl
+
+pub row-bytes :
+    (rowText 10 (measured 2 998 0x407F300000000000)
+    ≡ 49 ∷ 48 ∷ 9 ∷ 77 ∷ 9 ∷ 50 ∷ 9 ∷ 57 ∷ 57 ∷ 56 ∷ 9 ∷ 52 ∷ 48 ∷ 55 ∷ 70 ∷ 51 ∷ 48 ∷ 48 ∷ 48 ∷ 48 ∷ 48 ∷ 48 ∷ 48 ∷ 48 ∷ 48 ∷ 48 ∷ 48 ∷ 10 ∷ [])
+    × (rowText 13 idle ≡ 49 ∷ 51 ∷ 9 ∷ 73 ∷ 10 ∷ [])
+unfolding rowText decimal digitsOf glyph hexOf pick
+row-bytes = (refl, refl)
