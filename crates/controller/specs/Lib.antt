@@ -1,0 +1,7 @@
+pub mod State
+pub mod Tick
+pub mod Calls
+pub mod Line
+pub mod Sound
+pub mod Says
+pub mod Cases

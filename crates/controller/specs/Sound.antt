@@ -1,0 +1,50 @@
+-- What every controller from an accepted restart or an earlier call satisfies. Assumes nothing.
+use mathlib.Core.Path.{_≡_}
+use mathlib.Core.Bool.{Bool, true, false}
+use Prim.Native.Nat.{ℕ, _≤_}
+use lib.IntN.{ℤ, pos, natAbs}
+use lib.ListN.{length, getD}
+use Rattle.paper.specs.Answer.{done}
+use Rattle.settings.specs.Table.{firstBad}
+use Rattle.window.specs.Window.{samplesOf}
+use Rattle.dosing.specs.Rules.{shut}
+use Rattle.dosing.specs.Gates.{gatesOf, belongs, Kept}
+use Rattle.dosing.specs.declared.Phase.{Phase}
+use Rattle.dosing.specs.declared.Phase.the-variants.{Ready}
+use Rattle.dosing.specs.declared.Gates.{Gates}
+use Rattle.controller.specs.declared.Controller.{Controller}
+use Rattle.controller.specs.declared.Runs.{Runs}
+use Rattle.controller.specs.declared.Condition.{Condition}
+use Rattle.controller.specs.declared.Condition.the-variants.{Clear, Faulted}
+
+-- a fault has abandoned its cycle and turned output 4 on
+abbrev pub Abandoned : Condition → Phase → Bool → Type 0
+Abandoned Clear p four = Unit {0}
+Abandoned (Faulted why) p four = (p ≡ Ready) × (four ≡ true)
+
+-- a run of 64 is a fault
+abbrev pub Watched : Condition → Runs → Type 0
+Watched Clear r = (r .one ≤ 63) × (r .two ≤ 63) × (r .three ≤ 63)
+Watched (Faulted why) r = (r .one ≤ 64) × (r .two ≤ 64) × (r .three ≤ 64)
+
+pub record Sound (c : Controller) : Type 0 where
+  -- the set was taken
+  pub set : firstBad (c .set) ≡ done tt
+  -- at most 128 samples, each within 900,000
+  pub places : length (c .window .samples) ≡ 128
+  pub held : c .window .held ≤ 128
+  pub samples : (k : ℕ) → natAbs (getD (samplesOf (c .window)) k (pos 0)) ≤ 900000
+  -- a zero is taken only where -M < F < M, and M is at most 24,999 there
+  pub zero : natAbs (c .z .v) ≤ 24998
+  pub previous : natAbs (c .f .v) ≤ 900000
+  pub calm : c .s ≤ 4032
+  pub runs : Watched (c .condition) (c .runs)
+  -- the phase is one of the algorithm's, what it keeps is bounded, and it determines outputs 1 to 3
+  pub phase : belongs (c .set .algorithm) (c .phase) ≡ true
+  pub kept : Kept (c .z .v) (c .phase)
+  pub gates : c .gates ≡ gatesOf (c .set) (c .phase)
+  pub abandoned : Abandoned (c .condition) (c .phase) (c .alarm)
+  pub inputs : c .inputs ≤ 15
+  -- 0 follows 999,999; the total wraps after 999,999,999
+  pub count : c .counters .count ≤ 999999
+  pub total : c .counters .total ≤ 999999999

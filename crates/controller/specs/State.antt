@@ -1,0 +1,279 @@
+-- The controller's state: one setter a field, and the state of a restart. Assumes nothing.
+use mathlib.Core.Path.{_≡_, refl}
+use mathlib.Core.Bool.{Bool, true, false}
+use Prim.Native.Nat.{ℕ}
+use lib.IntN.{pos}
+use Rattle.settings.specs.declared.Settings.{Settings}
+use Rattle.window.specs.declared.Window.{Window}
+use Rattle.window.specs.Window.{emptyWindow}
+use Rattle.dosing.specs.declared.Units.{Units}
+use Rattle.dosing.specs.declared.Gates.{Gates}
+use Rattle.dosing.specs.declared.Phase.{Phase}
+use Rattle.dosing.specs.declared.Phase.the-variants.{Ready}
+use Rattle.dosing.specs.Rules.{units, shut}
+use Rattle.controller.specs.declared.Controller.{Controller}
+use Rattle.controller.specs.declared.Runs.{Runs}
+use Rattle.controller.specs.declared.Counters.{Counters}
+use Rattle.controller.specs.declared.Condition.{Condition}
+use Rattle.controller.specs.declared.Condition.the-variants.{Clear, Faulted}
+
+abbrev pub counters : ℕ → ℕ → Counters
+counters count total = record { count = count; total = total }
+
+abbrev pub noRuns : Runs
+noRuns = record { one = 0; two = 0; three = 0 }
+
+-- A restart takes a set and the stored count and total; it empties the filter and puts Z to 0, clears link start and fault, closes all outputs, and is in Ready
+unfoldable pub restarted : Settings → ℕ → ℕ → Controller
+restarted set count total =
+    record {
+      set = set;
+      window = emptyWindow;
+      z = units (pos 0);
+      f = units (pos 0);
+      s = 0;
+      runs = noRuns;
+      phase = Ready;
+      gates = shut;
+      alarm = false;
+      link = false;
+      inputs = 0;
+      condition = Clear;
+      counters = counters count total;
+    }
+
+-- ---- one setter a field
+
+abbrev pub withSet : Settings → Controller → Controller
+withSet x c =
+    record {
+      set = x;
+      window = c .window;
+      z = c .z;
+      f = c .f;
+      s = c .s;
+      runs = c .runs;
+      phase = c .phase;
+      gates = c .gates;
+      alarm = c .alarm;
+      link = c .link;
+      inputs = c .inputs;
+      condition = c .condition;
+      counters = c .counters;
+    }
+
+abbrev pub withWindow : Window → Controller → Controller
+withWindow x c =
+    record {
+      set = c .set;
+      window = x;
+      z = c .z;
+      f = c .f;
+      s = c .s;
+      runs = c .runs;
+      phase = c .phase;
+      gates = c .gates;
+      alarm = c .alarm;
+      link = c .link;
+      inputs = c .inputs;
+      condition = c .condition;
+      counters = c .counters;
+    }
+
+abbrev pub withZ : Units → Controller → Controller
+withZ x c =
+    record {
+      set = c .set;
+      window = c .window;
+      z = x;
+      f = c .f;
+      s = c .s;
+      runs = c .runs;
+      phase = c .phase;
+      gates = c .gates;
+      alarm = c .alarm;
+      link = c .link;
+      inputs = c .inputs;
+      condition = c .condition;
+      counters = c .counters;
+    }
+
+abbrev pub withF : Units → Controller → Controller
+withF x c =
+    record {
+      set = c .set;
+      window = c .window;
+      z = c .z;
+      f = x;
+      s = c .s;
+      runs = c .runs;
+      phase = c .phase;
+      gates = c .gates;
+      alarm = c .alarm;
+      link = c .link;
+      inputs = c .inputs;
+      condition = c .condition;
+      counters = c .counters;
+    }
+
+abbrev pub withS : ℕ → Controller → Controller
+withS x c =
+    record {
+      set = c .set;
+      window = c .window;
+      z = c .z;
+      f = c .f;
+      s = x;
+      runs = c .runs;
+      phase = c .phase;
+      gates = c .gates;
+      alarm = c .alarm;
+      link = c .link;
+      inputs = c .inputs;
+      condition = c .condition;
+      counters = c .counters;
+    }
+
+abbrev pub withRuns : Runs → Controller → Controller
+withRuns x c =
+    record {
+      set = c .set;
+      window = c .window;
+      z = c .z;
+      f = c .f;
+      s = c .s;
+      runs = x;
+      phase = c .phase;
+      gates = c .gates;
+      alarm = c .alarm;
+      link = c .link;
+      inputs = c .inputs;
+      condition = c .condition;
+      counters = c .counters;
+    }
+
+abbrev pub withPhase : Phase → Controller → Controller
+withPhase x c =
+    record {
+      set = c .set;
+      window = c .window;
+      z = c .z;
+      f = c .f;
+      s = c .s;
+      runs = c .runs;
+      phase = x;
+      gates = c .gates;
+      alarm = c .alarm;
+      link = c .link;
+      inputs = c .inputs;
+      condition = c .condition;
+      counters = c .counters;
+    }
+
+abbrev pub withGates : Gates → Controller → Controller
+withGates x c =
+    record {
+      set = c .set;
+      window = c .window;
+      z = c .z;
+      f = c .f;
+      s = c .s;
+      runs = c .runs;
+      phase = c .phase;
+      gates = x;
+      alarm = c .alarm;
+      link = c .link;
+      inputs = c .inputs;
+      condition = c .condition;
+      counters = c .counters;
+    }
+
+abbrev pub withAlarm : Bool → Controller → Controller
+withAlarm x c =
+    record {
+      set = c .set;
+      window = c .window;
+      z = c .z;
+      f = c .f;
+      s = c .s;
+      runs = c .runs;
+      phase = c .phase;
+      gates = c .gates;
+      alarm = x;
+      link = c .link;
+      inputs = c .inputs;
+      condition = c .condition;
+      counters = c .counters;
+    }
+
+abbrev pub withLink : Bool → Controller → Controller
+withLink x c =
+    record {
+      set = c .set;
+      window = c .window;
+      z = c .z;
+      f = c .f;
+      s = c .s;
+      runs = c .runs;
+      phase = c .phase;
+      gates = c .gates;
+      alarm = c .alarm;
+      link = x;
+      inputs = c .inputs;
+      condition = c .condition;
+      counters = c .counters;
+    }
+
+abbrev pub withInputs : ℕ → Controller → Controller
+withInputs x c =
+    record {
+      set = c .set;
+      window = c .window;
+      z = c .z;
+      f = c .f;
+      s = c .s;
+      runs = c .runs;
+      phase = c .phase;
+      gates = c .gates;
+      alarm = c .alarm;
+      link = c .link;
+      inputs = x;
+      condition = c .condition;
+      counters = c .counters;
+    }
+
+abbrev pub withCondition : Condition → Controller → Controller
+withCondition x c =
+    record {
+      set = c .set;
+      window = c .window;
+      z = c .z;
+      f = c .f;
+      s = c .s;
+      runs = c .runs;
+      phase = c .phase;
+      gates = c .gates;
+      alarm = c .alarm;
+      link = c .link;
+      inputs = c .inputs;
+      condition = x;
+      counters = c .counters;
+    }
+
+abbrev pub withCounters : Counters → Controller → Controller
+withCounters x c =
+    record {
+      set = c .set;
+      window = c .window;
+      z = c .z;
+      f = c .f;
+      s = c .s;
+      runs = c .runs;
+      phase = c .phase;
+      gates = c .gates;
+      alarm = c .alarm;
+      link = c .link;
+      inputs = c .inputs;
+      condition = c .condition;
+      counters = x;
+    }
