@@ -2,7 +2,7 @@
 use mathlib.Core.Path.{_≡_, refl, sym, ap, _∙_}
 use mathlib.Core.Bool.{Bool, true, false, cond}
 use mathlib.Core.List.{List, [], _∷_, _++_}
-use Prim.Native.Nat.{ℕ, zero, suc, _+_, _*_, _-_, _≤_, _<_, _^_}
+use Prim.Native.Nat.{ℕ, zero, suc, _+_, _*_, _-_, _≤_, _<_}
 use native.Mathlib.Omega.{arith}
 use native.Mathlib.Nat.{div-lt-iff-lt-mul, suc-mul}
 use native.Mathlib.Numerals.{add-one}
@@ -10,9 +10,8 @@ use native.Mathlib.Decide.{decLt}
 use borrow.Author.Tests.{lt-ltb, le-ltb}
 use lib.Dec.{ltb}
 use lib.IntN.{ℤ, pos, negsuc, _+ℤ_, negℤ, natAbs}
-use lib.ListN.{length, take, replicate, length-take, length-replicate}
+use lib.ListN.{length, take, replicate, length-take}
 use lib.Seq.{take-take, take-all}
-use lib.Signed.{mag}
 use mir.Syntax.{w32}
 use mir.Val.{SFits}
 use Rattle.laws.specs.Pick.{pick, pick-t, pick-f}
@@ -62,6 +61,10 @@ pub pushes : (samplesOf (pushOf record { samples = replicate 127 (pos 5) ++ (pos
 unfolding samplesOf pushOf emptyWindow pick
 pushes = (refl, refl)
 
+pub within-nil : (b : ℕ) → Within b []
+unfolding Within
+within-nil b = tt
+
 pub within-cons : (b : ℕ) (x : ℤ) (xs : List ℤ) → natAbs x ≤ b → Within b xs → Within b (x ∷ xs)
 unfolding Within
 within-cons b x xs h w = (h, w)
@@ -110,7 +113,7 @@ module _ (low high : ℕ) where
       rw (suc-mul (length xs) low, suc-mul (length xs) high)
       (between-add low high (length xs * low) (length xs * high) x (sum xs) (e .0) (sum-between xs (e .1)))
 
-  -- the mean of numbers from -low to high is one of them
+  -- the mean of numbers from -low to high is from -low to high too
   pub mean-between : (xs : List ℤ) → Each low high xs → Between low high (meanOf xs)
   unfolding meanOf
   mean-between [] e = minus low high 0 (omega arith)

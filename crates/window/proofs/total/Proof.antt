@@ -5,9 +5,9 @@ use Prim.Native.Nat.{ℕ, _+_, _-_, _≤_}
 use native.Mathlib.Omega.{arith}
 use native.Mathlib.Numerals.{add-one}
 use lib.IntN.{ℤ, pos, _+ℤ_}
-use lib.ListN.{length, take, getD, length-take}
+use lib.ListN.{take, getD, length-take}
 use mir.Syntax.{w32, w64}
-use mir.Val.{toZ, ofZ, SFits}
+use mir.Val.{toZ, SFits}
 use mir.Facts.{toZ-ofZ, sfits-widen}
 use Rattle.laws.specs.Whole.{fits64}
 use Rattle.window.specs.Range.{Total}

@@ -1,6 +1,5 @@
 -- The samples to average are the first `count` of the array, and their mean is an i32.
 use mathlib.Core.Path.{_≡_, refl, sym, ap, _∙_}
-use mathlib.Core.List.{List}
 use Prim.Native.Nat.{ℕ, _*_, _≤_, _<_, min}
 use borrow.Author.Needs.{needs}
 use native.Mathlib.Omega.{arith}

@@ -1,17 +1,15 @@
 -- What lies past place i is moved one place on already; the new sample takes the first place.
 use mathlib.Core.Path.{_≡_, refl}
 use mathlib.Core.List.{List}
-use Prim.Native.Nat.{ℕ, _+_, _-_, _^_, _≤_, _<_}
+use Prim.Native.Nat.{ℕ, _-_, _^_, _≤_, _<_}
 use borrow.Author.Needs.{needs}
 use native.Mathlib.Omega.{arith}
 use lib.IntN.{ℤ, pos}
 use lib.ListN.{length, getD, set}
-use lib.Dec.{ltb}
 use lib.Signed.{mag}
 use mir.Syntax.{w32}
 use mir.Val.{toZ, ofZ}
 use mir.Facts.{toZ-ofZ}
-use Rattle.laws.specs.Pick.{pick}
 use Rattle.window.specs.declared.Window.{Window}
 use Rattle.window.specs.Window.{pushOf}
 use Rattle.window.proofs.Shift.{moved, moved-none, moved-step, moved-all}
@@ -33,9 +31,9 @@ back z h = toZ-ofZ (record { sfits = h })
 again : (l a : List ℤ) (i : ℕ) → length l ≡ 128 → a ≡ moved l 127 i → 0 < i → i ≤ 127 → set a i (getD a (i - 1) (pos 0)) ≡ moved l 127 (i - 1)
 again l a i e m h k = rw m (moved-step l 127 i h k (omega arith))
 
-pushed : (w : Window) (x : ℤ) (a : List ℤ) (i h : ℕ) → length (w .samples) ≡ 128 → a ≡ moved (w .samples) 127 i → i ≡ 0 → h ≡ pick (ltb (w .held) 128) (w .held + 1) 128 → record { samples = set a 0 x; held = h } ≡ pushOf w x
+pushed : (w : Window) (x v : ℤ) (a : List ℤ) (i h : ℕ) → length (w .samples) ≡ 128 → a ≡ moved (w .samples) 127 i → i ≡ 0 → v ≡ x → h ≡ pushOf w x .held → record { samples = set a 0 v; held = h } ≡ pushOf w x
 unfolding pushOf
-pushed w x a i h e m z g = rw (m, z, g, moved-all (w .samples) 127 x e) refl
+pushed w x v a i h e m z s g = rw (m, z, s, g, moved-all (w .samples) 127 x e) refl
 
 loop-holds : tie.Need-loop-holds Inv-loop μ-loop
 loop-holds c = (omega arith, moved-none (c .before .args .self .samples) 127 (long (c .before)))
@@ -75,11 +73,11 @@ grown-requires : tie.Need-grown-requires Inv-loop μ-loop
 grown-requires c κs = search needs
 
 returns : tie.Need-returns Inv-loop μ-loop
+unfolding pushOf
 returns c =
     let v = c .before .before .loop in
     let d = c .before .before .before .before in
-    rw (toZ-ofZ (d .fits .x))
-    (pushed (d .args .self) (d .args .x) (v .samples) (v .i) (c .grown .result) (long d) (v .inv .1) (omega arith) (c .grown .ensures))
+    pushed (d .args .self) (d .args .x) _ (v .samples) (v .i) (c .grown .result) (long d) (v .inv .1) (omega arith) (toZ-ofZ (d .fits .x)) (c .grown .ensures)
 
 pub push-spec : {M : Type 1} → statement M
 push-spec =
