@@ -25,12 +25,15 @@ abbrev μ-loop : tie.MeasureT-loop
 long : (c : tie.Start Inv-loop μ-loop) → length (c .args .self .samples) ≡ 128
 long c = search needs
 
+-- an i32 is read back from its bits
 back : (z : ℤ) → mag z < 2 ^ 31 → toZ w32 (ofZ w32 z) ≡ z
 back z h = toZ-ofZ (record { sfits = h })
 
+-- one turn
 again : (l a : List ℤ) (i : ℕ) → length l ≡ 128 → a ≡ moved l 127 i → 0 < i → i ≤ 127 → set a i (getD a (i - 1) (pos 0)) ≡ moved l 127 (i - 1)
 again l a i e m h k = rw m (moved-step l 127 i h k (omega arith))
 
+-- after the last turn
 pushed : (w : Window) (x v : ℤ) (a : List ℤ) (i h : ℕ) → length (w .samples) ≡ 128 → a ≡ moved (w .samples) 127 i → i ≡ 0 → v ≡ x → h ≡ pushOf w x .held → record { samples = set a 0 v; held = h } ≡ pushOf w x
 unfolding pushOf
 pushed w x v a i h e m z s g = rw (m, z, s, g, moved-all (w .samples) 127 x e) refl
