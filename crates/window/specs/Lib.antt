@@ -1,2 +1,4 @@
 pub mod Mean
 pub mod Window
+pub mod Range
+pub mod Laws

@@ -1,11 +1,106 @@
 // The samples held, newest first, and their mean.
 ghost use mathlib.Core.Path.{_≡_};
+ghost use Prim.Native.Nat.{_+_, _*_, _<_, _≤_, min};
+ghost use lib.Dec.{ltb};
+ghost use lib.IntN.{natAbs};
 ghost use lib.ListN.{take};
-ghost use Rattle.window.specs.Mean.{meanOf};
+ghost use Rattle.laws.specs.Pick.{pick};
+ghost use Rattle.window.specs.Mean.{meanOf, roundAway};
+ghost use Rattle.window.specs.Range.{Total};
 ghost use Rattle.window.specs.Window.{emptyWindow, pushOf, samplesOf};
 
 // The newest sample stands first; `held` of the places are in use.
 pub struct Window {
     pub samples: [i32; 128],
     pub held: usize,
+}
+
+impl Window {
+    // A window that holds no sample.
+    pub fn new() -> Window
+        ensures { λ r. ⌜ r ≡ emptyWindow ⌝ }
+    {
+        Window {
+            samples: [0; 128],
+            held: 0,
+        }
+    }
+
+    // The sample stands first, the others move one place on, the last of 128 falls out.
+    pub fn push(self, x: i32) -> Window
+        ensures { λ r. ⌜ r ≡ pushOf self x ⌝ }
+    {
+        let mut samples = self.samples;
+        let mut i: usize = 127;
+        while 0 < i {
+            samples[i] = samples[i - 1];
+            i -= 1;
+        }
+        samples[0] = x;
+        Window {
+            samples: samples,
+            held: grown(self.held),
+        }
+    }
+
+    // The mean of the last n samples, or of those held where they are fewer; of none it is 0.
+    pub fn mean(self, n: usize) -> i32
+        ensures { λ r. ⌜ r ≡ meanOf (take n (samplesOf self)) ⌝ }
+    {
+        let held = self.held;
+        let count = fewest(n, held);
+        if count == 0 {
+            0
+        } else {
+            rounded(total(self, count), count) as i32
+        }
+    }
+}
+
+// One more than held, at most 128.
+fn grown(held: usize) -> usize
+    ensures { λ r. ⌜ r ≡ pick (ltb held 128) (held + 1) 128 ⌝ }
+{
+    if held < 128 { held + 1 } else { 128 }
+}
+
+// The least of n, held and 128.
+fn fewest(n: usize, held: usize) -> usize
+    ensures { λ r. ⌜ r ≡ min n (min held 128) ⌝ }
+{
+    if n < held {
+        if n < 128 { n } else { 128 }
+    } else {
+        if held < 128 { held } else { 128 }
+    }
+}
+
+// The sum of the first n samples.
+fn total(w: Window, n: usize) -> i64
+    requires { ⌜ n ≤ 128 ⌝ }
+    ensures { λ r. ⌜ Total (take n (w .samples)) r ⌝ }
+{
+    let mut s: i64 = 0;
+    let mut i: usize = 0;
+    while i < n {
+        let x = w.samples[i];
+        s += x as i64;
+        i += 1;
+    }
+    s
+}
+
+// s / n to the nearest, a half away from zero: the signed division and its correction.
+fn rounded(s: i64, n: usize) -> i64
+    requires { ⌜ (0 < n) × (n ≤ 128) × (natAbs s ≤ 128 * 2147483648) ⌝ }
+    ensures { λ r. ⌜ r ≡ roundAway s n ⌝ }
+{
+    let d = n as i64;
+    let q = s / d;
+    let r = s % d;
+    if s < 0 {
+        if d <= 2 * (0 - r) { q - 1 } else { q }
+    } else {
+        if d <= 2 * r { q + 1 } else { q }
+    }
 }

@@ -1,0 +1,93 @@
+-- The sum so far is that of the samples passed; each is an i32, so an i64 holds it.
+use mathlib.Core.Path.{_≡_}
+use mathlib.Core.List.{List}
+use Prim.Native.Nat.{ℕ, _+_, _-_, _≤_}
+use native.Mathlib.Omega.{arith}
+use native.Mathlib.Numerals.{add-one}
+use lib.IntN.{ℤ, pos, _+ℤ_}
+use lib.ListN.{take, getD, length-take}
+use mir.Syntax.{w32, w64}
+use mir.Val.{toZ, SFits}
+use mir.Facts.{toZ-ofZ, sfits-widen}
+use Rattle.laws.specs.Whole.{fits64}
+use Rattle.window.specs.Range.{Total}
+use Rattle.window.proofs.Sum.{total-none, total-more, total-size}
+use Rattle.window.proofs.total.Statement.{statement}
+use Rattle.window.proofs.total.Tie as tie
+
+abbrev Inv-loop : tie.InvT-loop
+Inv-loop n w s₀ i₀ s i = (i ≤ n) × Total (take i (w .samples)) (toZ w64 s)
+
+abbrev μ-loop : tie.MeasureT-loop
+μ-loop n w s₀ i₀ s i = n - i
+
+loop-holds : tie.Need-loop-holds Inv-loop μ-loop
+loop-holds c = (omega arith, total-none)
+
+mul-x : tie.Need-mul-x Inv-loop μ-loop
+mul-x c = omega arith
+
+element-copy-out-x : tie.Need-element-copy-out-x Inv-loop μ-loop
+element-copy-out-x c = omega arith
+
+-- the sample read, and the sum with it
+module _ (c : tie.After-x Inv-loop μ-loop) where
+  abbrev xs : List ℤ
+  xs = c .before .before .before .args .t1 .samples
+
+  abbrev i : ℕ
+  i = c .before .before .loop .i
+
+  abbrev x : ℤ
+  x = getD xs i (pos 0)
+
+  abbrev s : ℤ
+  s = toZ w64 (c .before .before .loop .s)
+
+  narrow : SFits w32 x
+  narrow = record { sfits = c .x .given }
+
+  wide : SFits w64 x
+  wide = sfits-widen tt narrow
+
+  more : Total (take (i + 1) xs) (s +ℤ x)
+  more = rw add-one (total-more xs i s (c .before .before .loop .inv .1) (c .x .given))
+
+  fits : SFits w64 (s +ℤ x)
+  fits = fits64 (s +ℤ x) (omega (arith, total-size (take (i + 1) xs) (s +ℤ x) more, length-take (i + 1) xs))
+
+cast-s : tie.Need-cast-s Inv-loop μ-loop
+cast-s c = rw (toZ-ofZ (narrow c)) (wide c)
+
+add-s : tie.Need-add-s Inv-loop μ-loop
+add-s c = rw (toZ-ofZ (narrow c), toZ-ofZ (wide c)) (fits c)
+
+add-i : tie.Need-add-i Inv-loop μ-loop
+add-i c = omega arith
+
+loop-less : tie.Need-loop-less Inv-loop μ-loop
+loop-less c = omega arith
+
+loop-again : tie.Need-loop-again Inv-loop μ-loop
+loop-again c = rw (toZ-ofZ (narrow c), toZ-ofZ (wide c), toZ-ofZ (fits c)) (omega arith, more c)
+
+returns : tie.Need-returns Inv-loop μ-loop
+returns c =
+    let e : c .before .loop .i ≡ c .before .before .args .n = omega arith in
+    rw (← e) (c .before .loop .inv .1)
+
+pub total-spec : {M : Type 1} → statement M
+total-spec =
+    tie.close
+    (tie.spec
+    Inv-loop
+    μ-loop
+    loop-holds
+    mul-x
+    element-copy-out-x
+    cast-s
+    add-s
+    add-i
+    loop-less
+    loop-again
+    returns)
