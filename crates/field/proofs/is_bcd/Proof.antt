@@ -1,0 +1,15 @@
+use borrow.Author.Tests.{le-leb, lt-leb}
+use Rattle.field.specs.Field.{isBcd}
+use Rattle.field.proofs.is_bcd.Statement.{statement}
+use Rattle.field.proofs.is_bcd.Tie as tie
+
+returns : tie.Need-returns
+unfolding isBcd
+returns c = rw (le-leb _ 9 (c .if1 .taken))
+
+returns-2 : tie.Need-returns-2
+unfolding isBcd
+returns-2 c = rw (lt-leb _ 9 (c .if1 .left))
+
+pub is-bcd-spec : {M : Type 1} → statement M
+is-bcd-spec = tie.close (tie.spec returns returns-2)
