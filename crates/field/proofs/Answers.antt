@@ -1,15 +1,17 @@
--- The rules of the writer and the reader, by the tests that the code makes.
+-- The rules of the writer, the reader and the echo, by the tests that the code makes.
 use mathlib.Core.Path.{_≡_, refl, sym}
 use mathlib.Core.Bool.{Bool, true, false, _&&_}
 use mathlib.Core.List.{[]}
-use Prim.Native.Nat.{_<_}
+use Prim.Native.Nat.{ℕ, _<_}
+use native.Mathlib.Omega.{arith}
 use lib.Dec.{leb}
 use lib.IntN.{natAbs}
 use borrow.Author.Tests.{lt-leb}
-use Rattle.laws.specs.Pick.{pick-t, pick-f}
+use Rattle.laws.specs.Pick.{pick, pick-t, pick-f}
 use Rattle.paper.specs.Answer.{done, refused}
 use Rattle.paper.specs.Numbers.{R16}
-use Rattle.field.specs.Field.{isBcd, fieldOf, writable, writeOf, weightOf, readable, readOf}
+use Rattle.field.specs.Field.{isBcd, fieldOf, writable, writeOf, weightOf, readable, readOf, echoOf}
+use Rattle.field.specs.RoundTrip.{read-written}
 use Rattle.field.specs.declared.Field.{Field}
 use Rattle.field.specs.declared.Weight.{Weight}
 
@@ -50,3 +52,23 @@ module _ (f : Field) where
   pub digits-read : isBcd (f .low) ≡ true → isBcd (f .middle) ≡ true → isBcd (f .high) ≡ true → done (weightOf f) ≡ readOf f
   unfolding readOf readable
   digits-read l m h = sym (pick-t (readable f) (done (weightOf f)) (refused R16 []) (rw (l, m, h)))
+
+read-way : (v : Weight) (f : Field) (b : Bool) → writable v ≡ b → pick b (done (fieldOf v)) (refused R16 []) ≡ done f → readOf f ≡ pick b (done v) (refused R16 [])
+unfolding pick
+read-way v f true t e = let same : fieldOf v ≡ f = cc in rw (← same) (read-written v t)
+read-way v f false t e = absurd (let z : _≡_ {A = ℕ} 0 1 = cc in omega arith)
+
+-- a field that the writer gave reads back as the values
+pub echo-read : (v : Weight) (f : Field) → writeOf v ≡ done f → readOf f ≡ echoOf v
+unfolding writeOf echoOf
+echo-read v f e = read-way v f (writable v) refl e
+
+refused-way : (v : Weight) (b : Bool) → pick b (done (fieldOf v)) (refused R16 []) ≡ refused R16 [] → pick b (done v) (refused R16 []) ≡ refused R16 []
+unfolding pick
+refused-way v true e = absurd (let z : _≡_ {A = ℕ} 0 1 = cc in omega arith)
+refused-way v false e = refl
+
+-- what the writer refuses is not read back
+pub echo-refused : (v : Weight) → writeOf v ≡ refused R16 [] → echoOf v ≡ refused R16 []
+unfolding writeOf echoOf
+echo-refused v e = refused-way v (writable v) e

@@ -1,12 +1,11 @@
 -- A number's sign and its size, as the code finds them.
 use mathlib.Core.Path.{_≡_, refl, ap, _∙_}
-use mathlib.Core.Bool.{Bool, true, false}
-use Prim.Native.Nat.{ℕ, zero, suc, _≤_, _<_}
+use mathlib.Core.Bool.{true}
 use native.Mathlib.Omega.{arith}
 use lib.IntN.{ℤ, pos, negsuc, _-ℤ_, negℤ, natAbs, +ℤ-idl, negℤ-negℤ}
 use lib.Signed.{ltZ}
 use borrow.Author.Tests.{le-ltb}
-use Rattle.laws.specs.Whole.{below-zero, from-zero}
+use Rattle.laws.specs.Whole.{below-zero}
 use Rattle.field.specs.Field.{negative}
 
 pub negative-test : (w : ℤ) → ltZ w (pos 0) ≡ negative w

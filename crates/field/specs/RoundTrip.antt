@@ -1,19 +1,19 @@
 -- What was written reads back as the values; a field's bytes are small; a small weight is never refused. Assumes nothing.
-use mathlib.Core.Path.{_≡_, refl, sym, ap, _∙_}
+use mathlib.Core.Path.{_≡_, refl}
 use mathlib.Core.Bool.{Bool, true, false, _&&_}
 use mathlib.Core.List.{[]}
-use Prim.Native.Nat.{ℕ, zero, suc, _+_, _*_, _/_, _%_, _≤_, _<_}
+use Prim.Native.Nat.{ℕ, _+_, _*_, _/_, _%_, _≤_, _<_}
 use native.Mathlib.Omega.{arith}
 use lib.Dec.{leb, eqb}
-use lib.IntN.{ℤ, pos, negsuc, negℤ, natAbs}
-use borrow.Author.Tests.{le-leb, lt-leb, leb-true}
+use lib.IntN.{ℤ, pos, negsuc, natAbs}
+use borrow.Author.Tests.{le-leb, leb-true}
 use Rattle.laws.specs.Pick.{pick, pick-t}
 use Rattle.laws.specs.Whole.{false-true}
 use Rattle.paper.specs.Answer.{done, refused}
 use Rattle.paper.specs.Numbers.{R16}
 use Rattle.field.specs.declared.Field.{Field}
 use Rattle.field.specs.declared.Weight.{Weight}
-use Rattle.field.specs.Field.{bcdOf, isBcd, valueOf, bitOf, hasBit, negative, conOf, fieldOf, writable, writeOf, signed, weightOf, readable, readOf, echoOf}
+use Rattle.field.specs.Field.{bcdOf, isBcd, valueOf, bitOf, hasBit, negative, conOf, fieldOf, writable, writeOf, signed, weightOf, readable, readOf, weight}
 
 -- the two bounds of a weight that can be written
 and-true : (a b : Bool) → a && b ≡ true → (a ≡ true) × (b ≡ true)
@@ -44,7 +44,7 @@ bcd-most n h = omega arith
 
 bcd-digits : (n : ℕ) → n < 100 → isBcd (bcdOf n) ≡ true
 unfolding bcdOf isBcd
-bcd-digits n h = rw (le-leb ((n / 10 * 16 + n % 10) % 16) 9 (omega arith), le-leb ((n / 10 * 16 + n % 10) / 16) 9 (omega arith))
+bcd-digits n h = rw (le-leb (bcdOf n % 16) 9 (omega arith), le-leb (bcdOf n / 16) 9 (omega arith))
 
 bcd-back : (n : ℕ) → n < 100 → valueOf (bcdOf n) ≡ n
 unfolding bcdOf valueOf
@@ -69,33 +69,46 @@ unfolding bitOf pick
 bit-back true n e = rw e
 bit-back false n e = rw e
 
-sign-back : (w : ℤ) → signed (negative w) (natAbs w) ≡ w
+sign-back : (w : ℤ) (b : Bool) (m : ℕ) → b ≡ negative w → m ≡ natAbs w → signed b m ≡ w
 unfolding signed negative
-sign-back (pos n) = refl
-sign-back (negsuc n) = refl
+sign-back (pos n) b m e k = rw (e, k)
+sign-back (negsuc n) b m e k = rw (e, k)
 
 module _ (v : Weight) where
-  con-sum : conOf v ≡ bitOf (negative (v .value)) 1 * 128 + bitOf (v .stable) 1 * 16 + bitOf (v .over) 1 * 8 + v .point
+  abbrev minus : ℕ
+  minus = bitOf (negative (v .value)) 1
+
+  abbrev stable : ℕ
+  stable = bitOf (v .stable) 1
+
+  abbrev over : ℕ
+  over = bitOf (v .over) 1
+
+  con-sum : conOf v ≡ minus * 128 + stable * 16 + over * 8 + v .point
   unfolding conOf
   con-sum = rw (bit-worth (negative (v .value)) 128, bit-worth (v .stable) 16, bit-worth (v .over) 8)
 
-  pub con-most : v .point ≤ 7 → conOf v ≤ 0x9F
-  con-most h = omega (arith, con-sum, bit-most (negative (v .value)), bit-most (v .stable), bit-most (v .over))
+  bits-most : (minus ≤ 1) × (stable ≤ 1) × (over ≤ 1)
+  bits-most = (bit-most (negative (v .value)), bit-most (v .stable), bit-most (v .over))
 
-  negative-back : v .point ≤ 7 → hasBit (conOf v) 128 ≡ negative (v .value)
-  unfolding hasBit
-  negative-back h = bit-back (negative (v .value)) (conOf v / 128 % 2) (omega (arith, con-sum, bit-most (negative (v .value)), bit-most (v .stable), bit-most (v .over)))
+  module _ (p : v .point ≤ 7) where
+    pub con-most : conOf v ≤ 0x9F
+    con-most = omega (arith, con-sum, bits-most)
 
-  stable-back : v .point ≤ 7 → hasBit (conOf v) 16 ≡ v .stable
-  unfolding hasBit
-  stable-back h = bit-back (v .stable) (conOf v / 16 % 2) (omega (arith, con-sum, bit-most (negative (v .value)), bit-most (v .stable), bit-most (v .over)))
+    minus-back : hasBit (conOf v) 128 ≡ negative (v .value)
+    unfolding hasBit
+    minus-back = bit-back (negative (v .value)) (conOf v / 128 % 2) (omega (arith, con-sum, bits-most))
 
-  over-back : v .point ≤ 7 → hasBit (conOf v) 8 ≡ v .over
-  unfolding hasBit
-  over-back h = bit-back (v .over) (conOf v / 8 % 2) (omega (arith, con-sum, bit-most (negative (v .value)), bit-most (v .stable), bit-most (v .over)))
+    stable-back : hasBit (conOf v) 16 ≡ v .stable
+    unfolding hasBit
+    stable-back = bit-back (v .stable) (conOf v / 16 % 2) (omega (arith, con-sum, bits-most))
 
-  point-back : v .point ≤ 7 → conOf v % 8 ≡ v .point
-  point-back h = omega (arith, con-sum, bit-most (negative (v .value)), bit-most (v .stable), bit-most (v .over))
+    over-back : hasBit (conOf v) 8 ≡ v .over
+    unfolding hasBit
+    over-back = bit-back (v .over) (conOf v / 8 % 2) (omega (arith, con-sum, bits-most))
+
+    point-back : conOf v % 8 ≡ v .point
+    point-back = omega (arith, con-sum, bits-most)
 
 -- no byte of a written field is FF
 pub record Bounded (f : Field) : Type 0 where
@@ -115,11 +128,16 @@ field-bytes v h =
       con = con-most v (point-most v h);
     }
 
+same-weight : (a b : Weight) → a .value ≡ b .value → a .stable ≡ b .stable → a .over ≡ b .over → a .point ≡ b .point → a ≡ b
+same-weight a b w s o p = let e : weight (a .value) (a .stable) (a .over) (a .point) ≡ weight (b .value) (b .stable) (b .over) (b .point) = cc in e
+
 values-back : (v : Weight) → writable v ≡ true → weightOf (fieldOf v) ≡ v
 unfolding weightOf fieldOf
-values-back v h =
-    let p : v .point ≤ 7 = point-most v h in
-    rw (digits-back (natAbs (v .value)) (six-digits v h), negative-back v p, stable-back v p, over-back v p, point-back v p, sign-back (v .value))
+values-back v w =
+    let p : v .point ≤ 7 = point-most v w in
+    same-weight (weightOf (fieldOf v)) v
+    (sign-back (v .value) _ _ (minus-back v p) (digits-back (natAbs (v .value)) (six-digits v w)))
+    (stable-back v p) (over-back v p) (point-back v p)
 
 written-readable : (v : Weight) → writable v ≡ true → readable (fieldOf v) ≡ true
 unfolding readable fieldOf
@@ -131,23 +149,3 @@ written-readable v h =
 pub read-written : (v : Weight) → writable v ≡ true → readOf (fieldOf v) ≡ done v
 unfolding readOf
 read-written v h = rw (pick-t (readable (fieldOf v)) (done (weightOf (fieldOf v))) (refused R16 []) (written-readable v h), values-back v h)
-
-read-way : (v : Weight) (f : Field) (b : Bool) → writable v ≡ b → pick b (done (fieldOf v)) (refused R16 []) ≡ done f → readOf f ≡ pick b (done v) (refused R16 [])
-unfolding pick
-read-way v f true t e = let same : fieldOf v ≡ f = cc in rw (← same) (read-written v t)
-read-way v f false t e = absurd (let z : _≡_ {A = ℕ} 0 1 = cc in omega arith)
-
--- a field that the writer gave reads back as the values
-pub echo-read : (v : Weight) (f : Field) → writeOf v ≡ done f → readOf f ≡ echoOf v
-unfolding writeOf echoOf
-echo-read v f e = read-way v f (writable v) refl e
-
-refused-way : (v : Weight) (b : Bool) → pick b (done (fieldOf v)) (refused R16 []) ≡ refused R16 [] → pick b (done v) (refused R16 []) ≡ refused R16 []
-unfolding pick
-refused-way v true e = absurd (let z : _≡_ {A = ℕ} 0 1 = cc in omega arith)
-refused-way v false e = refl
-
--- what the writer refuses is not read back
-pub echo-refused : (v : Weight) → writeOf v ≡ refused R16 [] → echoOf v ≡ refused R16 []
-unfolding writeOf echoOf
-echo-refused v e = refused-way v (writable v) e

@@ -33,7 +33,7 @@ pub enum Got {
 }
 
 // How far a number is from 0, at every i32.
-fn size(value: i32) -> u32
+fn size_of(value: i32) -> u32
     ensures { λ r. ⌜ r ≡ natAbs value ⌝ }
 {
     let wide = value as i64;
@@ -53,14 +53,18 @@ fn is_negative(value: i32) -> bool
 
 // A size with its sign: minus 0 is 0.
 fn with_sign(minus: bool, size: u32) -> i32
-    requires { ⌜ size < 2 ^ 31 ⌝ }
+    requires { ⌜ size < 2 ^ 24 ⌝ }
     ensures { λ r. ⌜ r ≡ signed minus size ⌝ }
 {
-    if minus { 0 - (size as i32) } else { size as i32 }
+    if minus {
+        0 - (size as i32)
+    } else {
+        size as i32
+    }
 }
 
 // A bit's worth where its flag is on.
-fn bit(on: bool, worth: u8) -> u8
+fn bit_of(on: bool, worth: u8) -> u8
     ensures { λ r. ⌜ r ≡ bitOf on worth ⌝ }
 {
     if on { worth } else { 0 }
@@ -75,7 +79,7 @@ fn has_bit(con: u8, worth: u8) -> bool
 }
 
 // Two digits as a byte.
-fn bcd(digits: u32) -> u8
+fn bcd_of(digits: u32) -> u8
     requires { ⌜ digits < 100 ⌝ }
     ensures { λ r. ⌜ r ≡ bcdOf digits ⌝ }
 {
@@ -86,45 +90,45 @@ fn bcd(digits: u32) -> u8
 fn is_bcd(byte: u8) -> bool
     ensures { λ r. ⌜ r ≡ isBcd byte ⌝ }
 {
-    if byte % 16 <= 9 { byte / 16 <= 9 } else { false }
+    byte % 16 <= 9 && byte / 16 <= 9
 }
 
 // The number of a byte's two halves.
-fn digits(byte: u8) -> u32
+fn value_of(byte: u8) -> u32
     ensures { λ r. ⌜ r ≡ valueOf byte ⌝ }
 {
     ((byte / 16) as u32) * 10 + ((byte % 16) as u32)
 }
 
 // CON of a weight.
-fn con(v: Weight) -> u8
+fn con_of(v: Weight) -> u8
     requires { ⌜ v .point ≤ 7 ⌝ }
     ensures { λ r. ⌜ r ≡ conOf v ⌝ }
 {
-    let sign = bit(is_negative(v.value), 128);
-    let stable = bit(v.stable, 16);
-    let over = bit(v.over, 8);
+    let sign = bit_of(is_negative(v.value), 128);
+    let stable = bit_of(v.stable, 16);
+    let over = bit_of(v.over, 8);
     sign + stable + over + v.point
 }
 
 // The field of a weight that can be written, from its size.
-fn packed(v: Weight, size: u32) -> Field
+fn field_of(v: Weight, size: u32) -> Field
     requires { ⌜ (size ≡ natAbs (v .value)) × (writable v ≡ true) ⌝ }
     ensures { λ r. ⌜ r ≡ fieldOf v ⌝ }
 {
     Field {
-        low: bcd(size % 100),
-        middle: bcd(size / 100 % 100),
-        high: bcd(size / 10000),
-        con: con(v),
+        low: bcd_of(size % 100),
+        middle: bcd_of(size / 100 % 100),
+        high: bcd_of(size / 10000),
+        con: con_of(v),
     }
 }
 
 // What a field of digits stands for; bits 6 and 5 of CON are not looked at.
-fn unpacked(f: Field) -> Weight
+fn weight_of(f: Field) -> Weight
     ensures { λ r. ⌜ r ≡ weightOf f ⌝ }
 {
-    let size = digits(f.low) + 100 * digits(f.middle) + 10000 * digits(f.high);
+    let size = value_of(f.low) + 100 * value_of(f.middle) + 10000 * value_of(f.high);
     Weight {
         value: with_sign(has_bit(f.con, 128), size),
         stable: has_bit(f.con, 16),
@@ -137,14 +141,14 @@ fn unpacked(f: Field) -> Weight
 pub fn write(weight: Weight) -> Written
     ensures { λ r. ⌜ saysWritten r ≡ writeOf weight ⌝ }
 {
-    let n = size(weight.value);
-    if n > 999999 {
+    let size = size_of(weight.value);
+    if size > 999999 {
         return Written::R16;
     }
     if weight.point > 7 {
         return Written::R16;
     }
-    Written::Bytes(packed(weight, n))
+    Written::Bytes(field_of(weight, size))
 }
 
 // What a field stands for, or R16.
@@ -160,15 +164,15 @@ pub fn read(field: Field) -> Got
     if !is_bcd(field.high) {
         return Got::R16;
     }
-    Got::Values(unpacked(field))
+    Got::Values(weight_of(field))
 }
 
 // What was written, read back.
 pub fn echo(weight: Weight) -> Got
     ensures { λ r. ⌜ saysGot r ≡ echoOf weight ⌝ }
 {
-    let Written::Bytes(field) = write(weight) else {
-        return Got::R16;
-    };
-    read(field)
+    match write(weight) {
+        Written::Bytes(field) => read(field),
+        Written::R16 => Got::R16,
+    }
 }

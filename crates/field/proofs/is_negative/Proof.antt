@@ -1,6 +1,3 @@
-use mathlib.Core.Path.{ap, _∙_}
-use lib.IntN.{ℤ, pos}
-use lib.Signed.{ltZ}
 use mir.Facts.{toZ-ofZ}
 use Rattle.field.proofs.Sign.{negative-test}
 use Rattle.field.proofs.is_negative.Statement.{statement}

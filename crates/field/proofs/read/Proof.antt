@@ -1,5 +1,5 @@
 use mathlib.Core.Path.{_≡_, ap, _∙_}
-use mathlib.Core.Bool.{Bool, true, false, not}
+use mathlib.Core.Bool.{true}
 use borrow.Author.Tests.{not-true, not-false}
 use borrow.Author.Needs.{needs}
 use Rattle.laws.specs.Pick.{so}
@@ -37,12 +37,12 @@ returns-3 : tie.Need-returns-3
 returns-3 c =
     bad-high _ (low (c .before .before .before .before)) (middle (c .before .before)) (so (c .before .is-bcd3 .ensures) (not-true _ (c .if3 .taken)))
 
-unpacked-requires : tie.Need-unpacked-requires
-unpacked-requires c κs = search needs
+weight-of-requires : tie.Need-weight-of-requires
+weight-of-requires c κs = search needs
 
 returns-4 : tie.Need-returns-4
 returns-4 c =
-    ap done (c .unpacked .ensures) ∙ digits-read _ (low (c .before .before .before .before .before)) (middle (c .before .before .before)) (high (c .before))
+    ap done (c .weight-of .ensures) ∙ digits-read _ (low (c .before .before .before .before .before)) (middle (c .before .before .before)) (high (c .before))
 
 pub read-spec : {M : Type 1} → statement M
 read-spec =
@@ -54,5 +54,5 @@ read-spec =
     returns-2
     is-bcd-requires-3
     returns-3
-    unpacked-requires
+    weight-of-requires
     returns-4)

@@ -1,7 +1,7 @@
 use borrow.Author.Needs.{needs}
 use Rattle.field.specs.Field.{bcdOf}
-use Rattle.field.proofs.bcd.Statement.{statement}
-use Rattle.field.proofs.bcd.Tie as tie
+use Rattle.field.proofs.bcd_of.Statement.{statement}
+use Rattle.field.proofs.bcd_of.Tie as tie
 
 mul-result : tie.Need-mul-result
 mul-result c = search needs
@@ -16,5 +16,5 @@ returns : tie.Need-returns
 unfolding bcdOf
 returns c = search needs
 
-pub bcd-spec : {M : Type 1} → statement M
-bcd-spec = tie.close (tie.spec mul-result add-result cast-result returns)
+pub bcd-of-spec : {M : Type 1} → statement M
+bcd-of-spec = tie.close (tie.spec mul-result add-result cast-result returns)

@@ -1,7 +1,7 @@
 use Rattle.laws.specs.Pick.{picks}
 use Rattle.field.specs.Field.{bitOf}
-use Rattle.field.proofs.bit.Statement.{statement}
-use Rattle.field.proofs.bit.Tie as tie
+use Rattle.field.proofs.bit_of.Statement.{statement}
+use Rattle.field.proofs.bit_of.Tie as tie
 
 returns : tie.Need-returns
 unfolding bitOf
@@ -11,5 +11,5 @@ returns-2 : tie.Need-returns-2
 unfolding bitOf
 returns-2 c = search picks
 
-pub bit-spec : {M : Type 1} → statement M
-bit-spec = tie.close (tie.spec returns returns-2)
+pub bit-of-spec : {M : Type 1} → statement M
+bit-of-spec = tie.close (tie.spec returns returns-2)

@@ -1,18 +1,17 @@
-use mathlib.Core.Path.{_≡_, _∙_}
-use native.Mathlib.Omega.{arith}
+use mathlib.Core.Path.{_≡_, refl, _∙_}
 use mir.Syntax.{w32}
 use mir.Val.{toZ, ofZ, SFits}
 use mir.Facts.{toZ-ofZ}
 use borrow.Author.Needs.{needs}
 use Rattle.field.specs.Field.{weightOf, valueOf}
-use Rattle.field.proofs.unpacked.Statement.{statement}
-use Rattle.field.proofs.unpacked.Tie as tie
+use Rattle.field.proofs.weight_of.Statement.{statement}
+use Rattle.field.proofs.weight_of.Tie as tie
 
-digits-requires : tie.Need-digits-requires
-digits-requires c κs = search needs
+value-of-requires : tie.Need-value-of-requires
+value-of-requires c κs = search needs
 
-digits-requires-2 : tie.Need-digits-requires-2
-digits-requires-2 c κs = search needs
+value-of-requires-2 : tie.Need-value-of-requires-2
+value-of-requires-2 c κs = search needs
 
 mul-size : tie.Need-mul-size
 unfolding valueOf
@@ -22,8 +21,8 @@ add-size : tie.Need-add-size
 unfolding valueOf
 add-size c = search needs
 
-digits-requires-3 : tie.Need-digits-requires-3
-digits-requires-3 c κs = search needs
+value-of-requires-3 : tie.Need-value-of-requires-3
+value-of-requires-3 c κs = search needs
 
 mul-size-2 : tie.Need-mul-size-2
 unfolding valueOf
@@ -53,17 +52,17 @@ returns c =
     let d = w .before .before in
     let fits : SFits w32 (w .with-sign .result) = search needs in
     let value : toZ w32 (ofZ w32 (w .with-sign .result)) ≡ _ = toZ-ofZ fits ∙ w .with-sign .ensures in
-    rw (value, w .before .has-bit .ensures, c .before .before .has-bit2 .ensures, c .before .has-bit3 .ensures, d .digits3 .ensures, d .before .digits2 .ensures, d .before .before .digits .ensures)
+    rw (value, w .before .has-bit .ensures, c .before .before .has-bit2 .ensures, c .before .has-bit3 .ensures, d .value-of3 .ensures, d .before .value-of2 .ensures, d .before .before .value-of .ensures) refl
 
-pub unpacked-spec : {M : Type 1} → statement M
-unpacked-spec =
+pub weight-of-spec : {M : Type 1} → statement M
+weight-of-spec =
     tie.close
     (tie.spec
-    digits-requires
-    digits-requires-2
+    value-of-requires
+    value-of-requires-2
     mul-size
     add-size
-    digits-requires-3
+    value-of-requires-3
     mul-size-2
     add-size-2
     has-bit-requires

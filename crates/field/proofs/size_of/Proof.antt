@@ -1,16 +1,15 @@
-use mathlib.Core.Path.{_≡_, refl, ap, _∙_}
-use mathlib.Core.Bool.{true, false}
-use Prim.Native.Nat.{ℕ, _^_, _≤_}
+use mathlib.Core.Path.{_≡_}
+use Prim.Native.Nat.{_^_, _≤_}
 use native.Mathlib.Omega.{arith}
-use lib.IntN.{ℤ, pos, _-ℤ_, natAbs}
-use lib.Signed.{ltZ, natAbs-le}
+use lib.IntN.{pos, _-ℤ_, natAbs}
+use lib.Signed.{natAbs-le}
 use mir.Syntax.{w32, w64}
 use mir.Val.{toZ, ofZ, SFits}
 use mir.Facts.{toZ-ofZ}
 use Rattle.laws.specs.Whole.{fits64, from-zero}
 use Rattle.field.proofs.Sign.{turned}
-use Rattle.field.proofs.size.Statement.{statement}
-use Rattle.field.proofs.size.Tie as tie
+use Rattle.field.proofs.size_of.Statement.{statement}
+use Rattle.field.proofs.size_of.Tie as tie
 
 module _ (c : tie.Start) where
   most : natAbs (c .args .value) ≤ 2 ^ 31
@@ -50,5 +49,5 @@ returns c = rw (turn c, toZ-ofZ (size-fits (c .before)))
 returns-2 : tie.Need-returns-2
 returns-2 c = rw (keep c)
 
-pub size-spec : {M : Type 1} → statement M
-size-spec = tie.close (tie.spec cast-wide sub-result cast-result cast-result-2 returns returns-2)
+pub size-of-spec : {M : Type 1} → statement M
+size-of-spec = tie.close (tie.spec cast-wide sub-result cast-result cast-result-2 returns returns-2)

@@ -1,7 +1,7 @@
 use borrow.Author.Needs.{needs}
 use Rattle.field.specs.Field.{valueOf}
-use Rattle.field.proofs.digits.Statement.{statement}
-use Rattle.field.proofs.digits.Tie as tie
+use Rattle.field.proofs.value_of.Statement.{statement}
+use Rattle.field.proofs.value_of.Tie as tie
 
 cast-result : tie.Need-cast-result
 cast-result c = search needs
@@ -19,5 +19,5 @@ returns : tie.Need-returns
 unfolding valueOf
 returns c = search needs
 
-pub digits-spec : {M : Type 1} → statement M
-digits-spec = tie.close (tie.spec cast-result mul-result cast-result-2 add-result returns)
+pub value-of-spec : {M : Type 1} → statement M
+value-of-spec = tie.close (tie.spec cast-result mul-result cast-result-2 add-result returns)
