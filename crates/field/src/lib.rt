@@ -70,7 +70,7 @@ fn bit_of(on: bool, worth: u8) -> u8
     if on { worth } else { 0 }
 }
 
-// Is the bit of this worth on?
+// Whether the bit of this worth is on.
 fn has_bit(con: u8, worth: u8) -> bool
     requires { ⌜ 0 < worth ⌝ }
     ensures { λ r. ⌜ r ≡ hasBit con worth ⌝ }
@@ -86,7 +86,7 @@ fn bcd_of(digits: u32) -> u8
     (digits / 10 * 16 + digits % 10) as u8
 }
 
-// Are both halves of a byte digits?
+// Whether both halves of a byte are digits.
 fn is_bcd(byte: u8) -> bool
     ensures { λ r. ⌜ r ≡ isBcd byte ⌝ }
 {
