@@ -3,9 +3,10 @@ use mathlib.Core.Path.{_≡_, refl, ap, _∙_}
 use mathlib.Core.Bool.{true, false}
 use mathlib.Core.List.{List, [], _∷_, map}
 use mathlib.Core.Logic.{inl, inr}
-use Prim.Native.Nat.{ℕ, zero, suc, _≤_, _<_}
+use Prim.Native.Nat.{ℕ, zero, suc, _+_, _≤_, _<_}
 use native.Mathlib.Nat.{le-of-suc-le-suc, not-suc-le-zero}
 use native.Mathlib.Omega.{arith}
+use native.Mathlib.Numerals.{add-one}
 use lib.Dec.{ltb}
 use lib.ListN.{length, getD, drop, drop-of-length-le}
 use lib.Seq.{drop-cons}
@@ -38,8 +39,8 @@ module _ (s : Settings) (i : ℕ) (h : i < 17) where
   pub passed : In (rowAt s i) → fromPlace s i ≡ fromPlace s (suc i)
   passed w = split ∙ goes-on (suc i) (rowAt s i) (drop (suc i) (table s)) w
 
-  pub named : Out (rowAt s i) → fromPlace s i ≡ refused R2 (suc i ∷ [])
-  named w = split ∙ stops (suc i) (rowAt s i) (drop (suc i) (table s)) w
+  pub named : Out (rowAt s i) → fromPlace s i ≡ refused R2 ((i + 1) ∷ [])
+  named w = rw add-one (split ∙ stops (suc i) (rowAt s i) (drop (suc i) (table s)) w)
 
 -- a value and a range that the code has read, as the row's
 module _ (s : Settings) (i : ℕ) (h : i < 17) {values : List ℕ} {ranges : List Range} (v : values ≡ map valueOf (table s)) (r : ranges ≡ map rangeOf (table s)) where

@@ -1,10 +1,8 @@
 -- A set is good exactly where each of its settings is in its range, and what a good set tells the rest of the box. Assumes nothing.
 use mathlib.Core.Path.{_≡_}
-use Prim.Native.Nat.{ℕ, _+_, _/_, _≤_}
+use Prim.Native.Nat.{ℕ, _+_, _/_, _≤_, _<_}
 use native.Mathlib.Omega.{arith}
-use lib.Dec.{leb}
-use borrow.Author.Tests.{le-leb, lt-leb}
-use Rattle.laws.specs.Pick.{pick-t, pick-f, pick-all}
+use Rattle.laws.specs.Pick.{pick-all, picks}
 use Rattle.paper.specs.Answer.{done}
 use Rattle.settings.specs.Table.{table, firstBad, leastLevel, mostLevel, Wc, Wf}
 use Rattle.settings.specs.Named.{good-all, all-good, all-join}
@@ -37,19 +35,21 @@ pub record GoodBounds (s : Settings) : Type 0 where
 pub ranges-bounds : (s : Settings) → Ranges s → GoodBounds s
 unfolding leastLevel mostLevel Wc Wf
 ranges-bounds s r =
-    let a : 1 ≤ leastLevel s = pick-all (λ (x : ℕ). 1 ≤ x) (leb (s .algorithm) 1) (omega arith) (omega arith) in
-    let b : mostLevel s ≤ 99999 = pick-all (λ (x : ℕ). x ≤ 99999) (leb (s .algorithm) 1) (omega arith) (omega arith) in
+    let a : 1 ≤ leastLevel s = pick-all (λ (x : ℕ). 1 ≤ x) _ (omega arith) (omega arith) in
+    let b : mostLevel s ≤ 99999 = pick-all (λ (x : ℕ). x ≤ 99999) _ (omega arith) (omega arith) in
     omega arith
 
 -- the level in AL0 and AL1, and in AL2 and AL3
 pub filling-level : (s : Settings) → Ranges s → s .algorithm ≤ 1 → (1 ≤ s .level) × (s .level ≤ s .capacity / 4)
 unfolding leastLevel mostLevel
 filling-level s r h =
-    let t = le-leb (s .algorithm) 1 h in
-    (omega (arith, pick-t (leb (s .algorithm) 1) 1 (s .dose) t), omega (arith, pick-t (leb (s .algorithm) 1) (s .capacity / 4) (s .capacity) t))
+    let a : leastLevel s ≡ 1 = search picks in
+    let b : mostLevel s ≡ s .capacity / 4 = search picks in
+    omega arith
 
-pub emptying-level : (s : Settings) → Ranges s → 2 ≤ s .algorithm → (s .dose ≤ s .level) × (s .level ≤ s .capacity)
+pub emptying-level : (s : Settings) → Ranges s → 1 < s .algorithm → (s .dose ≤ s .level) × (s .level ≤ s .capacity)
 unfolding leastLevel mostLevel
 emptying-level s r h =
-    let t = lt-leb (s .algorithm) 1 h in
-    (omega (arith, pick-f (leb (s .algorithm) 1) 1 (s .dose) t), omega (arith, pick-f (leb (s .algorithm) 1) (s .capacity / 4) (s .capacity) t))
+    let a : leastLevel s ≡ s .dose = search picks in
+    let b : mostLevel s ≡ s .capacity = search picks in
+    omega arith

@@ -69,7 +69,7 @@ module _ (c : tie.Joined1 Inv-loop μ-loop) where
 returns : tie.Need-returns Inv-loop μ-loop
 returns c =
     let d = c .before .before .before .before .before in
-    rw add-one (sym (c .before .before .before .before .loop .inv .1 (s c) (d .before .values .ensures) (d .ranges .ensures) ∙ named (s c) (i c) (below c) (out c)))
+    sym (c .before .before .before .before .loop .inv .1 (s c) (d .before .values .ensures) (d .ranges .ensures) ∙ named (s c) (i c) (below c) (out c))
 
 add-i : tie.Need-add-i Inv-loop μ-loop
 add-i c = omega arith

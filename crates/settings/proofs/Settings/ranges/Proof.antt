@@ -1,3 +1,4 @@
+use mathlib.Core.Path.{refl}
 use borrow.Author.Needs.{needs}
 use Rattle.settings.specs.Table.{table}
 use Rattle.settings.proofs.Settings.ranges.Statement.{statement}
@@ -26,7 +27,7 @@ way-write-given-ranges-4 c = search needs
 
 returns : tie.Need-returns
 unfolding table
-returns c = rw (c .before .level-range .ensures)
+returns c = rw (c .before .level-range .ensures) refl
 
 pub ranges-spec : {M : Type 1} → statement M
 ranges-spec =
