@@ -1,6 +1,10 @@
-use mathlib.Core.Path.{refl}
+use mathlib.Core.Path.{ap}
+use mathlib.Core.List.{_∷_, _++_, map}
+use lib.ListN.{take, drop}
 use borrow.Author.Needs.{needs}
 use Rattle.settings.specs.Table.{table}
+use Rattle.settings.specs.Columns.{rangeOf}
+use Rattle.settings.specs.declared.Range.{Range}
 use Rattle.settings.proofs.Settings.ranges.Statement.{statement}
 use Rattle.settings.proofs.Settings.ranges.Tie as tie
 
@@ -27,7 +31,9 @@ way-write-given-ranges-4 c = search needs
 
 returns : tie.Need-returns
 unfolding table
-returns c = rw (c .before .level-range .ensures) refl
+returns c =
+    let rows = table (c .before .before .before .before .before .before .args .self) in
+    ap (λ (level : Range). map rangeOf (take 5 rows) ++ (level ∷ map rangeOf (drop 6 rows))) (c .before .level-range .ensures)
 
 pub ranges-spec : {M : Type 1} → statement M
 ranges-spec =
