@@ -3,7 +3,7 @@ use mathlib.Core.Path.{_≡_, refl, ap}
 use mathlib.Core.List.{List, [], _∷_}
 use Rattle.paper.specs.Answer.{Answer, done, refused, same}
 use Rattle.paper.specs.Numbers.{R2}
-use Rattle.settings.specs.Table.{firstBad}
+use Rattle.settings.specs.Table.{firstBad, defaultSet}
 use Rattle.settings.specs.declared.Settings.{Settings}
 use Rattle.settings.specs.declared.Checked.{Checked}
 use Rattle.settings.specs.declared.Checked.the-variants as C
@@ -22,3 +22,7 @@ says-one (C.R2 k) (C.R2 l) e = cc
 -- two answers that both meet the check's contract are equal
 pub check-determined : (s : Settings) (a b : Checked) → says a ≡ firstBad s → says b ≡ firstBad s → a ≡ b
 check-determined s a b p q = says-one a b (same p q)
+
+-- two sets that both meet the default set's contract are equal
+pub default-determined : (a b : Settings) → a ≡ defaultSet → b ≡ defaultSet → a ≡ b
+default-determined a b p q = same p q
