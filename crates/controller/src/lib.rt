@@ -1,4 +1,8 @@
 // The controller: fresh, restarted, tick, link start, settings, counter reset, counters, line request.
+mod calls;
+mod line;
+mod tick;
+
 use dosing::Gates;
 use dosing::Phase;
 use dosing::Units;

@@ -1,0 +1,1 @@
+// Fresh and restarted controllers, settings, counter reset, counters and link start.

@@ -1,0 +1,1 @@
+// One tick, steps 1 to 8.
