@@ -16,46 +16,46 @@ use Rattle.controller.specs.declared.Controller.{Controller}
 use Rattle.controller.specs.declared.Record.{Record}
 use Rattle.controller.specs.declared.Fault.{Fault}
 use Rattle.controller.specs.declared.Fault.the-variants as F
-use Rattle.controller.specs.declared.Tick.{Tick}
-use Rattle.controller.specs.declared.Tick.the-variants as T
+use Rattle.controller.specs.declared.TickAnswer.{TickAnswer}
+use Rattle.controller.specs.declared.TickAnswer.the-variants as T
 use Rattle.controller.specs.declared.Ticked.{Ticked}
-use Rattle.controller.specs.declared.Set.{Set}
-use Rattle.controller.specs.declared.Set.the-variants as S
+use Rattle.controller.specs.declared.SetAnswer.{SetAnswer}
+use Rattle.controller.specs.declared.SetAnswer.the-variants as S
 use Rattle.controller.specs.declared.SetTo.{SetTo}
-use Rattle.controller.specs.declared.Reset.{Reset}
-use Rattle.controller.specs.declared.Reset.the-variants as C
+use Rattle.controller.specs.declared.ResetAnswer.{ResetAnswer}
+use Rattle.controller.specs.declared.ResetAnswer.the-variants as C
 use Rattle.controller.specs.declared.ResetTo.{ResetTo}
-use Rattle.controller.specs.declared.Restart.{Restart}
-use Rattle.controller.specs.declared.Restart.the-variants as N
+use Rattle.controller.specs.declared.RestartAnswer.{RestartAnswer}
+use Rattle.controller.specs.declared.RestartAnswer.the-variants as N
 use Rattle.controller.specs.declared.Restarted.{Restarted}
-use Rattle.controller.specs.declared.Reply.{Reply}
-use Rattle.controller.specs.declared.Reply.the-variants as P
+use Rattle.controller.specs.declared.RequestAnswer.{RequestAnswer}
+use Rattle.controller.specs.declared.RequestAnswer.the-variants as P
 use Rattle.controller.specs.declared.Requested.{Requested}
 
 -- ---- the answers
 
-abbrev pub saysTick : Tick → Answer Told
+abbrev pub saysTick : TickAnswer → Answer Told
 saysTick (T.Outputs o) = done (record { outputs = o; doses = [] })
 saysTick (T.Dose o r) = done (record { outputs = o; doses = r ∷ [] })
 saysTick (T.Fault f) = saysFault f
 saysTick T.R1 = refused R1 []
 
-abbrev pub saysSet : Set → Answer (Unit {0})
+abbrev pub saysSet : SetAnswer → Answer (Unit {0})
 saysSet S.Taken = done tt
 saysSet S.R3 = refused R3 []
 saysSet (S.R2 row) = refused R2 (row ∷ [])
 
-abbrev pub saysReset : Reset → Answer (Unit {0})
+abbrev pub saysReset : ResetAnswer → Answer (Unit {0})
 saysReset C.Done = done tt
 saysReset C.R3 = refused R3 []
 
-abbrev pub saysRestart : Restart → Answer (Unit {0})
+abbrev pub saysRestart : RestartAnswer → Answer (Unit {0})
 saysRestart N.Done = done tt
 saysRestart (N.R2 row) = refused R2 (row ∷ [])
 saysRestart N.R15 = refused R15 []
 
 -- the place of the second closing FF and the reply's length; each refusal with its place
-abbrev pub saysReply : Reply → Answer (ℕ × ℕ)
+abbrev pub saysReply : RequestAnswer → Answer (ℕ × ℕ)
 saysReply (P.Sent place len) = done (place, len)
 saysReply (P.R9 place) = refused R9 (place ∷ [])
 saysReply (P.R6 place) = refused R6 (place ∷ [])

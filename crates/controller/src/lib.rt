@@ -64,7 +64,7 @@ pub struct Record {
 }
 
 // What a tick answers: the outputs, with the dose record if one completed; or the fault; or R1.
-pub enum Tick {
+pub enum TickAnswer {
     Outputs(u8),
     Dose { outputs: u8, record: Record },
     Fault(Fault),
@@ -73,11 +73,11 @@ pub enum Tick {
 
 pub struct Ticked {
     pub next: Controller,
-    pub answer: Tick,
+    pub answer: TickAnswer,
 }
 
 // What new settings answer; R2 names the row.
-pub enum Set {
+pub enum SetAnswer {
     Taken,
     R3,
     R2(u32),
@@ -85,22 +85,22 @@ pub enum Set {
 
 pub struct SetTo {
     pub next: Controller,
-    pub answer: Set,
+    pub answer: SetAnswer,
 }
 
 // What a counter reset answers.
-pub enum Reset {
+pub enum ResetAnswer {
     Done,
     R3,
 }
 
 pub struct ResetTo {
     pub next: Controller,
-    pub answer: Reset,
+    pub answer: ResetAnswer,
 }
 
 // What a restart answers; R2 names the row.
-pub enum Restart {
+pub enum RestartAnswer {
     Done,
     R2(u32),
     R15,
@@ -109,11 +109,11 @@ pub enum Restart {
 // A refused restart makes no controller: what stands in `next` is then no sound controller.
 pub struct Restarted {
     pub next: Controller,
-    pub answer: Restart,
+    pub answer: RestartAnswer,
 }
 
 // What a line request answers: the place of the second closing FF and the reply's length, or a refusal with its place.
-pub enum Reply {
+pub enum RequestAnswer {
     Sent { place: usize, len: usize },
     R9(usize),
     R6(usize),
@@ -126,5 +126,5 @@ pub enum Reply {
 
 pub struct Requested {
     pub next: Controller,
-    pub answer: Reply,
+    pub answer: RequestAnswer,
 }
