@@ -1,0 +1,45 @@
+-- Demand 3, in full: what holds over any series of calls from a fresh controller. Assumes nothing.
+use mathlib.Core.Path.{_≡_}
+use mathlib.Core.Bool.{Bool, true, false, _&&_}
+use mathlib.Core.List.{List, [], _∷_}
+use Prim.Native.Nat.{ℕ, _%_}
+use lib.IntN.{ℤ}
+use lib.ListN.{length}
+use Rattle.paper.specs.Answer.{Answer, done, refused, fault}
+use Rattle.dosing.specs.Gates.{fillingOpen, emptyingOpen}
+use Rattle.hourly.specs.Hours.{total}
+use Rattle.controller.specs.declared.Controller.{Controller}
+use Rattle.controller.specs.Tick.{Told, tickOf, overCapacity}
+use Rattle.controller.specs.Calls.{freshOf}
+use Rattle.controller.specs.Sound.{Sound}
+use Rattle.controller.specs.Outside.{wAt, clear}
+use Rattle.series.specs.Events.{Event, run, seen, nothingSeen}
+
+-- the answer is no refusal
+unfoldable pub accepted : Answer Told → Bool
+accepted (done t) = true
+accepted (refused n vs) = false
+accepted (fault n vs) = true
+
+-- the controller after a series from the fresh one, and the amounts of the doses seen to complete since the last accepted reset
+abbrev pub boxAfter : List Event → Controller
+boxAfter es = run freshOf es
+
+abbrev pub dosesAfter : List Event → List ℕ
+dosesAfter es = seen freshOf nothingSeen es .doses
+
+pub record Demand3 (es : List Event) : Type 0 where
+  -- filling and emptying gates are never open together
+  pub never-both : (fillingOpen (boxAfter es .set) (boxAfter es .gates) && emptyingOpen (boxAfter es .set) (boxAfter es .gates)) ≡ false
+  -- no filling gate is open after an over-capacity tick
+  pub over-capacity : (x : ℤ) (i : ℕ)
+      → accepted (tickOf (boxAfter es) x i .answer) ≡ true
+      → overCapacity (boxAfter es .set) (wAt (boxAfter es) x (tickOf (boxAfter es) x i .next)) ≡ true
+      → fillingOpen (boxAfter es .set) (tickOf (boxAfter es) x i .next .gates) ≡ false
+  -- or in a fault
+  pub in-fault : clear (boxAfter es .condition) ≡ false → fillingOpen (boxAfter es .set) (boxAfter es .gates) ≡ false
+  -- count and total are those of the doses that the rules complete
+  pub count : boxAfter es .counters .count ≡ length (dosesAfter es) % 1000000
+  pub total : boxAfter es .counters .total ≡ total (dosesAfter es) % 1000000000
+  -- each call's contract applies at every step
+  pub sound : Sound (boxAfter es)

@@ -1,0 +1,1 @@
+// Demand 3 over any series of calls. Everything here is a statement: see specs/.
