@@ -27,7 +27,7 @@ returns c =
     let buf = c .before .args .buf .now in
     let n = c .before .args .n in
     let in-buf : n < length buf = omega arith in
-    let h : length (take n buf) < 255 = rw (length-take-le n buf (omega arith)) (c .if1 .taken) in
+    let h : length (take n buf) < 255 = rw (length-take-le n buf (omega arith)) (omega arith) in
     record {
       reading = rw (pick-t _ _ _ (lt-ltb _ _ h), add-one, take-suc-set);
       held = record { body-fits = omega arith; full = rw length-set (c .before .pre .0) };
@@ -38,7 +38,7 @@ unfolding stands fits grown
 returns-2 c =
     let buf = c .before .args .buf .now in
     let n = c .before .args .n in
-    let h : 255 ≤ length (take n buf) = rw (length-take-le n buf (omega arith)) (c .if1 .left) in
+    let h : 255 ≤ length (take n buf) = rw (length-take-le n buf (omega arith)) (omega arith) in
     record { reading = rw (pick-f _ _ _ (le-ltb _ _ h)); held = record { body-fits = tt; full = c .before .pre .0 } }
 
 pub grow-spec : {M : Type 1} → statement M

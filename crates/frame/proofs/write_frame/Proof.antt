@@ -31,13 +31,17 @@ frame-len-requires c κs =
     let f = so (c .before .before .framable .ensures) (not-false _ (c .before .if1 .left)) in
     (framable-is _ f .most, c .check-byte .ensures)
 
-returns-2 : tie.Need-returns-2
+too-long : (c : tie.Then2)
+    → writeOf (c .before .before .before .before .before .before .before .args .body .now) (length (c .before .before .before .before .before .before .before .args .out .now)) ≡ refused R8 []
 unfolding writeOf inRoom
-returns-2 c =
+too-long c =
     let start = c .before .before .before .before .before .before .before in
     let f = so (c .before .before .before .before .framable .ensures) (not-false _ (c .before .before .before .if1 .left)) in
     let h : length (start .args .out .now) < length (frame (start .args .body .now)) = omega (arith, c .before .frame-len .ensures) in
-    fills-refused (pick-t _ _ _ f ∙ pick-f _ _ _ (lt-leb _ _ h)) _
+    pick-t _ _ _ f ∙ pick-f _ _ _ (lt-leb _ _ h)
+
+returns-2 : tie.Need-returns-2
+returns-2 c = fills-refused (too-long c) _
 
 put-frame-requires : tie.Need-put-frame-requires
 put-frame-requires c κs = search needs
