@@ -2,3 +2,9 @@ pub mod Check
 pub mod Frame
 pub mod Read
 pub mod Says
+pub mod Linear
+pub mod CheckLaws
+pub mod FrameLaws
+pub mod ReadLaws
+pub mod RoundTrip
+pub mod Stands

@@ -1,0 +1,32 @@
+use mathlib.Core.Path.{sym}
+use Prim.Native.Nat.{ℕ, _≤_, _<_}
+use native.Mathlib.Omega.{arith}
+use borrow.Author.Needs.{needs}
+use borrow.Author.Tests.{lt-ltb, le-ltb, eq-eqb, ne-eqb}
+use lib.ListN.{length}
+use Rattle.laws.specs.Pick.{pick, pick-all, pick-true, pick-false}
+use Rattle.frame.specs.Frame.{extended}
+use Rattle.frame.specs.Read.{tooShort}
+use Rattle.frame.proofs.too_short.Statement.{statement}
+use Rattle.frame.proofs.too_short.Tie as tie
+
+returns : tie.Need-returns
+unfolding tooShort
+returns c =
+    let l = c .before .args .body .now in
+    let least : 3 ≤ pick (extended l) 6 3 = pick-all (λ (n : ℕ). 3 ≤ n) (extended l) (omega arith) (omega arith) in
+    sym (lt-ltb (length l) (pick (extended l) 6 3) (omega arith))
+
+shared-slice-read-if2 : tie.Need-shared-slice-read-if2
+shared-slice-read-if2 c = search needs
+
+returns-2 : tie.Need-returns-2
+unfolding tooShort extended
+returns-2 c = simp (eq-eqb _ _ (c .if2 .taken), pick-true)
+
+returns-3 : tie.Need-returns-3
+unfolding tooShort extended
+returns-3 c = simp (ne-eqb _ _ (c .if2 .left), pick-false, le-ltb _ _ (c .before .before .if1 .left))
+
+pub too-short-spec : {M : Type 1} → statement M
+too-short-spec = tie.close (tie.spec returns shared-slice-read-if2 returns-2 returns-3)
