@@ -29,7 +29,7 @@ def good_settings(rng):
         M = rng.choice([D, (D + C) // 2, C])
     p7 = rng.choice([4, 4, 5, 8, rng.randint(4, 128)])
     p8 = rng.choice([p7, min(128, p7 * 2), rng.randint(p7, 128)])
-    p9 = rng.choice([1] * 10 + [2, 3])
+    p9 = rng.choice([1] * 50 + [2, 2, 2, 3, 3, 63])
     bits = [rng.randint(0, 1) for _ in range(5)]
     serial = rng.choice([0, 1, 0xFFFFFF, 0x00FF01, 0xFE00FF,
                          rng.randint(0, 0xFFFFFF)])

@@ -77,7 +77,7 @@ class Maker:
         self.stuck = 0              # a mask of inputs that lie
         self.starting = rng.choice([0, 8])
         self.say(calls.line('L', rng.choice([0, 1, 1])))
-        left = rng.choice([50, 400, 1500])
+        left = rng.choice([50, 400, 1500]) if self.box.s.p9 < 63 else 6000
         while left > 0:
             self.mood()
             self.tick()
