@@ -4,3 +4,4 @@ pub mod Says
 pub mod Scan
 pub mod LineLaws
 pub mod JournalLaws
+pub mod Store

@@ -7,12 +7,14 @@ use native.Mathlib.Omega.{arith}
 use lib.Dec.{leb, eqb, lit≤}
 use lib.ListN.{length, getD, drop, length-append}
 use lib.Seq.{drop-at}
-use borrow.Author.Tests.{leb-true, le-leb, eqb-true}
-use Rattle.laws.specs.Pick.{pick}
+use borrow.Author.Tests.{leb-true, le-leb, lt-leb, eqb-true}
+use Rattle.laws.specs.Pick.{pick, pick-t, pick-f}
 use Rattle.laws.specs.Whole.{false-true}
 use Rattle.laws.specs.Decimal.{Parsed, good, bad, numberAt, decimal, isDigit}
 use Rattle.laws.specs.DecimalLaws.{Stops, number-decimal, number-only, decimal-some, decimal-length}
-use Rattle.journal.specs.Line.{LF, TAB, letterD, letterH, mostOfD, mostOfH, fieldsText, textOf, within, inRange, expect, onGood, fieldsAt, doseFrom, onFrom, lineOf}
+use Rattle.paper.specs.Answer.{done, refused, inRoom}
+use Rattle.paper.specs.Numbers.{R8, R10}
+use Rattle.journal.specs.Line.{writeOf, oneLine, whole, LF, TAB, letterD, letterH, mostOfD, mostOfH, fieldsText, textOf, within, inRange, expect, onGood, fieldsAt, doseFrom, onFrom, lineOf}
 use Rattle.journal.specs.declared.Line.{Line}
 use Rattle.journal.specs.declared.Line.the-variants.{Dose, On}
 
@@ -25,6 +27,10 @@ and-left false b e = false-true e
 pub and-right : (a b : Bool) → (a && b) ≡ true → b ≡ true
 and-right true b e = e
 and-right false b e = false-true e
+
+pub and-true : (a : Bool) → (a && true) ≡ a
+and-true true = refl
+and-true false = refl
 
 within-length : (vs ms : List ℕ) → within vs ms ≡ true → length vs ≡ length ms
 unfolding within
@@ -186,21 +192,27 @@ pub on-range : (h : ℕ) → inRange (On h) ≡ true → h ≤ 9999999
 unfolding inRange within mostOfH
 on-range h e = leb-true _ _ (and-left _ _ e)
 
+pub dose-length : (h c a s : ℕ) → length (textOf (Dose h c a s)) ≡ 6 + length (decimal h) + length (decimal c) + length (decimal a) + length (decimal s)
+unfolding textOf
+dose-length h c a s = omega (arith, fields-none, fields-length h (c ∷ a ∷ s ∷ []), fields-length c (a ∷ s ∷ []), fields-length a (s ∷ []), fields-length s [])
+
+pub on-length : (h : ℕ) → length (textOf (On h)) ≡ 3 + length (decimal h)
+unfolding textOf
+on-length h = omega (arith, fields-none, fields-length h [])
+
 -- a line takes at least 4 bytes
 pub text-least : (l : Line) → 4 ≤ length (textOf l)
-unfolding textOf
-text-least (Dose h c a s) = omega (arith, fields-length h (c ∷ a ∷ s ∷ []), decimal-some h, fields-length c (a ∷ s ∷ []), decimal-some c)
-text-least (On h) = omega (arith, fields-none, fields-length h [], decimal-some h)
+text-least (Dose h c a s) = omega (arith, dose-length h c a s)
+text-least (On h) = omega (arith, on-length h, decimal-some h)
 
 -- and at most 27
 pub text-most : (l : Line) → inRange l ≡ true → length (textOf l) ≤ 27
-unfolding textOf
 text-most (Dose h c a s) e =
     let r = dose-range h c a s e in
-    omega (arith, fields-none, fields-length h (c ∷ a ∷ s ∷ []), fields-length c (a ∷ s ∷ []), fields-length a (s ∷ []), fields-length s [], decimal-length 7 h (omega arith) (omega arith), decimal-length 6 c (omega arith) (omega arith), decimal-length 7 a (omega arith) (omega arith), decimal-length 1 s (omega arith) (omega arith))
+    omega (arith, dose-length h c a s, decimal-length 7 h (omega arith) (omega arith), decimal-length 6 c (omega arith) (omega arith), decimal-length 7 a (omega arith) (omega arith), decimal-length 1 s (omega arith) (omega arith))
 text-most (On h) e =
     let r = on-range h e in
-    omega (arith, fields-none, fields-length h [], decimal-length 7 h (omega arith) (omega arith))
+    omega (arith, on-length h, decimal-length 7 h (omega arith) (omega arith))
 
 -- what follows a line is shorter, and stands where the line's bytes end
 pub line-shorter : (s : List ℕ) (l : Line) (rest : List ℕ) → lineOf s ≡ good l rest → length rest < length s
@@ -212,3 +224,34 @@ line-rest s l rest e =
     let o = text-only s l rest e .text in
     let n : length (textOf l) ≡ length s - length rest = omega (arith, ap length o, length-append (textOf l) rest) in
     sym (ap (drop (length s - length rest)) o ∙ drop-at (textOf l) rest (length s - length rest) n)
+
+-- ---- the writer's answers
+
+pub write-range : (l : Line) (room : ℕ) → inRange l ≡ false → writeOf l room ≡ refused R10 (0 ∷ [])
+unfolding writeOf
+write-range l room e = pick-f _ _ _ e
+
+pub write-short : (l : Line) (room : ℕ) → inRange l ≡ true → room < length (textOf l) → writeOf l room ≡ refused R8 []
+unfolding writeOf inRoom
+write-short l room e h = pick-t _ _ _ e ∙ pick-f _ _ _ (lt-leb _ _ h)
+
+pub write-fits : (l : Line) (room : ℕ) → inRange l ≡ true → length (textOf l) ≤ room → writeOf l room ≡ done (textOf l)
+unfolding writeOf inRoom
+write-fits l room e h = pick-t _ _ _ e ∙ pick-t _ _ _ (le-leb _ _ h)
+
+-- what was written is read back, and nothing else is a line by itself
+pub one-text : (l : Line) → inRange l ≡ true → oneLine (textOf l) ≡ done l
+unfolding oneLine whole
+one-text l e = ap (λ (s : List ℕ). whole (lineOf s)) (sym (append-nil (textOf l))) ∙ ap whole (read-text l [] e)
+
+pub one-only : (s : List ℕ) (l : Line) → oneLine s ≡ done l → (s ≡ textOf l) × (inRange l ≡ true)
+unfolding oneLine whole
+one-only s l e = go (lineOf s) refl e
+  where
+    go : (p : Parsed Line) → lineOf s ≡ p → whole p ≡ done l → (s ≡ textOf l) × (inRange l ≡ true)
+    go (good m []) q h =
+        let f : m ≡ l = cc in
+        let o = text-only s m [] q in
+        (o .text ∙ append-nil (textOf m) ∙ ap textOf f, ap inRange (sym f) ∙ o .range)
+    go (good m (b ∷ bs)) q h = let z : _≡_ {A = ℕ} 0 1 = cc in let f : ⊥ = omega arith in absurd f
+    go bad q h = let z : _≡_ {A = ℕ} 0 1 = cc in let f : ⊥ = omega arith in absurd f
