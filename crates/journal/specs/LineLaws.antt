@@ -2,11 +2,11 @@
 use mathlib.Core.Path.{_≡_, refl, sym, ap, _∙_, subst}
 use mathlib.Core.Bool.{Bool, true, false, _&&_}
 use mathlib.Core.List.{List, [], _∷_, _++_, append-assoc, append-nil}
-use Prim.Native.Nat.{ℕ, zero, suc, _+_, _-_, _*_, _^_, _≤_, _<_}
+use Prim.Native.Nat.{ℕ, suc, _+_, _-_, _≤_, _<_}
 use native.Mathlib.Omega.{arith}
-use lib.Dec.{leb, eqb, lit≤}
-use lib.ListN.{length, getD, drop, length-append}
-use lib.Seq.{drop-at}
+use lib.Dec.{leb, eqb}
+use lib.ListN.{length, drop, length-append, length-drop}
+use lib.Seq.{drop-at, drop-drop}
 use borrow.Author.Tests.{leb-true, le-leb, lt-leb, eqb-true}
 use Rattle.laws.specs.Pick.{pick, pick-t, pick-f}
 use Rattle.laws.specs.Whole.{false-true}
@@ -14,11 +14,9 @@ use Rattle.laws.specs.Decimal.{Parsed, good, bad, numberAt, decimal, isDigit}
 use Rattle.laws.specs.DecimalLaws.{Stops, number-decimal, number-only, decimal-some, decimal-length}
 use Rattle.paper.specs.Answer.{done, refused, inRoom}
 use Rattle.paper.specs.Numbers.{R8, R10}
-use Rattle.journal.specs.Line.{writeOf, oneLine, whole, LF, TAB, letterD, letterH, mostOfD, mostOfH, fieldsText, textOf, within, inRange, expect, onGood, fieldsAt, doseFrom, onFrom, lineOf}
+use Rattle.journal.specs.Line.{Placed, placed, lineAt, writeOf, oneLine, whole, LF, TAB, letterD, letterH, mostOfD, mostOfH, fieldsText, textOf, within, inRange, expect, onGood, fieldsAt, doseFrom, onFrom, lineOf}
 use Rattle.journal.specs.declared.Line.{Line}
 use Rattle.journal.specs.declared.Line.the-variants.{Dose, On}
-
--- ---- tests
 
 pub and-left : (a b : Bool) → (a && b) ≡ true → a ≡ true
 and-left true b e = refl
@@ -43,7 +41,9 @@ within-length (v ∷ vs) (m ∷ ms) e = ap suc (within-length vs ms (and-right (
 bad-good : {X Y : Type 0} {x : X} {rest : List ℕ} → bad ≡ good x rest → Y
 bad-good e = let z : _≡_ {A = ℕ} 0 1 = cc in let f : ⊥ = omega arith in absurd f
 
--- ---- the fields
+-- a refusal is no value
+pub refused-done : {X Y : Type 0} {x : X} {n : ℕ} {vs : List ℕ} → refused n vs ≡ done x → Y
+refused-done e = let z : _≡_ {A = ℕ} 0 1 = cc in let f : ⊥ = omega arith in absurd f
 
 stops : (vs rest : List ℕ) → Stops (fieldsText vs ++ rest)
 unfolding fieldsText isDigit
@@ -103,8 +103,6 @@ fields-only (m ∷ ms) got l vs rest e =
       text = x .1 ∙ ap (λ (r : List ℕ). TAB ∷ r) (n .0 ∙ ap (λ (r : List ℕ). decimal (y .0) ++ r) (w .text) ∙ sym (append-assoc (decimal (y .0)) (fieldsText (w .ws)) rest));
       fit = ap (λ (b : Bool). b && within (w .ws) ms) (le-leb (y .0) m (n .1)) ∙ w .fit;
     }
-
--- ---- the line
 
 -- what the writer writes is read as what was written
 pub read-text : (l : Line) (rest : List ℕ) → inRange l ≡ true → lineOf (textOf l ++ rest) ≡ good l rest
@@ -169,8 +167,6 @@ text-only (b ∷ bs) l rest e = go (eqb b letterD) (eqb b letterH) refl refl e
     go false true p q h = letter-only b letterH bs mostOfH onFrom l rest (eqb-true b letterH q) on-made h
     go false false p q h = bad-good h
 
--- ---- lengths and places
-
 fields-none : length (fieldsText []) ≡ 1
 unfolding fieldsText
 fields-none = refl
@@ -225,7 +221,49 @@ line-rest s l rest e =
     let n : length (textOf l) ≡ length s - length rest = omega (arith, ap length o, length-append (textOf l) rest) in
     sym (ap (drop (length s - length rest)) o ∙ drop-at (textOf l) rest (length s - length rest) n)
 
--- ---- the writer's answers
+-- a place is what is left after the bytes from it on
+pub place-back : (s : List ℕ) (p : ℕ) → p ≤ length s → length s - length (drop p s) ≡ p
+place-back s p h = rw (length-drop p s) (omega arith)
+
+pub placed-bad : (n : ℕ) (p : Parsed Line) → refused R10 [] ≡ placed n p → p ≡ bad
+unfolding placed
+placed-bad n (good l rest) e = refused-done e
+placed-bad n bad e = refl
+
+pub placed-good : (n k : ℕ) (l : Line) (p : Parsed Line) → done (record { line = l; next = k }) ≡ placed n p → (rest : List ℕ) × (p ≡ good l rest) × (k ≡ n - length rest)
+unfolding placed
+placed-good n k l (good m rest) e =
+    let r : _≡_ {A = Placed} (record { line = l; next = k }) (record { line = m; next = n - length rest }) = cc in
+    let a : l ≡ m = ap (λ (t : Placed). t .line) r in
+    (rest, cc, ap (λ (t : Placed). t .next) r)
+placed-good n k l bad e = refused-done (sym e)
+
+-- from `at` on stands the line l, and `next` is the place after it
+pub record Stands (s : List ℕ) (at : ℕ) (l : Line) (next : ℕ) : Type 0 where
+  pub line : lineOf (drop at s) ≡ good l (drop next s)
+  pub is : lineAt s at ≡ done (record { line = l; next = next })
+  pub onward : at < next
+  pub inside : next ≤ length s
+
+pub stands : (s : List ℕ) (at : ℕ) (l : Line) (rest : List ℕ) → lineOf (drop at s) ≡ good l rest → Stands s at l (length s - length rest)
+unfolding lineAt placed
+stands s at l rest e =
+    let d = line-shorter (drop at s) l rest e in
+    let n : length (drop at s) ≡ length s - at = length-drop at s in
+    let k : at + (length (drop at s) - length rest) ≡ length s - length rest = omega arith in
+    record {
+      line = e ∙ ap (λ (r : List ℕ). good l r) (line-rest (drop at s) l rest e ∙ drop-drop (length (drop at s) - length rest) at s ∙ ap (λ (j : ℕ). drop j s) k);
+      is = ap (placed (length s)) e;
+      onward = omega arith;
+      inside = omega arith;
+    }
+
+-- what a reader that answered a line at a place has found
+pub line-at-only : (s : List ℕ) (at : ℕ) (l : Line) (next : ℕ) → done (record { line = l; next = next }) ≡ lineAt s at → Stands s at l next
+unfolding lineAt
+line-at-only s at l next e =
+    let x = placed-good (length s) next l (lineOf (drop at s)) e in
+    subst (λ (k : ℕ). Stands s at l k) (sym (x .2)) (stands s at l (x .0) (x .1))
 
 pub write-range : (l : Line) (room : ℕ) → inRange l ≡ false → writeOf l room ≡ refused R10 (0 ∷ [])
 unfolding writeOf
@@ -253,5 +291,5 @@ one-only s l e = go (lineOf s) refl e
         let f : m ≡ l = cc in
         let o = text-only s m [] q in
         (o .text ∙ append-nil (textOf m) ∙ ap textOf f, ap inRange (sym f) ∙ o .range)
-    go (good m (b ∷ bs)) q h = let z : _≡_ {A = ℕ} 0 1 = cc in let f : ⊥ = omega arith in absurd f
-    go bad q h = let z : _≡_ {A = ℕ} 0 1 = cc in let f : ⊥ = omega arith in absurd f
+    go (good m (b ∷ bs)) q h = refused-done h
+    go bad q h = refused-done h

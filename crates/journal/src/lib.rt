@@ -1,20 +1,18 @@
 // The journal: D and H lines, written and read, and the refusals of a whole journal.
 ghost use mathlib.Core.Path.{_≡_};
-ghost use lib.ListN.{length, drop};
-ghost use Rattle.paper.specs.Answer.{Fills, told};
+ghost use mathlib.Core.Bool.{_&&_};
 ghost use mathlib.Core.List.{[], _∷_};
 ghost use Prim.Native.Nat.{_+_, _≤_};
-ghost use mathlib.Core.Bool.{_&&_};
-ghost use lib.Dec.{eqb};
-ghost use lib.ListN.{getD};
+ghost use lib.ListN.{length, drop, getD};
 ghost use Rattle.laws.specs.Pick.{pick};
 ghost use Rattle.laws.specs.Decimal.{good, isDigit, numberAt, decimal};
-ghost use Rattle.journal.specs.Line.{TAB, inRange, textOf, writeOf, oneLine, lineAt, echoOf, expect, onGood, fieldsAt, placed, mostOfD, mostOfH, doseFrom, onFrom, LF};
-ghost use Rattle.journal.specs.Journal.{journalOf, summaryOf, hourIn, closes, outOfOrder, tooFar, noPast, pastAfter};
-ghost use Rattle.journal.specs.declared.Line.the-variants.{Dose, On};
-ghost use Rattle.journal.specs.Store.{FieldLength, Stores};
-ghost use Rattle.journal.specs.Scan.{Scans, fieldAt, fieldsAfter, lineFrom};
+ghost use Rattle.paper.specs.Answer.{Fills, told};
+ghost use Rattle.journal.specs.Line.{TAB, LF, mostOfD, mostOfH, textOf, inRange, writeOf, expect, onGood, fieldsAt, doseFrom, onFrom, placed, lineAt, oneLine, echoOf};
+ghost use Rattle.journal.specs.Journal.{hourIn, closes, outOfOrder, tooFar, noPast, pastAfter, journalOf, summaryOf};
 ghost use Rattle.journal.specs.Says.{saysWrote, saysOne, saysEchoed, saysAt, saysJudged};
+ghost use Rattle.journal.specs.Scan.{Scans, fieldAt, fieldsAfter, lineFrom};
+ghost use Rattle.journal.specs.Store.{FieldLength, Stores};
+ghost use Rattle.journal.specs.declared.Line.the-variants.{Dose, On};
 
 // A line: a completed dose, or that the box was on for all of an hour.
 pub enum Line {
@@ -63,6 +61,7 @@ pub enum Refusal {
     R13,
 }
 
+// What the reader of a journal answers.
 pub enum Judged {
     Lines(Summary),
     Refused(Refusal),
@@ -101,8 +100,6 @@ const ROOM: usize = 65536;
 
 // A line's hour is less than so many hours above the first line's.
 const SPAN: u64 = 744;
-
-// ---- one line written
 
 // Each value is at most its field's greatest.
 fn in_range(line: Line) -> bool
@@ -221,8 +218,6 @@ pub fn write(line: Line, out: &mut [u8]) -> Wrote
     Wrote::Line(store_line(out, line))
 }
 
-// ---- one line read
-
 // The byte at a place, 0 past the end.
 fn byte_at(s: &[u8], at: usize) -> u8
     ensures { λ r. ⌜ r ≡ getD (now (s .entry)) at 0 ⌝ }
@@ -230,6 +225,7 @@ fn byte_at(s: &[u8], at: usize) -> u8
     if at < s.len() { s[at] } else { 0 }
 }
 
+// Whether a byte is a digit.
 fn is_digit(b: u8) -> bool
     ensures { λ r. ⌜ r ≡ isDigit b ⌝ }
 {
@@ -360,8 +356,6 @@ pub fn echo(line: Line) -> One
     }
 }
 
-// ---- a journal judged
-
 // How many fields follow a letter: 4 after D, 1 after H, else none.
 fn fields_after(letter: u8) -> usize
     ensures { λ r. ⌜ r ≡ fieldsAfter letter ⌝ }
@@ -394,6 +388,7 @@ fn line_from(n: usize, got: [u32; 4]) -> Line
     Line::On { hour }
 }
 
+// The hour of a line.
 fn hour_in(line: Line) -> u32
     ensures { λ r. ⌜ r ≡ hourIn line ⌝ }
 {
@@ -408,7 +403,7 @@ fn hour_in(line: Line) -> u32
     }
 }
 
-// An H closes its hour.
+// Whether a line closes its hour, as an H does.
 fn closes_hour(line: Line) -> bool
     ensures { λ r. ⌜ r ≡ closes line ⌝ }
 {

@@ -12,7 +12,7 @@ use Rattle.laws.specs.Over.{over}
 use Rattle.paper.specs.Answer.{Answer, done, refused, told, leaves, Fills}
 use Rattle.paper.specs.Numbers.{R8, R10}
 use Rattle.journal.specs.Line.{inRange, textOf, writeOf, oneLine, echoOf}
-use Rattle.journal.specs.LineLaws.{text-most, write-range, write-fits, one-text}
+use Rattle.journal.specs.LineLaws.{refused-done, text-most, write-range, write-fits, one-text}
 use Rattle.journal.specs.Says.{saysWrote, saysOne, saysEchoed}
 use Rattle.journal.specs.declared.Line.{Line}
 use Rattle.journal.specs.declared.One.{One}
@@ -21,9 +21,6 @@ use Rattle.journal.specs.declared.Wrote.{Wrote}
 use Rattle.journal.specs.declared.Wrote.the-variants as W
 use Rattle.journal.proofs.echo.Statement.{statement}
 use Rattle.journal.proofs.echo.Tie as tie
-
-none : {X : Type 0} {n m : ℕ} {vs : List ℕ} → _≡_ {A = Answer ℕ} (done n) (refused m vs) → X
-none e = let z : _≡_ {A = ℕ} 0 1 = cc in let f : ⊥ = omega arith in absurd f
 
 -- what the writer left where it answered a length
 record Written (l : Line) (n : ℕ) (new : List ℕ) : Type 0 where
@@ -46,7 +43,7 @@ written l {w} n {old} {new} f h k q = go (inRange l) refl
           text = ap (take n) (f .left ∙ ap (λ (a : Answer (List ℕ)). leaves a old) r) ∙ take-at (textOf l) _ n (sym i);
           room = omega arith;
         }
-    go false e = none (ap saysWrote (sym q) ∙ f .says ∙ ap (told length) (write-range l (length old) e))
+    go false e = refused-done (sym (ap saysWrote (sym q) ∙ f .says ∙ ap (told length) (write-range l (length old) e)))
 
 -- a writer that did not answer a length
 unwritten : (l : Line) (w : Wrote) (m : ℕ) (vs : List ℕ) {old new : List ℕ} → Fills (saysWrote w) (writeOf l (length old)) old new → length old ≡ 27 → saysWrote w ≡ refused m vs → refused R10 (0 ∷ []) ≡ echoOf l
@@ -54,13 +51,13 @@ unfolding told echoOf
 unwritten l w m vs {old} f h q = go (inRange l) refl
   where
     go : (b : Bool) → inRange l ≡ b → refused R10 (0 ∷ []) ≡ echoOf l
-    go true e = let m = text-most l e in none (sym (f .says ∙ ap (told length) (write-fits l (length old) e (omega arith))) ∙ q)
+    go true e = let m = text-most l e in refused-done (sym (sym (f .says ∙ ap (told length) (write-fits l (length old) e (omega arith))) ∙ q))
     go false e = sym (pick-f _ _ _ e)
 
 -- what is read as a line is echoed as it
 echoed : (r : One) (l : Line) → saysOne r ≡ done l → saysEchoed r ≡ done l
 echoed (O.Line m) l e = e
-echoed O.R10 l e = let z : _≡_ {A = ℕ} 0 1 = cc in let f : ⊥ = omega arith in absurd f
+echoed O.R10 l e = refused-done e
 
 filled : (c : tie.After-known-told) → Written (c .before .before .before .before .before .before .args .line) (c .before .len .given .0 .0) (c .before .before .before .before .write .last .1 .0)
 filled c = let w = c .before .before .before .before .write in written (c .before .before .before .before .before .before .args .line) (c .before .len .given .0 .0) (w .ensures) refl (w .kept .1 .0) (c .before .len .given .1)

@@ -1,12 +1,12 @@
-use mathlib.Core.Path.{_≡_, sym, ap, _∙_}
+use mathlib.Core.Path.{sym, ap, _∙_}
 use Prim.Native.Nat.{ℕ, _+_, _<_}
 use native.Mathlib.Omega.{arith}
 use denote.Ref.{now}
-use lib.ListN.{length, getD, drop}
+use lib.ListN.{length}
 use Rattle.laws.specs.Decimal.{good}
 use Rattle.paper.specs.Answer.{done}
 use Rattle.journal.specs.Line.{LF, placed}
-use Rattle.journal.proofs.Fields.{place-back}
+use Rattle.journal.specs.LineLaws.{place-back}
 use Rattle.journal.proofs.Scanning.{byte-inside, expect-hit, expect-miss}
 use borrow.Author.Needs.{needs}
 use Rattle.journal.proofs.end_at.Statement.{statement}

@@ -1,5 +1,4 @@
-use mathlib.Core.Path.{_≡_, sym, ap, _∙_}
-use mathlib.Core.List.{List, [], _∷_}
+use mathlib.Core.List.{[]}
 use denote.Ref.{now}
 use lib.ListN.{length, drop}
 use Rattle.journal.specs.Line.{mostOfH, onFrom}

@@ -2,23 +2,22 @@
 use mathlib.Core.Path.{_≡_, refl, sym, ap, _∙_, subst}
 use mathlib.Core.Bool.{Bool, true, false, _&&_}
 use mathlib.Core.List.{List, [], _∷_}
-use Prim.Native.Nat.{ℕ, suc, _+_, _-_, _≤_, _<_}
+use Prim.Native.Nat.{ℕ, _+_, _-_, _≤_, _<_}
 use native.Mathlib.Omega.{arith}
 use denote.Ref.{now}
-use lib.ListN.{length, getD, take, drop, set, length-set, length-drop, drop-of-length-le}
+use lib.ListN.{length, getD, take, drop, length-set, length-drop, drop-of-length-le}
 use borrow.Author.Needs.{needs}
 use Rattle.laws.specs.Decimal.{good, bad}
-use Rattle.paper.specs.Answer.{Answer, done, refused, told}
+use Rattle.paper.specs.Answer.{refused, told}
 use Rattle.paper.specs.Numbers.{R10}
 use Rattle.journal.specs.Line.{LF, mostOfD, fieldsAt, lineOf}
 use Rattle.journal.specs.LineLaws.{line-shorter}
-use Rattle.journal.specs.Journal.{hourIn, outOfOrder, tooFar, noPast, pastAfter, ordered, journalOf, summaryOf}
+use Rattle.journal.specs.Journal.{hourIn, outOfOrder, tooFar, pastAfter, ordered, journalOf, summaryOf}
 use Rattle.journal.specs.JournalLaws.{journal-long}
-use Rattle.journal.specs.Scan.{placeAfter, lineFrom}
+use Rattle.journal.specs.Scan.{placeAfter}
 use Rattle.journal.specs.declared.Num.{Num}
 use Rattle.journal.specs.declared.Line.{Line}
 use Rattle.journal.specs.declared.Past.{Past}
-use Rattle.journal.specs.declared.Summary.{Summary}
 use Rattle.journal.proofs.Scanning.{byte-inside}
 use Rattle.journal.proofs.Fields.{few, asks, fields-turn, fields-stop, no-more, line-broken, line-torn, line-read}
 use Rattle.journal.proofs.Carried.{sumFrom, sum-all, sum-none, sum-bad, sum-good, order-broken, order-far, order-kept}
@@ -37,8 +36,6 @@ Inv-lines bytes size past₀ at₀ lines₀ past at lines = (at ≤ length bytes
 
 abbrev μ-lines : tie.MeasureT-lines
 μ-lines bytes size past₀ at₀ lines₀ past at lines = length bytes - at
-
--- ---- the places: a line's start, its letter, its fields
 
 abbrev S : tie.At-lines Inv-fields μ-fields Inv-lines μ-lines → List ℕ
 S c = now (c .before .before .before .before .args .bytes)
@@ -76,8 +73,6 @@ read-fields c =
     ap (λ (ms : List ℕ). fieldsAt ms (take n (f .got)) rest) (sym (no-more n (f .k) (omega arith)))
     ∙ ap (λ (j : ℕ). fieldsAt (drop (f .k) (take n mostOfD)) (take j (f .got)) rest) (sym e)
     ∙ f .inv .3
-
--- ---- the places: a line that was read
 
 abbrev fields-of : tie.After-line-from Inv-fields μ-fields Inv-lines μ-lines → tie.At-fields Inv-fields μ-fields Inv-lines μ-lines
 fields-of c = c .before .before .before .before
@@ -122,8 +117,6 @@ far-is : (c : tie.After-too-far Inv-fields μ-fields Inv-lines μ-lines) → (b 
 far-is c b e =
     let p = top-of (c .before .before .before .before) .lines .past in
     ap (λ (h : ℕ). p .begun && tooFar (p .first) h) (sym (c .before .before .before .hour-in .ensures)) ∙ sym (c .too-far .ensures) ∙ e
-
--- ---- the needs
 
 returns : tie.Need-returns Inv-fields μ-fields Inv-lines μ-lines
 unfolding told

@@ -7,7 +7,8 @@ use lib.ListN.{length}
 use Rattle.journal.specs.declared.Line.{Line}
 use Rattle.journal.specs.Line.{lineAt, lineOf, oneLine, whole, placed}
 use Rattle.journal.specs.Says.{saysAt}
-use Rattle.journal.proofs.Fields.{placed-bad, read-more, read-all}
+use Rattle.journal.specs.LineLaws.{placed-bad}
+use Rattle.journal.proofs.Fields.{read-more, read-all}
 use borrow.Author.Needs.{needs}
 use Rattle.journal.proofs.read_line.Statement.{statement}
 use Rattle.journal.proofs.read_line.Tie as tie
