@@ -215,8 +215,8 @@ pub fn write(line: Line, out: &mut [u8]) -> Wrote
     if out.len() < text_len(line) {
         return Wrote::R8;
     }
-    let len = store_line(out, line);
-    Wrote::Line(len)
+    let written = store_line(out, line);
+    Wrote::Line(written)
 }
 
 // The byte at a place, 0 past the end.
