@@ -20,11 +20,14 @@ use Rattle.dosing.specs.declared.Gates.{Gates}
 use Rattle.dosing.specs.declared.Phase.{Phase}
 use Rattle.dosing.specs.declared.Phase.the-variants.{Ready, Coarse, Fine, Hold, Settle, Discharge, Load, Calm, DoseCoarse, DoseFine, DoseSettle}
 use Rattle.dosing.specs.declared.Seen.{Seen}
-use Rattle.dosing.specs.declared.Dose.{Dose}
 use Rattle.dosing.specs.declared.Dose.the-variants.{Nothing, Complete}
 use Rattle.dosing.specs.declared.Moved.{Moved}
 
--- ---- the phase determines the outputs, and a dose completes only into Ready
+-- two results that both meet the contract of `step` are equal
+pub step-determined : (set : Settings) (p : Phase) (t : Seen) (a b : Moved) → a ≡ stepOf set p t → b ≡ stepOf set p t → a ≡ b
+step-determined set p t a b h k = h ∙ sym k
+
+-- the phase determines the outputs, and a dose completes only into Ready
 
 record Tells (set : Settings) (m : Moved) : Type 0 where
   gates : m .gates ≡ gatesOf set (m .phase)
@@ -85,9 +88,9 @@ ready-shut set = refl
 pub step-ready-shut : (set : Settings) (p : Phase) (t : Seen) → stepOf set p t .phase ≡ Ready → stepOf set p t .gates ≡ shut
 step-ready-shut set p t e = step-gates set p t ∙ ap (gatesOf set) e ∙ ready-shut set
 
--- ---- the zero: it changes only from Ready, where Fill begins
+-- the zero: it changes only from Ready, where Fill begins
 
-pub zero-ways : (Q : Units → Type 0) (set : Settings) (p : Phase) (t : Seen) → Q (t .z) → (p ≡ Ready → leb (set .algorithm) 1 ≡ true → Q (zeroed set t .z)) → Q (stepOf set p t .z)
+zero-ways : (Q : Units → Type 0) (set : Settings) (p : Phase) (t : Seen) → Q (t .z) → (p ≡ Ready → leb (set .algorithm) 1 ≡ true → Q (zeroed set t .z)) → Q (stepOf set p t .z)
 unfolding stepOf dischargeOpens
 zero-ways Q set Ready t h k =
     let P : Moved → Type 0 = λ m. Q (m .z) in
@@ -144,7 +147,7 @@ zeroed-size set t r low h =
 pub step-zero : (set : Settings) (p : Phase) (t : Seen) → Ranges set → natAbs (t .z .v) ≤ 24998 → natAbs (stepOf set p t .z .v) ≤ 24998
 step-zero set p t r h = zero-ways (λ (z : Units). natAbs (z .v) ≤ 24998) set p t h (λ e low. zeroed-size set t r low h)
 
--- ---- the phases of the algorithm
+-- the phases of the algorithm
 
 -- AL0 and AL1, and not AL2 or AL3
 one-low : (al : ℕ) → eqb al 1 ≡ true → leb al 1 ≡ true
@@ -225,7 +228,7 @@ step-belongs set p t h = step-stays set p t h .phase
 pub no-dose : (set : Settings) (p : Phase) (t : Seen) → set .algorithm ≡ 0 → belongs (set .algorithm) p ≡ true → stepOf set p t .dose ≡ Nothing
 no-dose set p t e h = step-stays set p t h .dose e
 
--- ---- filling and emptying
+-- filling and emptying
 
 and-right : (a : Bool) → (a && false) ≡ false
 and-right true = refl
@@ -262,7 +265,7 @@ shut-fills set = pick-same _ false
 pub never-both : (set : Settings) (p : Phase) → belongs (set .algorithm) p ≡ true → (fillingOpen set (gatesOf set p) && emptyingOpen set (gatesOf set p)) ≡ false
 unfolding gatesOf belongs
 never-both set Ready h = unfilled set shut (shut-fills set)
-never-both set (Coarse w0) h = unemptied set _ (empty-low set _ h refl)
+never-both set (Coarse w0) h = unemptied set (gatesOf set (Coarse w0)) (empty-low set (gatesOf set (Coarse w0)) h refl)
 never-both set (Fine w0) h = unemptied set _ (empty-low set _ h refl)
 never-both set Hold h = unfilled set shut (shut-fills set)
 never-both set (Settle w0 n) h = unfilled set shut (shut-fills set)
@@ -273,7 +276,7 @@ never-both set (DoseCoarse wH) h = unfilled set _ (fill-high set _ (two-high (se
 never-both set (DoseFine wH) h = unfilled set _ (fill-high set _ (two-high (set .algorithm) h))
 never-both set (DoseSettle wH n) h = unfilled set shut (shut-fills set)
 
--- ---- no filling gate is open above the capacity
+-- no filling gate is open above the capacity
 
 -- the phases that fill
 abbrev fills : Phase → Bool
@@ -375,7 +378,7 @@ over-unfilled set p t r b net over = decide (fillingOpen set (stepOf set p t .ga
     decide true h = sym (h refl) ∙ over-not (set .capacity) (t .f .v -ℤ stepOf set p t .z .v) over
     decide false h = refl
 
--- ---- what a phase keeps, and the amount
+-- what a phase keeps, and the amount
 
 or-right : (a b : Bool) → (a || b) ≡ false → b ≡ false
 or-right true b h = true-false h

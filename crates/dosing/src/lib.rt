@@ -7,7 +7,7 @@ ghost use lib.Dec.{eqb};
 ghost use lib.IntN.{pos, negℤ, _-ℤ_};
 ghost use lib.Signed.{ltZ, leZ};
 ghost use Rattle.dosing.specs.Rules.{gates, shut, to, complete, reachedWf, reachedWc, notBelowZero, nearZero, zeroed, full, coarseStage, fineStage, fillBegins, readyToFill, fill, hold, settleEnds, dischargeOpens, settle, amountOf, discharge, load, calm, doseCoarse, doseFine, doseSettle, readyToDose, waits, ready, stepOf};
-ghost use Rattle.dosing.specs.declared.Phase.the-variants.{Coarse, Fine, Discharge, Load, DoseCoarse, DoseFine};
+ghost use Rattle.dosing.specs.declared.Phase.the-variants.{Coarse, Fine, Load, DoseCoarse, DoseFine};
 
 // A weight in display units.
 pub struct Units {
@@ -167,17 +167,24 @@ fn outputs(one: bool, two: bool, three: bool) -> Gates
     }
 }
 
-// The phase goes on or changes, and no dose completes.
-fn to(phase: Phase, g: Gates, t: Seen) -> Moved
-    ensures { λ r. ⌜ r ≡ to phase g t ⌝ }
+// A phase, the outputs and a dose; Z is as it was.
+fn outcome(phase: Phase, g: Gates, d: Dose, t: Seen) -> Moved
+    ensures { λ r. ⌜ r ≡ record { phase = phase; z = t .z; gates = g; dose = d } ⌝ }
 {
     let z = t.z;
     Moved {
         phase: phase,
         z: z,
         gates: g,
-        dose: Dose::Nothing,
+        dose: d,
     }
+}
+
+// The phase goes on or changes, and no dose completes.
+fn to(phase: Phase, g: Gates, t: Seen) -> Moved
+    ensures { λ r. ⌜ r ≡ to phase g t ⌝ }
+{
+    outcome(phase, g, Dose::Nothing, t)
 }
 
 // The same with all gates shut.
@@ -192,17 +199,12 @@ fn rests(phase: Phase, t: Seen) -> Moved
 fn completes(amount: u32, settled: bool, t: Seen) -> Moved
     ensures { λ r. ⌜ r ≡ complete amount settled t ⌝ }
 {
-    let z = t.z;
     let g = outputs(false, false, false);
-    Moved {
-        phase: Phase::Ready,
-        z: z,
-        gates: g,
-        dose: Dose::Complete {
-            amount: amount,
-            settled: settled,
-        },
-    }
+    let d = Dose::Complete {
+        amount: amount,
+        settled: settled,
+    };
+    outcome(Phase::Ready, g, d, t)
 }
 
 // Fill, coarse stage: 1 open, and 2 open exactly if o = 1.
@@ -220,19 +222,6 @@ fn fine_filling(w0: Units, t: Seen) -> Moved
 {
     let g = outputs(false, true, false);
     to(Phase::Fine { w0: w0 }, g, t)
-}
-
-// Discharge: 3 open.
-fn discharging(w0: Units, ws: Units, settled: bool, t: Seen) -> Moved
-    ensures { λ r. ⌜ r ≡ to (Discharge w0 ws settled) (gates false false true) t ⌝ }
-{
-    let g = outputs(false, false, true);
-    let p = Phase::Discharge {
-        w0: w0,
-        ws: ws,
-        settled: settled,
-    };
-    to(p, g, t)
 }
 
 // Load: 3 open.
@@ -385,7 +374,13 @@ fn discharge_opens(w0: Units, t: Seen) -> Moved
     ensures { λ r. ⌜ r ≡ dischargeOpens w0 t ⌝ }
 {
     let w = t.w;
-    discharging(w0, w, t.stable, t)
+    let p = Phase::Discharge {
+        w0: w0,
+        ws: w,
+        settled: t.stable,
+    };
+    let g = outputs(false, false, true);
+    outcome(p, g, Dose::Nothing, t)
 }
 
 // AL1: Settle, at tick number n before this tick.
@@ -420,7 +415,13 @@ fn discharge(set: Settings, w0: Units, ws: Units, settled: bool, t: Seen) -> Mov
         let amount = amount_of(set, w0, ws, w);
         completes(amount, settled, t)
     } else {
-        discharging(w0, ws, settled, t)
+        let p = Phase::Discharge {
+            w0: w0,
+            ws: ws,
+            settled: settled,
+        };
+        let g = outputs(false, false, true);
+        to(p, g, t)
     }
 }
 

@@ -1,9 +1,9 @@
 use mathlib.Core.Path.{_≡_}
+use borrow.Author.Needs.{needs}
 use Rattle.laws.specs.Pick.{pick-true, pick-false, so}
 use Rattle.dosing.specs.Rules.{reachedWf, reachedWc, coarseStage}
-use borrow.Author.Needs.{needs}
-use Rattle.dosing.proofs.coarse_stage.Statement.{statement}
 use Rattle.dosing.proofs.coarse_stage.Tie as tie
+use Rattle.dosing.proofs.coarse_stage.Statement.{statement}
 
 widened-requires : tie.Need-widened-requires
 widened-requires c κs = search needs

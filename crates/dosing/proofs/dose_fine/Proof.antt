@@ -1,10 +1,10 @@
 use mathlib.Core.Path.{_≡_}
 use lib.IntN.{_-ℤ_}
+use borrow.Author.Needs.{needs}
 use Rattle.laws.specs.Pick.{pick-true, pick-false, so}
 use Rattle.dosing.specs.Rules.{reachedWf, doseFine}
-use borrow.Author.Needs.{needs}
-use Rattle.dosing.proofs.dose_fine.Statement.{statement}
 use Rattle.dosing.proofs.dose_fine.Tie as tie
+use Rattle.dosing.proofs.dose_fine.Statement.{statement}
 
 difference-requires : tie.Need-difference-requires
 difference-requires c κs = search needs

@@ -1,11 +1,11 @@
+use Prim.Native.Nat.{_+_}
+use native.Mathlib.Omega.{arith}
+use borrow.Author.Needs.{needs}
 use Rattle.laws.specs.Pick.{pick-true, pick-false, so}
 use Rattle.dosing.specs.Rules.{doseSettle}
 use Rattle.dosing.specs.Laws.{settle-later}
-use native.Mathlib.Omega.{arith}
-use Prim.Native.Nat.{_+_}
-use borrow.Author.Needs.{needs}
-use Rattle.dosing.proofs.dose_settle.Statement.{statement}
 use Rattle.dosing.proofs.dose_settle.Tie as tie
+use Rattle.dosing.proofs.dose_settle.Statement.{statement}
 
 settle-ends-requires : tie.Need-settle-ends-requires
 settle-ends-requires c κs = search needs

@@ -1,8 +1,8 @@
+use borrow.Author.Needs.{needs}
 use Rattle.laws.specs.Pick.{pick-true, pick-false, so}
 use Rattle.dosing.specs.Rules.{fill}
-use borrow.Author.Needs.{needs}
-use Rattle.dosing.proofs.fill.Statement.{statement}
 use Rattle.dosing.proofs.fill.Tie as tie
+use Rattle.dosing.proofs.fill.Statement.{statement}
 
 fill-stops-requires : tie.Need-fill-stops-requires
 fill-stops-requires c κs = search needs

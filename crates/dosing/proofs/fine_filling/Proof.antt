@@ -1,6 +1,6 @@
 use borrow.Author.Needs.{needs}
-use Rattle.dosing.proofs.fine_filling.Statement.{statement}
 use Rattle.dosing.proofs.fine_filling.Tie as tie
+use Rattle.dosing.proofs.fine_filling.Statement.{statement}
 
 outputs-requires : tie.Need-outputs-requires
 outputs-requires c κs = search needs

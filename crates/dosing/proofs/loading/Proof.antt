@@ -1,6 +1,6 @@
 use borrow.Author.Needs.{needs}
-use Rattle.dosing.proofs.loading.Statement.{statement}
 use Rattle.dosing.proofs.loading.Tie as tie
+use Rattle.dosing.proofs.loading.Statement.{statement}
 
 outputs-requires : tie.Need-outputs-requires
 outputs-requires c κs = search needs

@@ -1,11 +1,11 @@
 use mathlib.Core.Path.{_≡_}
 use lib.IntN.{pos}
 use lib.Signed.{ltZ}
+use borrow.Author.Needs.{needs}
 use Rattle.laws.specs.Pick.{pick-true, pick-false, so}
 use Rattle.dosing.specs.Rules.{readyToDose}
-use borrow.Author.Needs.{needs}
-use Rattle.dosing.proofs.ready_to_dose.Statement.{statement}
 use Rattle.dosing.proofs.ready_to_dose.Tie as tie
+use Rattle.dosing.proofs.ready_to_dose.Statement.{statement}
 
 widened-requires : tie.Need-widened-requires
 widened-requires c κs = search needs

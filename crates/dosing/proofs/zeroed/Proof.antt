@@ -1,8 +1,8 @@
+use borrow.Author.Needs.{needs}
 use Rattle.laws.specs.Pick.{pick-true, pick-false, so}
 use Rattle.dosing.specs.Rules.{zeroed}
-use borrow.Author.Needs.{needs}
-use Rattle.dosing.proofs.zeroed.Statement.{statement}
 use Rattle.dosing.proofs.zeroed.Tie as tie
+use Rattle.dosing.proofs.zeroed.Statement.{statement}
 
 near-zero-requires : tie.Need-near-zero-requires
 near-zero-requires c κs = search needs
