@@ -24,7 +24,7 @@ use Rattle.frame.specs.declared.Wrote.the-variants as W
 use Rattle.frame.specs.declared.Found.{Found}
 use Rattle.frame.specs.declared.Found.the-variants as F
 use Rattle.frame.specs.declared.Read.{Read}
-use Rattle.frame.proofs.Answers.{hands-refused, hands-done}
+use Rattle.frame.specs.AnswerLaws.{hands-refused, hands-done}
 use Rattle.frame.proofs.echo_frame.Statement.{statement}
 use Rattle.frame.proofs.echo_frame.Tie as tie
 

@@ -12,7 +12,7 @@ use Rattle.paper.specs.Answer.{done, refused, inRoom}
 use Rattle.paper.specs.Numbers.{R8, R14}
 use Rattle.frame.specs.Frame.{frame, framable, writeOf}
 use Rattle.frame.specs.FrameLaws.{framable-is}
-use Rattle.frame.proofs.Answers.{fills-refused, fills-done}
+use Rattle.frame.specs.AnswerLaws.{fills-refused, fills-done}
 use Rattle.frame.proofs.write_frame.Statement.{statement}
 use Rattle.frame.proofs.write_frame.Tie as tie
 
