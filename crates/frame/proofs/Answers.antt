@@ -1,11 +1,11 @@
 -- The reader's answer meets its contract where the rule's answer is known. Assumes nothing.
-use mathlib.Core.Path.{_≡_, refl}
+use mathlib.Core.Path.{_≡_}
 use mathlib.Core.List.{List, _++_}
 use Prim.Native.Nat.{ℕ, _-_}
 use lib.ListN.{length, replicate}
-use Rattle.paper.specs.Answer.{Answer, done, refused, told, bytesIn}
+use Rattle.paper.specs.Answer.{done, refused, told, bytesIn}
 use Rattle.frame.specs.Read.{Finished, readOf}
-use Rattle.frame.specs.Says.{saysFound, placeAndLength, bytesOf, Reads}
+use Rattle.frame.specs.Says.{saysFound, placeAndLength, Reads}
 use Rattle.frame.specs.declared.Read.{Read}
 
 module _ {s : List ℕ} {r : Read} where

@@ -1,5 +1,5 @@
 -- Reading on, and what a finished body is: 1 to 255 bytes, and where the answer is done, long enough and of check 0. Assumes nothing.
-use mathlib.Core.Path.{_≡_, refl, ap, ap₂, _∙_, sym, subst}
+use mathlib.Core.Path.{_≡_, refl, _∙_, sym, subst}
 use mathlib.Core.Bool.{Bool, true, false, not, _||_}
 use mathlib.Core.List.{List, [], _∷_, _++_}
 use Prim.Native.Nat.{ℕ, suc, _+_, _<_, _≤_}
@@ -7,11 +7,10 @@ use native.Mathlib.Nat.{add-zero, add-suc, suc-add}
 use native.Mathlib.Omega.{arith}
 use lib.Dec.{ltb, eqb}
 use lib.ListN.{length, length-append}
-use borrow.Author.Tests.{lt-ltb, ltb-true, ltb-false, eqb-true}
+use borrow.Author.Tests.{lt-ltb, ltb-true, eqb-true}
 use Rattle.laws.specs.Pick.{pick, pick-all, pick-t, pick-f}
 use Rattle.laws.specs.Whole.{false-true}
-use Rattle.paper.specs.Answer.{Answer, done, refused}
-use Rattle.paper.specs.Numbers.{R6, R9}
+use Rattle.paper.specs.Answer.{done, refused}
 use Rattle.frame.specs.Check.{check}
 use Rattle.frame.specs.Frame.{extended}
 use Rattle.frame.specs.Read.{Reading, seek, lead, body, mark, ended, grown, step, run, readAll, tooShort, bad, Finished, judged, answerOf, readOf}

@@ -1,9 +1,9 @@
 -- Splitting what was built gives it back, whatever the check byte. Assumes nothing.
-use mathlib.Core.Path.{_≡_, refl, ap, _∙_, sym}
+use mathlib.Core.Path.{_≡_, _∙_}
 use mathlib.Core.List.{List, [], _∷_, _++_}
 use Prim.Native.Nat.{ℕ, _+_, _-_, _*_, _/_, _%_, _<_, _≤_}
 use native.Mathlib.Omega.{arith}
-use lib.ListN.{length, take, drop, length-append}
+use lib.ListN.{length, length-append}
 use lib.Seq.{take-at}
 use borrow.Author.Tests.{ne-eqb, le-ltb}
 use Rattle.laws.specs.Pick.{pick-true, pick-false, pick-f}
@@ -18,11 +18,6 @@ use Rattle.message.specs.declared.Form.the-variants.{Address, Serial}
 unfoldable pub Proper : Form → Type 0
 Proper (Address a) = a ≡ 0 → ⊥
 Proper (Serial n) = n < 0x1000000
-
-pub address-least : (form : Form) → 1 ≤ length (addressBytes form)
-unfolding addressBytes
-address-least (Address a) = omega arith
-address-least (Serial n) = omega arith
 
 pub address-most : (form : Form) → length (addressBytes form) ≤ 4
 unfolding addressBytes

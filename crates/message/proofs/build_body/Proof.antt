@@ -1,14 +1,13 @@
 -- The stores leave the body and the zeros behind it; whether it can be framed is asked of those bytes.
-use mathlib.Core.Path.{_≡_, refl, sym, ap, _∙_}
+use mathlib.Core.Path.{_≡_, sym, ap, _∙_}
 use mathlib.Core.List.{List, [], _∷_, _++_}
-use mathlib.Core.Bool.{true, false}
+use mathlib.Core.Bool.{false}
 use Prim.Native.Nat.{ℕ, zero, suc, _+_, _-_, _≤_, _<_}
-use native.Mathlib.Nat.{zero-add}
 use native.Mathlib.Numerals.{add-one}
 use native.Mathlib.Omega.{arith}
 use borrow.Author.Needs.{needs}
 use borrow.Author.Tests.{not-true, not-false}
-use lib.ListN.{length, take, drop, set, replicate, length-set, length-replicate, length-append}
+use lib.ListN.{length, take, drop, set, replicate, length-set}
 use lib.Seq.{sets, length-sets, take-at, length-take-le}
 use Rattle.laws.specs.Pick.{pick-t, pick-f, so}
 use Rattle.laws.specs.Over.{over, sets-append, sets-over}
@@ -17,7 +16,7 @@ use Rattle.frame.specs.FrameLaws.{framable-long}
 use Rattle.frame.specs.AnswerLaws.{hands-refused, hands-done}
 use Rattle.frame.specs.Puts.{Puts}
 use Rattle.message.specs.Message.{addressBytes, bodyOf, buildOf}
-use Rattle.message.specs.BuildSplit.{address-least, address-most, body-length}
+use Rattle.message.specs.BuildSplit.{address-most, body-length}
 use Rattle.message.specs.declared.Form.{Form}
 use Rattle.message.proofs.build_body.Statement.{statement}
 use Rattle.message.proofs.build_body.Tie as tie
@@ -81,8 +80,10 @@ no-body-requires c κs = search needs
 returns : tie.Need-returns
 unfolding buildOf
 returns c =
-    let long = too-long _ _ _ _ _ (c .before .before .before .put-address .ensures) (c .before .if1 .taken) in
-    rw (c .no-body .ensures .0) (hands-refused (pick-f _ _ _ long) 254 (c .no-body .ensures .1))
+    let put = c .before .before .before .put-address in
+    let values = c .before .before .before .before .before .before .args .values .now in
+    let h : 253 - put .result < length values = omega arith in
+    rw (c .no-body .ensures .0) (hands-refused (pick-f _ _ _ (too-long _ _ _ values _ (put .ensures) h)) 254 (c .no-body .ensures .1))
 
 array-write-bytes : tie.Need-array-write-bytes
 array-write-bytes c = omega (arith, c .before .before .put-address .ensures .after, address-most (c .before .before .before .before .before .args .form))
@@ -100,7 +101,10 @@ put-all-requires c κs =
     simp length-set (omega (arith, put .after, address-most (c .before .before .before .before .before .before .args .form)))
 
 at-end : (c : tie.After-put-all) → Stored (bodyOf (c .before .before .before .before .before .before .before .args .form) (c .before .before .before .before .before .before .before .args .operation) (c .before .before .before .before .before .before .before .args .values .now)) (c .put-all .last .0) (c .before .before .before .before .put-address .result + 1 + length (c .before .before .before .before .before .before .before .args .values .now))
-at-end c = stored _ _ _ _ _ (c .before .before .before .before .put-address .ensures) _ (c .before .before .if1 .left) (c .put-all .ensures)
+at-end c =
+    let put = c .before .before .before .before .put-address in
+    let h : length (c .before .before .before .before .before .before .before .args .values .now) ≤ 253 - put .result = omega arith in
+    stored _ _ _ _ _ (put .ensures) _ h (c .put-all .ensures)
 
 add-n : tie.Need-add-n
 add-n c = let k = at-end (c .before) in omega (arith, k .small)
