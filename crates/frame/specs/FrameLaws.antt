@@ -1,13 +1,13 @@
 -- How long a frame is, and what it is to be framable. Assumes nothing.
-use mathlib.Core.Path.{_≡_, refl, ap, ap₂, _∙_, sym}
+use mathlib.Core.Path.{_≡_, refl, ap, _∙_, sym}
 use mathlib.Core.Bool.{Bool, true, false, not, _&&_}
 use mathlib.Core.List.{List, [], _∷_, _++_, append-assoc, append-nil}
 use Prim.Native.Nat.{ℕ, _+_, _*_, _<_, _≤_}
 use native.Mathlib.Omega.{arith}
 use lib.Dec.{leb, eqb}
 use lib.ListN.{length, getD, length-append}
-use borrow.Author.Tests.{eqb-false, leb-true, eq-eqb, ne-eqb, lt-leb, not-true}
-use Rattle.laws.specs.Pick.{pick, pick-all, pick-t, pick-f}
+use borrow.Author.Tests.{eqb-false, leb-true, eq-eqb, ne-eqb, lt-leb}
+use Rattle.laws.specs.Pick.{pick-all, pick-t, pick-f}
 use Rattle.laws.specs.Whole.{false-true}
 use Rattle.frame.specs.Check.{check}
 use Rattle.frame.specs.Frame.{sentByte, sent, frame, extended, fewest, framable}

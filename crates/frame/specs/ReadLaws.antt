@@ -1,5 +1,5 @@
 -- Reading on, and what a finished body is: 1 to 255 bytes, and where the answer is done, long enough and of check 0. Assumes nothing.
-use mathlib.Core.Path.{_≡_, refl, ap, ap₂, _∙_, sym, subst}
+use mathlib.Core.Path.{_≡_, refl, _∙_, sym, subst}
 use mathlib.Core.Bool.{Bool, true, false, not, _||_}
 use mathlib.Core.List.{List, [], _∷_, _++_}
 use Prim.Native.Nat.{ℕ, suc, _+_, _<_, _≤_}
@@ -7,12 +7,12 @@ use native.Mathlib.Nat.{add-zero, add-suc, suc-add}
 use native.Mathlib.Omega.{arith}
 use lib.Dec.{ltb, eqb}
 use lib.ListN.{length, length-append}
-use borrow.Author.Tests.{ltb-true, ltb-false, eqb-true}
+use borrow.Author.Tests.{lt-ltb, ltb-true, eqb-true}
 use Rattle.laws.specs.Pick.{pick, pick-all, pick-t, pick-f}
 use Rattle.laws.specs.Whole.{false-true}
-use Rattle.paper.specs.Answer.{Answer, done, refused}
-use Rattle.paper.specs.Numbers.{R6, R9}
+use Rattle.paper.specs.Answer.{done, refused}
 use Rattle.frame.specs.Check.{check}
+use Rattle.frame.specs.Frame.{extended}
 use Rattle.frame.specs.Read.{Reading, seek, lead, body, mark, ended, grown, step, run, readAll, tooShort, bad, Finished, judged, answerOf, readOf}
 
 pub run-append : (r : Reading) (i : ℕ) (xs ys : List ℕ) → run r i (xs ++ ys) ≡ run (run r i xs) (i + length xs) ys
@@ -67,6 +67,13 @@ run-within r i (b ∷ bs) w = run-within (step r i b) (suc i) bs (step-within r 
 pub ended-sized : (s l : List ℕ) (k : ℕ) → readAll s ≡ ended l k → Sized l
 unfolding readAll Within
 ended-sized s l k e = subst Within e (run-within seek 0 s tt)
+
+-- no body under 3 bytes is long enough
+pub short-three : (l : List ℕ) → length l < 3 → tooShort l ≡ true
+unfolding tooShort
+short-three l h =
+    let least : 3 ≤ pick (extended l) 6 3 = pick-all (λ (n : ℕ). 3 ≤ n) (extended l) (omega arith) (omega arith) in
+    lt-ltb (length l) (pick (extended l) 6 3) (omega arith)
 
 -- a body that the reader hands over
 pub record Whole (l : List ℕ) : Type 0 where

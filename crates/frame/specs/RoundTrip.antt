@@ -1,21 +1,21 @@
 -- What the writer wrote the reader reads back: the body with its check byte, at the frame's last byte, whatever bytes follow, and behind any bytes that hold no finished body and do not end in an FF inside one. Assumes nothing.
 use mathlib.Core.Path.{_≡_, refl, ap, ap₂, _∙_, sym}
-use mathlib.Core.Bool.{Bool, true, false, not, _||_}
+use mathlib.Core.Bool.{Bool, true, false}
 use mathlib.Core.List.{List, [], _∷_, _++_, append-assoc, append-nil}
 use Prim.Native.Nat.{ℕ, suc, _+_, _-_, _<_, _≤_}
 use native.Mathlib.Nat.{zero-add, add-zero, add-assoc}
 use native.Mathlib.Numerals.{add-one}
 use native.Mathlib.Omega.{arith}
-use lib.Dec.{ltb, eqb}
+use lib.Dec.{eqb}
 use lib.ListN.{length, length-append}
-use borrow.Author.Tests.{lt-ltb, le-ltb, eq-eqb, ne-eqb, eqb-true, eqb-false}
-use Rattle.laws.specs.Pick.{pick, pick-t, pick-f, pick-map, picks}
-use Rattle.paper.specs.Answer.{Answer, done}
+use borrow.Author.Tests.{lt-ltb, le-ltb, ne-eqb, eqb-true}
+use Rattle.laws.specs.Pick.{pick, pick-f, pick-map}
+use Rattle.paper.specs.Answer.{done}
 use Rattle.frame.specs.Check.{check}
 use Rattle.frame.specs.CheckLaws.{check-zero}
 use Rattle.frame.specs.Frame.{sentByte, sent, frame, extended, fewest, framable}
-use Rattle.frame.specs.FrameLaws.{sent-FF, sent-plain, Framable, framable-is, fewest-two}
-use Rattle.frame.specs.Read.{Reading, seek, lead, body, mark, ended, grown, step, run, readAll, tooShort, bad, Finished, judged, answerOf, readOf}
+use Rattle.frame.specs.FrameLaws.{sent-plain, framable-is, fewest-two}
+use Rattle.frame.specs.Read.{Reading, seek, lead, body, mark, ended, grown, step, run, readAll, tooShort, bad, judged, answerOf, readOf}
 use Rattle.frame.specs.ReadLaws.{run-append, run-ended}
 
 -- reading has finished no body and has not just met an FF inside one

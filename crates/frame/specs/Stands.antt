@@ -1,9 +1,8 @@
--- What the reader's state and buffer stand for, and what a run of stores leaves. Assumes nothing.
+-- What the reader's state and buffer stand for. Assumes nothing.
 use mathlib.Core.Path.{_≡_}
 use mathlib.Core.List.{List}
-use Prim.Native.Nat.{ℕ, _+_, _≤_}
+use Prim.Native.Nat.{ℕ, _≤_}
 use lib.ListN.{length, take}
-use lib.Seq.{sets}
 use Rattle.frame.specs.Read.{Reading, seek, lead, body, mark, ended}
 use Rattle.frame.specs.declared.State.{State}
 use Rattle.frame.specs.declared.State.the-variants as S
@@ -32,8 +31,3 @@ pub record Held (st : State) (buf : List ℕ) : Type 0 where
 pub record Stands (st : State) (buf : List ℕ) (r : Reading) : Type 0 where
   pub reading : stands st buf ≡ r
   pub held : Held st buf
-
--- bytes are put at a place; what follows them is put next
-pub record Puts (bytes old new : List ℕ) (at next : ℕ) : Type 0 where
-  pub after : next ≡ at + length bytes
-  pub left : new ≡ sets old at bytes

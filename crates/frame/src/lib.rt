@@ -9,7 +9,8 @@ ghost use Rattle.frame.specs.Check.{check, enter};
 ghost use Rattle.frame.specs.Frame.{sentByte, sent, frame, framable, writeOf, echoOf};
 ghost use Rattle.frame.specs.Read.{grown, step, readAll, tooShort, bad};
 ghost use Rattle.frame.specs.Says.{saysWrote, saysEchoed, Reads};
-ghost use Rattle.frame.specs.Stands.{stands, Held, Stands, Puts};
+ghost use Rattle.frame.specs.Puts.{Puts};
+ghost use Rattle.frame.specs.Stands.{stands, Held, Stands};
 
 mod table;
 

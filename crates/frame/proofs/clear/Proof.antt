@@ -1,10 +1,10 @@
 -- The zeros from place i on are still to be stored.
-use mathlib.Core.Path.{_≡_, refl, sym, ap, _∙_}
+use mathlib.Core.Path.{_≡_, refl, sym, _∙_}
 use mathlib.Core.List.{List, _++_, append-nil}
 use Prim.Native.Nat.{ℕ, suc, _≤_, _<_, _-_, _+_}
 use native.Mathlib.Omega.{arith}
 use native.Mathlib.Numerals.{add-one}
-use lib.ListN.{length, take, drop, set, replicate, length-set, length-replicate, drop-of-length-le}
+use lib.ListN.{length, take, set, replicate, length-set, length-replicate, drop-of-length-le}
 use lib.Seq.{sets, sets-eq}
 use Rattle.frame.proofs.clear.Statement.{statement}
 use Rattle.frame.proofs.clear.Tie as tie

@@ -3,7 +3,7 @@ use mathlib.Core.Path.{_≡_, refl, sym, ap, _∙_}
 use mathlib.Core.Bool.{Bool, true, false}
 use mathlib.Core.List.{List, [], _∷_, _++_, append-assoc, append-nil}
 use mathlib.Core.Logic.{⊎-elim}
-use Prim.Native.Nat.{ℕ, suc, _+_, _-_, _≤_, _<_}
+use Prim.Native.Nat.{ℕ, suc, _+_, _-_, _≤_}
 use native.Mathlib.Omega.{arith}
 use borrow.Author.Needs.{needs}
 use borrow.Author.Tests.{le-leb}
@@ -11,20 +11,18 @@ use lib.ListN.{length, take, drop, set, replicate, length-append}
 use lib.Seq.{take-at, set-at, length-take-le}
 use Rattle.laws.specs.Pick.{pick-t, pick-f}
 use Rattle.laws.specs.Over.{over}
-use Rattle.paper.specs.Answer.{done, refused, told, bytesIn, inRoom, leaves, Fills, Hands}
-use Rattle.paper.specs.Numbers.{R14}
+use Rattle.paper.specs.Answer.{done, told, bytesIn, inRoom, leaves, Fills, Hands}
 use Rattle.frame.specs.Check.{check}
 use Rattle.frame.specs.Frame.{frame, framable, writeOf, echoOf}
 use Rattle.frame.specs.FrameLaws.{frame-most, framable-is}
 use Rattle.frame.specs.Read.{readOf}
 use Rattle.frame.specs.RoundTrip.{round-trip-first}
-use Rattle.frame.specs.Says.{saysWrote, saysFound, saysEchoed, wrote-one, found-one, Reads}
+use Rattle.frame.specs.Says.{saysWrote, saysEchoed, wrote-one, found-one, Reads}
 use Rattle.frame.specs.declared.Wrote.{Wrote}
 use Rattle.frame.specs.declared.Wrote.the-variants as W
-use Rattle.frame.specs.declared.Found.{Found}
 use Rattle.frame.specs.declared.Found.the-variants as F
 use Rattle.frame.specs.declared.Read.{Read}
-use Rattle.frame.proofs.Answers.{hands-refused, hands-done}
+use Rattle.frame.specs.AnswerLaws.{hands-refused, hands-done}
 use Rattle.frame.proofs.echo_frame.Statement.{statement}
 use Rattle.frame.proofs.echo_frame.Tie as tie
 

@@ -1,14 +1,12 @@
-use mathlib.Core.Path.{_≡_, refl, sym, ap, _∙_}
-use mathlib.Core.Bool.{true, false}
-use mathlib.Core.List.{List, [], _∷_, _++_}
+use mathlib.Core.Path.{_≡_, sym, ap, _∙_}
+use mathlib.Core.Bool.{false}
+use mathlib.Core.List.{List, _++_}
 use Prim.Native.Nat.{ℕ, _≤_, _-_}
 use native.Mathlib.Omega.{arith}
 use borrow.Author.Needs.{needs}
 use lib.ListN.{length, take, replicate}
 use lib.Seq.{length-take-le}
 use Rattle.laws.specs.Pick.{pick-t, pick-f, so}
-use Rattle.paper.specs.Answer.{Answer, done, refused}
-use Rattle.paper.specs.Numbers.{R6, R9}
 use Rattle.frame.specs.Read.{readAll, bad, answerOf, judged, readOf}
 use Rattle.frame.specs.Says.{saysFound, Reads}
 use Rattle.frame.specs.declared.State.{State}

@@ -1,11 +1,10 @@
 -- What is left to read from place i on gives the whole reading.
-use mathlib.Core.Path.{_≡_, refl, sym, ap, _∙_}
-use mathlib.Core.List.{List}
-use Prim.Native.Nat.{ℕ, _+_, _-_, _<_, _≤_}
+use mathlib.Core.Path.{_≡_, refl, sym, _∙_}
+use Prim.Native.Nat.{_+_, _-_, _≤_}
 use native.Mathlib.Omega.{arith}
 use borrow.Author.Needs.{needs}
-use lib.ListN.{length, getD, take, drop, drop-of-length-le}
-use Rattle.frame.specs.Read.{Reading, ended, run, readAll}
+use lib.ListN.{length, take, drop, drop-of-length-le}
+use Rattle.frame.specs.Read.{ended, run, readAll}
 use Rattle.frame.specs.ReadLaws.{run-ended}
 use Rattle.frame.specs.Stands.{stands, fits, Held}
 use Rattle.frame.proofs.Laws.{run-step}

@@ -1,7 +1,5 @@
 -- One reading step a way through the match.
-use mathlib.Core.Path.{_≡_, _∙_}
-use Prim.Native.Nat.{_≤_}
-use native.Mathlib.Omega.{arith}
+use mathlib.Core.Path.{_∙_}
 use borrow.Author.Needs.{needs}
 use Rattle.laws.specs.Pick.{picks, pick-true}
 use Rattle.frame.specs.Read.{step, grown}

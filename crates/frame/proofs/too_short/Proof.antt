@@ -1,21 +1,15 @@
 use mathlib.Core.Path.{sym}
-use Prim.Native.Nat.{ℕ, _≤_, _<_}
-use native.Mathlib.Omega.{arith}
 use borrow.Author.Needs.{needs}
-use borrow.Author.Tests.{lt-ltb, le-ltb, eq-eqb, ne-eqb}
-use lib.ListN.{length}
-use Rattle.laws.specs.Pick.{pick, pick-all, pick-true, pick-false}
+use borrow.Author.Tests.{le-ltb, eq-eqb, ne-eqb}
+use Rattle.laws.specs.Pick.{pick-true, pick-false}
 use Rattle.frame.specs.Frame.{extended}
 use Rattle.frame.specs.Read.{tooShort}
+use Rattle.frame.specs.ReadLaws.{short-three}
 use Rattle.frame.proofs.too_short.Statement.{statement}
 use Rattle.frame.proofs.too_short.Tie as tie
 
 returns : tie.Need-returns
-unfolding tooShort
-returns c =
-    let l = c .before .args .body .now in
-    let least : 3 ≤ pick (extended l) 6 3 = pick-all (λ (n : ℕ). 3 ≤ n) (extended l) (omega arith) (omega arith) in
-    sym (lt-ltb (length l) (pick (extended l) 6 3) (omega arith))
+returns c = sym (short-three _ (c .if1 .taken))
 
 shared-slice-read-if2 : tie.Need-shared-slice-read-if2
 shared-slice-read-if2 c = search needs

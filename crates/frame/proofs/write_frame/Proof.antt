@@ -1,5 +1,4 @@
-use mathlib.Core.Path.{_≡_, sym, ap, _∙_}
-use mathlib.Core.Bool.{true, false}
+use mathlib.Core.Path.{_≡_, _∙_}
 use mathlib.Core.List.{[]}
 use Prim.Native.Nat.{_≤_, _<_}
 use native.Mathlib.Omega.{arith}
@@ -8,11 +7,11 @@ use borrow.Author.Needs.{needs}
 use borrow.Author.Tests.{le-leb, lt-leb, not-true, not-false}
 use Rattle.laws.specs.Pick.{pick-t, pick-f, so}
 use Rattle.laws.specs.Over.{sets-over}
-use Rattle.paper.specs.Answer.{done, refused, inRoom}
-use Rattle.paper.specs.Numbers.{R8, R14}
+use Rattle.paper.specs.Answer.{refused, inRoom}
+use Rattle.paper.specs.Numbers.{R8}
 use Rattle.frame.specs.Frame.{frame, framable, writeOf}
 use Rattle.frame.specs.FrameLaws.{framable-is}
-use Rattle.frame.proofs.Answers.{fills-refused, fills-done}
+use Rattle.frame.specs.AnswerLaws.{fills-refused, fills-done}
 use Rattle.frame.proofs.write_frame.Statement.{statement}
 use Rattle.frame.proofs.write_frame.Tie as tie
 
