@@ -5,3 +5,4 @@ pub mod Line
 pub mod Sound
 pub mod Says
 pub mod Cases
+pub mod Parts

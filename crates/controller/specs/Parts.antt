@@ -1,0 +1,69 @@
+-- Rules of a tick over the parts of a controller that they look at, and what a step's function gives. Assumes nothing.
+use mathlib.Core.Path.{_≡_, refl}
+use mathlib.Core.Bool.{Bool, not, _&&_, _||_}
+use mathlib.Core.List.{List, [], _∷_}
+use Prim.Native.Nat.{ℕ, _+_, _≤_}
+use lib.Dec.{leb, ltb, eqb}
+use lib.IntN.{natAbs}
+use Rattle.laws.specs.Pick.{pick}
+use Rattle.settings.specs.declared.Settings.{Settings}
+use Rattle.window.specs.Window.{samplesOf}
+use Rattle.dosing.specs.declared.Units.{Units}
+use Rattle.dosing.specs.declared.Gates.{Gates}
+use Rattle.controller.specs.Tick.{Result, Told, input, runAfter, runsAfter, equalZ, none, calmRun, filterOf, startOf}
+use Rattle.controller.specs.Says.{saysTick}
+use Rattle.controller.specs.declared.Controller.{Controller}
+use Rattle.controller.specs.declared.Runs.{Runs}
+use Rattle.controller.specs.declared.Ticked.{Ticked}
+
+-- the next controller and the answer are the rule's
+pub record Gives (rule : Result Told) (r : Ticked) : Type 0 where
+  pub next : r .next ≡ rule .next
+  pub says : saysTick (r .answer) ≡ rule .answer
+
+-- no run has reached 64
+pub record Short (r : Runs) : Type 0 where
+  pub one : r .one ≤ 63
+  pub two : r .two ≤ 63
+  pub three : r .three ≤ 63
+
+-- F and Z are so small that w is an i32
+pub record Small (f z : Units) : Type 0 where
+  pub mean : natAbs (f .v) ≤ 900000
+  pub zero : natAbs (z .v) ≤ 24998
+
+unfoldable pub runsBy : Settings → Gates → ℕ → Runs → Runs
+runsBy set g inputs runs =
+    pick (eqb (set .algorithm) 0) runs
+    (record {
+      one = runAfter (set .in1) (g .one) (input 1 inputs) (runs .one);
+      two = runAfter (set .in2) (g .two) (input 2 inputs) (runs .two);
+      three = runAfter (set .in3) (g .three) (input 3 inputs) (runs .three);
+    })
+
+pub runs-by : (c : Controller) → runsBy (c .set) (c .gates) (c .inputs) (c .runs) ≡ runsAfter c
+unfolding runsBy runsAfter
+runs-by c = refl
+
+unfoldable pub filterBy : Settings → Gates → ℕ
+filterBy set g = pick (g .one) (set .p7) (set .p8)
+
+pub filter-by : (c : Controller) → filterBy (c .set) (c .gates) ≡ filterOf c
+unfolding filterBy filterOf
+filter-by c = refl
+
+unfoldable pub startBy : Settings → Bool → ℕ → Bool
+startBy set link inputs = link || (not (leb 3 (set .algorithm)) && input 4 inputs)
+
+pub start-by : (c : Controller) → startBy (c .set) (c .link) (c .inputs) ≡ startOf c
+unfolding startBy startOf
+start-by c = refl
+
+unfoldable pub calmBy : Bool → Units → Units → ℕ → ℕ
+calmBy first f previous s =
+    pick first 0
+    (pick (equalZ (f .v) (previous .v)) (pick (ltb s 4032) (s + 1) 4032) 0)
+
+pub calm-by : (c : Controller) (f : Units) → calmBy (none (samplesOf (c .window))) f (c .f) (c .s) ≡ calmRun c (f .v)
+unfolding calmBy calmRun
+calm-by c f = refl
