@@ -1,34 +1,30 @@
 use borrow.Author.Needs.{needs}
+use Rattle.laws.specs.Pick.{picks, so}
+use Rattle.controller.specs.Parts.{calmBy}
 use Rattle.controller.proofs.tick.calm_run.Statement.{statement}
 use Rattle.controller.proofs.tick.calm_run.Tie as tie
-use Rattle.controller.proofs.tick.calm_run.Reads as reads
-use Rattle.controller.proofs.tick.calm_run.Lts as lts
-use Rattle.controller.proofs.tick.equal.Reads as equal-reads
 
--- src/tick.rt:326:15
 equal-requires : tie.Need-equal-requires
 equal-requires c κs = search needs
 
--- src/tick.rt:327:40
 add-result : tie.Need-add-result
 add-result c = search needs
 
--- src/tick.rt:321:1
 returns : tie.Need-returns
-returns c = ?
+unfolding calmBy
+returns c = search picks
 
--- src/tick.rt:321:1
 returns-2 : tie.Need-returns-2
-returns-2 c = ?
+unfolding calmBy
+returns-2 c = search (picks, so (c .before .before .equal .ensures) (c .before .if2 .taken))
 
--- src/tick.rt:321:1
 returns-3 : tie.Need-returns-3
-returns-3 c = ?
+unfolding calmBy
+returns-3 c = search (picks, so (c .before .before .equal .ensures) (c .before .if2 .taken))
 
--- src/tick.rt:321:1
 returns-4 : tie.Need-returns-4
-returns-4 c = ?
+unfolding calmBy
+returns-4 c = search (picks, so (c .before .equal .ensures) (c .if2 .left))
 
 pub calm-run-spec : {M : Type 1} → statement M
-calm-run-spec =
-    tie.close (tie.spec equal-requires add-result returns returns-2 returns-3 returns-4)
+calm-run-spec = tie.close (tie.spec equal-requires add-result returns returns-2 returns-3 returns-4)

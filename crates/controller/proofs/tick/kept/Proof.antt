@@ -1,17 +1,21 @@
 use borrow.Author.Needs.{needs}
+use mathlib.Core.Path.{ap, _∙_}
+use lib.IntN.{ℤ}
+use mir.Syntax.{w32}
+use mir.Val.{SFits}
+use mir.Facts.{toZ-ofZ}
+use Rattle.window.specs.Window.{pushOf}
 use Rattle.controller.proofs.tick.kept.Statement.{statement}
 use Rattle.controller.proofs.tick.kept.Tie as tie
-use Rattle.controller.proofs.tick.kept.Reads as reads
-use Rattle.controller.proofs.tick.kept.Lts as lts
-use Rattle.window.proofs.Window.push.Reads as push-reads
 
--- src/tick.rt:351:5
+told : (c : tie.After-struct-told) → SFits w32 (c .before .args .x .v)
+told c = search needs
+
 push-requires : tie.Need-push-requires
 push-requires c κs = search needs
 
--- src/tick.rt:347:1
 returns : tie.Need-returns
-returns c = ?
+returns c = c .push .ensures ∙ ap (λ (z : ℤ). pushOf (c .before .before .args .window) z) (toZ-ofZ (told (c .before)))
 
 pub kept-spec : {M : Type 1} → statement M
 kept-spec = tie.close (tie.spec push-requires returns)

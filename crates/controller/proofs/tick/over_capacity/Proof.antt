@@ -1,42 +1,42 @@
 use borrow.Author.Needs.{needs}
+use native.Mathlib.Omega.{arith}
+use mir.Syntax.{w32}
+use mir.Val.{SFits}
+use Rattle.controller.specs.Tick.{overCapacity}
+use Rattle.controller.proofs.Laws.{wide-fits, wide-minus-fits, wide-minus-is, pos-is}
 use Rattle.controller.proofs.tick.over_capacity.Statement.{statement}
 use Rattle.controller.proofs.tick.over_capacity.Tie as tie
-use Rattle.controller.proofs.tick.over_capacity.Reads as reads
-use Rattle.controller.proofs.tick.over_capacity.Lts as lts
 
--- src/tick.rt:92:13
+told-f : (c : tie.After-struct-told) → SFits w32 (c .before .before .args .f .v)
+told-f c = search needs
+
+told-z : (c : tie.After-struct-told2) → SFits w32 (c .before .before .before .before .args .z .v)
+told-z c = search needs
+
 cast-x : tie.Need-cast-x
-cast-x c = ?
+cast-x c = wide-fits (told-f c)
 
--- src/tick.rt:93:13
 cast-y : tie.Need-cast-y
-cast-y c = ?
+cast-y c = wide-fits (told-z c)
 
--- src/tick.rt:94:16
 cast-most : tie.Need-cast-most
 cast-most c = search needs
 
--- src/tick.rt:94:38
 cast-most-2 : tie.Need-cast-most-2
 cast-most-2 c = search needs
 
--- src/tick.rt:94:16
 add-most : tie.Need-add-most
 add-most c = search needs
 
--- src/tick.rt:95:6
 cast-result : tie.Need-cast-result
 cast-result c = search needs
 
--- src/tick.rt:95:21
 sub-result : tie.Need-sub-result
-sub-result c = ?
+sub-result c = wide-minus-fits (told-f (c .before .before .before)) (told-z (c .before))
 
--- src/tick.rt:89:1
 returns : tie.Need-returns
-returns c = ?
+unfolding overCapacity
+returns c = rw (wide-minus-is (told-f (c .before .before .before)) (told-z (c .before)), pos-is _ (omega arith))
 
 pub over-capacity-spec : {M : Type 1} → statement M
-over-capacity-spec =
-    tie.close
-    (tie.spec cast-x cast-y cast-most cast-most-2 add-most cast-result sub-result returns)
+over-capacity-spec = tie.close (tie.spec cast-x cast-y cast-most cast-most-2 add-most cast-result sub-result returns)

@@ -1,15 +1,14 @@
+use mathlib.Core.Path.{ap}
+use Rattle.dosing.specs.Rules.{units}
+use Rattle.controller.proofs.Laws.{minus-fits, minus-is}
 use Rattle.controller.proofs.tick.weight.Statement.{statement}
 use Rattle.controller.proofs.tick.weight.Tie as tie
-use Rattle.controller.proofs.tick.weight.Reads as reads
-use Rattle.controller.proofs.tick.weight.Lts as lts
 
--- src/tick.rt:211:16
 sub-t5 : tie.Need-sub-t5
-sub-t5 c = ?
+sub-t5 c = let p = c .before .before in minus-fits (p .args .f .v) (p .args .z .v) (p .pre .mean) (p .pre .zero)
 
--- src/tick.rt:205:1
 returns : tie.Need-returns
-returns c = ?
+returns c = let p = c .before .before in ap units (minus-is (p .args .f .v) (p .args .z .v) (p .pre .mean) (p .pre .zero))
 
 pub weight-spec : {M : Type 1} → statement M
 weight-spec = tie.close (tie.spec sub-t5 returns)
