@@ -1,18 +1,17 @@
 -- Laws that the proofs of the code cite: weights and their differences in a machine's integers. Assumes nothing.
-use mathlib.Core.Path.{_≡_, refl, sym, ap, _∙_}
-use mathlib.Core.Bool.{Bool, true, false, cond, _||_}
-use Prim.Native.Nat.{ℕ, zero, suc, _+_, _-_, _*_, _^_, _≤_, _<_}
+use mathlib.Core.Path.{_≡_, refl, _∙_}
+use mathlib.Core.Bool.{Bool, true, false, cond}
+use Prim.Native.Nat.{ℕ, suc, _+_, _-_, _^_, _≤_, _<_}
 use native.Mathlib.Omega.{arith}
-use lib.Dec.{leb, ltb}
+use lib.Dec.{ltb}
 use lib.IntN.{ℤ, pos, negsuc, negℤ, natAbs, _-ℤ_, +ℤ-idl}
-use lib.Signed.{mag, ltZ, nonNeg}
+use lib.Signed.{mag, ltZ}
 use mir.Syntax.{w32, w64}
 use mir.Val.{toZ, ofZ, Fits, SFits}
 use mir.Facts.{toZ-ofZ, toZ-pos}
-use borrow.Author.Tests.{leb-false, ltb-true}
+use borrow.Author.Tests.{ltb-true}
 use Rattle.laws.specs.Whole.{abs-sub, fits64, true-false}
-use Rattle.settings.specs.declared.Settings.{Settings}
-use Rattle.dosing.specs.Rules.{notBelowZero, settleEnds}
+use Rattle.dosing.specs.Rules.{notBelowZero}
 
 -- an i32 made an i64
 pub fits-wide : {z : ℤ} → SFits w32 z → SFits w64 z
@@ -73,12 +72,3 @@ pub amount-from : (x : ℤ) → ltZ x (pos 0) ≡ false → natAbs x ≡ notBelo
 unfolding notBelowZero
 amount-from (pos n) h = refl
 amount-from (negsuc n) h = true-false h
-
-or-right : (a b : Bool) → (a || b) ≡ false → b ≡ false
-or-right true b h = true-false h
-or-right false b h = h
-
--- where Settle goes on, the next tick's number is below 256*p9
-pub later : (set : Settings) (n : ℕ) (stable : Bool) → settleEnds set n stable ≡ false → n < 256 * set .p9
-unfolding settleEnds
-later set n stable h = leb-false (256 * set .p9) n (or-right stable (leb (256 * set .p9) n) h)

@@ -1,6 +1,6 @@
 use Rattle.dosing.specs.Rules.{calm}
 use Rattle.laws.specs.Pick.{pick-true, pick-false}
-use Rattle.dosing.proofs.Laws.{later}
+use Rattle.dosing.specs.Laws.{settle-later}
 use native.Mathlib.Omega.{arith}
 use Prim.Native.Nat.{_+_}
 use borrow.Author.Needs.{needs}
@@ -14,7 +14,7 @@ rests-requires : tie.Need-rests-requires
 rests-requires c κs = search needs
 
 add-t7 : tie.Need-add-t7
-add-t7 c = let a = c .before .before .args in record { fits = omega (arith, later (a .set) (a .n + 1) (a .t .stable) (rw (c .before .settle-ends .ensures) at (c .if1 .left))) }
+add-t7 c = let a = c .before .before .args in record { fits = omega (arith, settle-later (a .set) (a .n + 1) (a .t .stable) (rw (c .before .settle-ends .ensures) at (c .if1 .left))) }
 
 rests-requires-2 : tie.Need-rests-requires-2
 rests-requires-2 c κs = search needs

@@ -1,6 +1,6 @@
 use Rattle.dosing.specs.Rules.{doseSettle}
 use Rattle.laws.specs.Pick.{pick-true, pick-false}
-use Rattle.dosing.proofs.Laws.{later}
+use Rattle.dosing.specs.Laws.{settle-later}
 use native.Mathlib.Omega.{arith}
 use Prim.Native.Nat.{_+_}
 use borrow.Author.Needs.{needs}
@@ -17,7 +17,7 @@ completes-requires : tie.Need-completes-requires
 completes-requires c κs = search needs
 
 add-t9 : tie.Need-add-t9
-add-t9 c = let a = c .before .before .args in record { fits = omega (arith, later (a .set) (a .n + 1) (a .t .stable) (rw (c .before .settle-ends .ensures) at (c .if1 .left))) }
+add-t9 c = let a = c .before .before .args in record { fits = omega (arith, settle-later (a .set) (a .n + 1) (a .t .stable) (rw (c .before .settle-ends .ensures) at (c .if1 .left))) }
 
 rests-requires : tie.Need-rests-requires
 rests-requires c κs = search needs
