@@ -14,7 +14,8 @@ use mir.Facts.{toZ-ofZ, toZ-pos}
 use borrow.Author.Tests.{ne-eqb}
 use Rattle.laws.specs.Pick.{pick, pick-all}
 use Rattle.laws.specs.Whole.{abs-sub, fits32, fits64}
-use Rattle.controller.specs.Tick.{worth, equalZ, outside, none}
+use Rattle.settings.specs.declared.Settings.{Settings}
+use Rattle.controller.specs.Tick.{worth, overCapacity, equalZ, outside, none}
 
 pub xor-t : (b : Bool) → not b ≡ xor true b
 unfolding xor
@@ -97,6 +98,11 @@ none-held zero xs h = refl
 none-held (suc n) (x ∷ xs) h = sym (ne-eqb (suc n) 0 (λ e. omega arith))
 none-held (suc n) [] h = absurd (omega arith)
 
--- a number below 2 ^ 63 is its own i64
-pub pos-is : (n : ℕ) → n < 2 ^ 63 → toZ w64 n ≡ pos n
+pos-is : (n : ℕ) → n < 2 ^ 63 → toZ w64 n ≡ pos n
 pos-is n h = toZ-pos w64 (omega arith)
+
+-- w > C+9, in i64
+pub over-is : (set : Settings) {f z : ℤ} → SFits w32 f → SFits w32 z → set .capacity < 2 ^ 32
+    → ltZ (toZ w64 (set .capacity + 9)) (toZ w64 (ofZ w64 (toZ w64 (ofZ w64 (toZ w32 (ofZ w32 f))) -ℤ toZ w64 (ofZ w64 (toZ w32 (ofZ w32 z)))))) ≡ overCapacity set (f -ℤ z)
+unfolding overCapacity
+over-is set fits-f fits-z h = rw (wide-minus-is fits-f fits-z, pos-is (set .capacity + 9) (omega arith))

@@ -11,9 +11,11 @@ use Rattle.window.specs.Window.{samplesOf}
 use Rattle.dosing.specs.declared.Units.{Units}
 use Rattle.dosing.specs.declared.Gates.{Gates}
 use Rattle.controller.specs.Tick.{Result, Told, input, runAfter, runsAfter, equalZ, none, calmRun, filterOf, startOf}
+use Rattle.controller.specs.Sound.{Sound}
 use Rattle.controller.specs.Says.{saysTick}
 use Rattle.controller.specs.declared.Controller.{Controller}
 use Rattle.controller.specs.declared.Runs.{Runs}
+use Rattle.controller.specs.declared.Condition.the-variants.{Clear}
 use Rattle.controller.specs.declared.Ticked.{Ticked}
 
 -- the next controller and the answer are the rule's
@@ -41,29 +43,19 @@ runsBy set g inputs runs =
       three = runAfter (set .in3) (g .three) (input 3 inputs) (runs .three);
     })
 
-pub runs-by : (c : Controller) → runsBy (c .set) (c .gates) (c .inputs) (c .runs) ≡ runsAfter c
-unfolding runsBy runsAfter
-runs-by c = refl
-
 unfoldable pub filterBy : Settings → Gates → ℕ
 filterBy set g = pick (g .one) (set .p7) (set .p8)
 
-pub filter-by : (c : Controller) → filterBy (c .set) (c .gates) ≡ filterOf c
-unfolding filterBy filterOf
-filter-by c = refl
-
 unfoldable pub startBy : Settings → Bool → ℕ → Bool
 startBy set link inputs = link || (not (leb 3 (set .algorithm)) && input 4 inputs)
-
-pub start-by : (c : Controller) → startBy (c .set) (c .link) (c .inputs) ≡ startOf c
-unfolding startBy startOf
-start-by c = refl
 
 unfoldable pub calmBy : Bool → Units → Units → ℕ → ℕ
 calmBy first f previous s =
     pick first 0
     (pick (equalZ (f .v) (previous .v)) (pick (ltb s 4032) (s + 1) 4032) 0)
 
-pub calm-by : (c : Controller) (f : Units) → calmBy (none (samplesOf (c .window))) f (c .f) (c .s) ≡ calmRun c (f .v)
-unfolding calmBy calmRun
-calm-by c f = refl
+-- a sound controller in no fault, and a sample that is not outside
+pub record Takes (c : Controller) (x : Units) : Type 0 where
+  pub sound : Sound c
+  pub clear : c .condition ≡ Clear
+  pub inside : natAbs (x .v) ≤ 900000

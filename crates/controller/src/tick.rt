@@ -30,7 +30,7 @@ ghost use Rattle.controller.specs.Tick.{worth, outputsOf, faulted, overC
 ghost use Rattle.controller.specs.State.{withInputs, withRuns, withS};
 ghost use Rattle.controller.specs.Says.{Ticks, saysTick};
 ghost use Rattle.controller.specs.Sound.{Sound};
-ghost use Rattle.controller.specs.Parts.{Gives, Short, Small, runsBy, filterBy, startBy, calmBy};
+ghost use Rattle.controller.specs.Parts.{Gives, Short, Small, Takes, runsBy, filterBy, startBy, calmBy};
 
 impl Controller {
     // A sample of a greater size is F21.
@@ -39,6 +39,7 @@ impl Controller {
     pub const OVER_CAPACITY: u32 = 9;
     // The count and the total wrap here.
     pub const COUNT_WRAP: u32 = 1000000;
+
     pub const TOTAL_WRAP: u32 = 1000000000;
     // The cap of S.
     pub const CALM_MOST: u32 = 4032;
@@ -324,7 +325,11 @@ fn calm_run(first: bool, f: Units, previous: Units, s: u32) -> u32
     if first {
         0
     } else if equal(f, previous) {
-        if s < Controller::CALM_MOST { s + 1 } else { Controller::CALM_MOST }
+        if s < Controller::CALM_MOST {
+            s + 1
+        } else {
+            Controller::CALM_MOST
+        }
     } else {
         0
     }
@@ -361,7 +366,7 @@ fn mean_of(window: Window, n: u32) -> Units
 
 // Steps 4 and 5: the sample kept, F and the calm run; the inputs are kept too.
 fn steps4and5(c: Controller, x: Units, inputs: u8) -> Ticked
-    requires { ⌜ Sound c × (c .condition ≡ Condition.Clear) ⌝ }
+    requires { ⌜ Takes c x ⌝ }
     ensures { λ r. ⌜ Gives (steps4and5 (withInputs inputs c) (x .v)) r ⌝ }
 {
     let set = c.set;

@@ -2,8 +2,7 @@ use borrow.Author.Needs.{needs}
 use native.Mathlib.Omega.{arith}
 use mir.Syntax.{w32}
 use mir.Val.{SFits}
-use Rattle.controller.specs.Tick.{overCapacity}
-use Rattle.controller.proofs.Laws.{wide-fits, wide-minus-fits, wide-minus-is, pos-is}
+use Rattle.controller.proofs.Laws.{wide-fits, wide-minus-fits, over-is}
 use Rattle.controller.proofs.tick.over_capacity.Statement.{statement}
 use Rattle.controller.proofs.tick.over_capacity.Tie as tie
 
@@ -35,8 +34,9 @@ sub-result : tie.Need-sub-result
 sub-result c = wide-minus-fits (told-f (c .before .before .before)) (told-z (c .before))
 
 returns : tie.Need-returns
-unfolding overCapacity
-returns c = rw (wide-minus-is (told-f (c .before .before .before)) (told-z (c .before)), pos-is _ (omega arith))
+returns c =
+    let a = c .before .before .before .before .before .args in
+    over-is (a .set) (told-f (c .before .before .before)) (told-z (c .before)) (omega arith)
 
 pub over-capacity-spec : {M : Type 1} → statement M
 over-capacity-spec = tie.close (tie.spec cast-x cast-y cast-most cast-most-2 add-most cast-result sub-result returns)

@@ -1,42 +1,39 @@
 use borrow.Author.Needs.{needs}
+use Rattle.controller.proofs.Steps.{kept-first, runs-short, mean-small}
 use Rattle.controller.proofs.tick.steps4and5.Statement.{statement}
 use Rattle.controller.proofs.tick.steps4and5.Tie as tie
-use Rattle.controller.proofs.tick.steps4and5.Reads as reads
-use Rattle.controller.proofs.tick.steps4and5.Lts as lts
-use Rattle.controller.proofs.tick.calm_run.Reads as calm-run-reads
-use Rattle.controller.proofs.tick.filter_of.Reads as filter-of-reads
-use Rattle.controller.proofs.tick.kept.Reads as kept-reads
-use Rattle.controller.proofs.tick.mean_of.Reads as mean-of-reads
-use Rattle.controller.proofs.tick.start_of.Reads as start-of-reads
-use Rattle.controller.proofs.tick.steps6to8.Reads as steps6to8-reads
 
--- src/tick.rt:372:9
 kept-requires : tie.Need-kept-requires
 kept-requires c κs = search needs
 
--- src/tick.rt:373:29
 filter-of-requires : tie.Need-filter-of-requires
 filter-of-requires c κs = search needs
 
--- src/tick.rt:373:9
 mean-of-requires : tie.Need-mean-of-requires
 mean-of-requires c κs = search needs
 
--- src/tick.rt:374:9
 calm-run-requires : tie.Need-calm-run-requires
 calm-run-requires c κs = search needs
 
--- src/tick.rt:375:9
 start-of-requires : tie.Need-start-of-requires
 start-of-requires c κs = search needs
 
--- src/tick.rt:382:5
 steps6to8-requires : tie.Need-steps6to8-requires
-steps6to8-requires c κs = ?
+steps6to8-requires c κs =
+    let m = c .before .before .before .before .before .before .before in
+    let k = m .before .before in
+    let d = k .before .before .before .before .before .before in (
+      runs-short (d .args .c) (d .pre .sound) (d .pre .clear),
+      mean-small (d .args .c) (d .args .x .v) (m .before .filter-of .result) (d .pre .sound) (d .pre .inside) (k .kept .ensures) (m .mean-of .ensures),
+    )
 
--- src/tick.rt:363:1
 returns : tie.Need-returns
-returns c = ?
+returns c =
+    let o = c .before .before .before .before .before .before in
+    let m = o .before .before in
+    let k = m .before .before in
+    let d = k .before .before .before .before .before .before in
+    kept-first (d .args .c) _ _ (d .pre .sound .places) (k .kept .ensures) (m .before .filter-of .ensures) (m .mean-of .ensures) (o .before .calm-run .ensures) (o .start-of .ensures) (c .steps6to8 .ensures)
 
 pub steps4and5-spec : {M : Type 1} → statement M
 steps4and5-spec =

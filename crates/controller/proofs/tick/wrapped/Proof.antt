@@ -1,4 +1,5 @@
 use borrow.Author.Needs.{needs}
+use Prim.Native.Nat.{_+_}
 use native.Mathlib.Omega.{arith}
 use native.Mathlib.Nat.{mod-lt}
 use Rattle.controller.proofs.tick.wrapped.Statement.{statement}
@@ -11,7 +12,7 @@ rem-result : tie.Need-rem-result
 rem-result c = search needs
 
 cast-result : tie.Need-cast-result
-cast-result c = ?
+cast-result c = omega (arith, mod-lt (c .args .n + c .args .more) (c .pre))
 
 returns : tie.Need-returns
 returns c = search needs
