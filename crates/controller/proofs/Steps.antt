@@ -11,6 +11,7 @@ use borrow.Author.Tests.{lt-ltb, le-ltb, le-leb, lt-leb}
 use Rattle.laws.specs.Pick.{pick-t, pick-f}
 use Rattle.paper.specs.Answer.{refused}
 use Rattle.paper.specs.Numbers.{R1}
+use Rattle.settings.specs.Good.{good-ranges}
 use Rattle.window.specs.declared.Window.{Window}
 use Rattle.window.specs.Mean.{meanOf}
 use Rattle.window.specs.Window.{samplesOf, pushOf}
@@ -22,7 +23,7 @@ use Rattle.controller.specs.Sound.{Sound, Watched}
 use Rattle.controller.specs.Bounds.{push-within, mean-most}
 use Rattle.controller.specs.Keeps.{tick-sound}
 use Rattle.controller.specs.Says.{Ticks}
-use Rattle.controller.specs.Parts.{Gives, Short, Small, runsBy, filterBy, startBy, calmBy}
+use Rattle.controller.specs.Parts.{Gives, Weighs, Short, runsBy, filterBy, startBy, calmBy}
 use Rattle.controller.specs.declared.Controller.{Controller}
 use Rattle.controller.specs.declared.Runs.{Runs}
 use Rattle.controller.specs.declared.Fault.{Fault}
@@ -92,8 +93,15 @@ watched-short (Faulted why) r w e = let z : _≡_ {A = ℕ} 0 1 = cc in let n : 
 pub runs-short : (c : Controller) → Sound c → c .condition ≡ Clear → Short (c .runs)
 runs-short c s e = watched-short (c .condition) (c .runs) (s .runs) e
 
-pub mean-small : (c : Controller) (x : ℤ) (n : ℕ) {window : Window} {f : Units} → Sound c → natAbs x ≤ 900000 → window ≡ pushOf (c .window) x → f ≡ units (meanOf (take n (samplesOf window))) → Small f (c .z)
-mean-small c x n s h w m = record { mean = rw (m, w) (mean-most n _ (push-within c s x h)); zero = s .zero }
+pub mean-weighs : (c : Controller) (x : ℤ) (inputs n : ℕ) {window : Window} {f : Units} → Sound c → natAbs x ≤ 900000
+    → window ≡ pushOf (c .window) x
+    → f ≡ units (meanOf (take n (samplesOf window)))
+    → Weighs (withInputs inputs (withF f (withWindow window c))) (c .z)
+mean-weighs c x inputs n s h w m =
+    record {
+      set = good-ranges (c .set) (s .set);
+      small = record { mean = rw (m, w) (mean-most n _ (push-within c s x h)); zero = s .zero };
+    }
 
 -- ---- steps 1 to 3
 

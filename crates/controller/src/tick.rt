@@ -23,28 +23,50 @@ ghost use lib.IntN.{_-ℤ_};
 ghost use lib.ListN.{take};
 ghost use Rattle.laws.specs.Pick.{pick};
 ghost use Rattle.paper.specs.Answer.{done};
+ghost use Rattle.settings.specs.Ranges.{Ranges};
 ghost use Rattle.window.specs.Mean.{meanOf};
 ghost use Rattle.window.specs.Window.{samplesOf, pushOf};
 ghost use Rattle.dosing.specs.Rules.{units};
-ghost use Rattle.controller.specs.Tick.{worth, outputsOf, faulted, overCapacity, changed, countersAfter, recordsOf, step8, stableOf, step7, expected, runAfter, steps6to8, equalZ, outside, steps4and5, step3};
-ghost use Rattle.controller.specs.State.{withInputs, withRuns, withS};
-ghost use Rattle.controller.specs.Says.{Ticks, saysTick};
+ghost use Rattle.controller.specs.State.{withInputs};
+ghost use Rattle.controller.specs.Tick.{worth, outputsOf, faulted, overCapacity, changed, countersAfter, recordsOf, step8, stableOf, step7, expected, runAfter, steps6to8, equalZ, steps4and5, outside, step3};
 ghost use Rattle.controller.specs.Sound.{Sound};
-ghost use Rattle.controller.specs.Parts.{Gives, Short, Small, Takes, runsBy, filterBy, startBy, calmBy};
+ghost use Rattle.controller.specs.Says.{Ticks, saysTick};
+ghost use Rattle.controller.specs.Parts.{Gives, Short, Small, Weighs, Takes, runsBy, filterBy, startBy, calmBy};
 
 impl Controller {
     // A sample of a greater size is F21.
     pub const SAMPLE_MOST: i32 = 900000;
-    // Output 4 is on above C and this.
+    // Output 4 is on where w is above C and this.
     pub const OVER_CAPACITY: u32 = 9;
-    // The count and the total wrap here.
+    // The count and the total begin again at 0 here.
     pub const COUNT_WRAP: u32 = 1000000;
 
     pub const TOTAL_WRAP: u32 = 1000000000;
-    // The cap of S.
+    // The cap of the calm run S.
     pub const CALM_MOST: u32 = 4032;
     // A run of so many mismatches is F14.
     pub const MISMATCHES: u32 = 64;
+
+    // One tick: a sample and the inputs.
+    pub fn tick(self, sample: i32, inputs: u8) -> Ticked
+        requires { ⌜ Sound self ⌝ }
+        ensures { λ r. ⌜ Ticks self sample inputs r ⌝ }
+    {
+        if 15 < inputs {
+            return Ticked {
+                next: self,
+                answer: TickAnswer::R1,
+            };
+        }
+        let condition = self.condition;
+        match condition {
+            Condition::Clear => step3(self, Units { v: sample }, inputs),
+            Condition::Faulted(why) => Ticked {
+                next: self,
+                answer: TickAnswer::Fault(why),
+            },
+        }
+    }
 }
 
 // n where it is on, else 0.
@@ -69,31 +91,42 @@ fn outputs_of(g: Gates, four: bool) -> u8
 fn faulted(why: Fault, c: Controller) -> Ticked
     ensures { λ r. ⌜ Gives (faulted why c) r ⌝ }
 {
-    let next = Controller {
+    let gates = Gates {
+        one: false,
+        two: false,
+        three: false,
+    };
+    let stopped = Controller {
         phase: Phase::Ready,
-        gates: Gates {
-            one: false,
-            two: false,
-            three: false,
-        },
+        gates,
         alarm: true,
         condition: Condition::Faulted(why),
         ..c
     };
     Ticked {
-        next: next,
+        next: stopped,
         answer: TickAnswer::Fault(why),
     }
 }
 
-// w > C+9
-fn over_capacity(set: Settings, f: Units, z: Units) -> bool
-    ensures { λ r. ⌜ r ≡ overCapacity set (f .v -ℤ z .v) ⌝ }
+// w = F-Z
+fn weight(f: Units, z: Units) -> Units
+    requires { ⌜ Small f z ⌝ }
+    ensures { λ r. ⌜ r ≡ units (f .v -ℤ z .v) ⌝ }
 {
-    let x = f.v as i64;
-    let y = z.v as i64;
-    let most = set.capacity as u64 + Controller::OVER_CAPACITY as u64;
-    (most as i64) < x - y
+    let x = f.v;
+    let y = z.v;
+    Units { v: x - y }
+}
+
+// w > C+9
+fn over_capacity(set: Settings, w: Units) -> bool
+    requires { ⌜ Ranges set ⌝ }
+    ensures { λ r. ⌜ r ≡ overCapacity set (w .v) ⌝ }
+{
+    let v = w.v;
+    let most = (set.capacity + Controller::OVER_CAPACITY) as i32;
+    most < v
 }
 
 // One of the two is on, and not the other.
@@ -116,7 +149,14 @@ fn changed(a: Gates, b: Gates) -> bool
     }
 }
 
-// n and more, wrapped.
+// If an output 1 to 3 changed, S becomes 0.
+fn calm_after(old: Gates, new: Gates, s: u32) -> u32
+    ensures { λ r. ⌜ r ≡ pick (changed old new) 0 s ⌝ }
+{
+    if changed(old, new) { 0 } else { s }
+}
+
+// n and more, beginning again at 0 where it reaches wrap.
 fn wrapped(n: u32, more: u32, wrap: u32) -> u32
     requires { ⌜ 0 < wrap ⌝ }
     ensures { λ r. ⌜ r ≡ (n + more) % wrap ⌝ }
@@ -134,10 +174,7 @@ fn counters_after(n: Counters, dose: Dose) -> Counters
         Dose::Complete { amount, settled: _ } => {
             let count = wrapped(n.count, 1, Controller::COUNT_WRAP);
             let total = wrapped(n.total, amount, Controller::TOTAL_WRAP);
-            Counters {
-                count: count,
-                total: total,
-            }
+            Counters { count, total }
         }
     }
 }
@@ -148,73 +185,53 @@ fn answer_of(outputs: u8, after: Counters, dose: Dose) -> TickAnswer
 {
     match dose {
         Dose::Nothing => TickAnswer::Outputs(outputs),
-        Dose::Complete { amount, settled } => TickAnswer::Dose {
-            outputs: outputs,
-            record: Record {
+        Dose::Complete { amount, settled } => {
+            let record = Record {
                 count: after.count,
-                amount: amount,
-                settled: settled,
-            },
-        },
+                amount,
+                settled,
+            };
+            TickAnswer::Dose { outputs, record }
+        }
     }
 }
 
-// If an output 1 to 3 changed, S becomes 0.
-fn calm_after(before: Gates, after: Gates, s: u32) -> u32
-    ensures { λ r. ⌜ r ≡ pick (changed before after) 0 s ⌝ }
-{
-    if changed(before, after) { 0 } else { s }
-}
-
-// Step 8, after the phase rule.
+// Step 8: output 4 and S, the counters, and the answer.
 fn step8(c: Controller, m: Moved) -> Ticked
+    requires { ⌜ Weighs c (m .z) ⌝ }
     ensures { λ r. ⌜ Gives (step8 c m) r ⌝ }
 {
-    let before = c.gates;
-    let gates = m.gates;
-    let z = m.z;
     let phase = m.phase;
+    let z = m.z;
+    let gates = m.gates;
     let dose = m.dose;
-    let alarm = over_capacity(c.set, c.f, z);
+    let alarm = over_capacity(c.set, weight(c.f, z));
+    let s = calm_after(c.gates, gates, c.s);
     let counters = counters_after(c.counters, dose);
-    let s = calm_after(before, gates, c.s);
-    let outputs = outputs_of(gates, alarm);
-    let answer = answer_of(outputs, counters, dose);
+    let answer = answer_of(outputs_of(gates, alarm), counters, dose);
     let next = Controller {
-        z: z,
-        s: s,
-        phase: phase,
-        gates: gates,
-        alarm: alarm,
-        counters: counters,
+        z,
+        s,
+        phase,
+        gates,
+        alarm,
+        counters,
         ..c
     };
-    Ticked {
-        next: next,
-        answer: answer,
-    }
+    Ticked { next, answer }
 }
 
 // S >= 64*p9
 fn stable_of(set: Settings, s: u32) -> bool
+    requires { ⌜ Ranges set ⌝ }
     ensures { λ r. ⌜ r ≡ stableOf set s ⌝ }
 {
-    64 * (set.p9 as u64) <= s as u64
+    64 * set.p9 <= s
 }
 
-// w = F-Z
-fn weight(f: Units, z: Units) -> Units
-    requires { ⌜ Small f z ⌝ }
-    ensures { λ r. ⌜ r ≡ units (f .v -ℤ z .v) ⌝ }
-{
-    let x = f.v;
-    let y = z.v;
-    Units { v: x - y }
-}
-
-// Step 7: the phase rule.
+// Step 7: the phase rule, and step 8.
 fn step7(c: Controller, start: bool) -> Ticked
-    requires { ⌜ Small (c .f) (c .z) ⌝ }
+    requires { ⌜ Weighs c (c .z) ⌝ }
     ensures { λ r. ⌜ Gives (step7 c start) r ⌝ }
 {
     let set = c.set;
@@ -224,17 +241,16 @@ fn step7(c: Controller, start: bool) -> Ticked
     let w = weight(f, z);
     let stable = stable_of(set, c.s);
     let seen = Seen {
-        f: f,
-        z: z,
-        w: w,
-        start: start,
-        stable: stable,
+        f,
+        z,
+        w,
+        start,
+        stable,
     };
-    let moved = dosing::step(set, phase, seen);
-    step8(c, moved)
+    step8(c, dosing::step(set, phase, seen))
 }
 
-// The byte's bit of that worth.
+// The byte's bit of that worth is on.
 fn bit(byte: u8, worth: u8) -> bool
     requires { ⌜ 0 < worth ⌝ }
     ensures { λ r. ⌜ r ≡ eqb (byte / worth % 2) 1 ⌝ }
@@ -254,11 +270,14 @@ fn run_after(level: u32, output: bool, on: bool, run: u32) -> u32
     requires { ⌜ run ≤ 63 ⌝ }
     ensures { λ r. ⌜ r ≡ runAfter level output on run ⌝ }
 {
-    let right = expected(level, output);
-    if differ(on, right) { run + 1 } else { 0 }
+    if differ(on, expected(level, output)) {
+        run + 1
+    } else {
+        0
+    }
 }
 
-// The runs of channels 1 to 3, in AL1 to AL3.
+// The runs of channels 1 to 3, which move in AL1 to AL3.
 fn runs_after(set: Settings, g: Gates, inputs: u8, runs: Runs) -> Runs
     requires { ⌜ Short runs ⌝ }
     ensures { λ r. ⌜ r ≡ runsBy set g inputs runs ⌝ }
@@ -269,28 +288,17 @@ fn runs_after(set: Settings, g: Gates, inputs: u8, runs: Runs) -> Runs
         let one = run_after(set.in1, g.one, bit(inputs, 1), runs.one);
         let two = run_after(set.in2, g.two, bit(inputs, 2), runs.two);
         let three = run_after(set.in3, g.three, bit(inputs, 4), runs.three);
-        Runs {
-            one: one,
-            two: two,
-            three: three,
-        }
+        Runs { one, two, three }
     }
 }
 
 // From step 6 on: the lowest channel whose run reached 64 is F14, else the phase rule.
 fn steps6to8(c: Controller, start: bool, s: u32) -> Ticked
-    requires { ⌜ Short (c .runs) × Small (c .f) (c .z) ⌝ }
+    requires { ⌜ Short (c .runs) × Weighs c (c .z) ⌝ }
     ensures { λ r. ⌜ Gives (steps6to8 c start s) r ⌝ }
 {
-    let set = c.set;
-    let gates = c.gates;
-    let before = c.runs;
-    let runs = runs_after(set, gates, c.inputs, before);
-    let moved = Controller {
-        runs: runs,
-        s: s,
-        ..c
-    };
+    let runs = runs_after(c.set, c.gates, c.inputs, c.runs);
+    let moved = Controller { s, runs, ..c };
     if Controller::MISMATCHES <= runs.one {
         faulted(Fault::F14(1), moved)
     } else if Controller::MISMATCHES <= runs.two {
@@ -356,35 +364,32 @@ fn kept(window: Window, x: Units) -> Window
     window.push(v)
 }
 
-// F is the mean of the last n samples.
+// The mean of the last n samples.
 fn mean_of(window: Window, n: u32) -> Units
     ensures { λ r. ⌜ r ≡ units (meanOf (take n (samplesOf window))) ⌝ }
 {
     let v = window.mean(n as usize);
-    Units { v: v }
+    Units { v }
 }
 
-// Steps 4 and 5: the sample kept, F and the calm run; the inputs are kept too.
+// Steps 4 and 5, and those after: the sample and the inputs are kept, F, start and S.
 fn steps4and5(c: Controller, x: Units, inputs: u8) -> Ticked
     requires { ⌜ Takes c x ⌝ }
     ensures { λ r. ⌜ Gives (steps4and5 (withInputs inputs c) (x .v)) r ⌝ }
 {
     let set = c.set;
-    let gates = c.gates;
-    let before = c.window;
-    let previous = c.f;
-    let first = before.held == 0;
-    let window = kept(before, x);
-    let f = mean_of(window, filter_of(set, gates));
-    let s = calm_run(first, f, previous, c.s);
+    let old = c.window;
+    let window = kept(old, x);
+    let f = mean_of(window, filter_of(set, c.gates));
+    let s = calm_run(old.held == 0, f, c.f, c.s);
     let start = start_of(set, c.link, inputs);
-    let next = Controller {
-        window: window,
-        f: f,
-        inputs: inputs,
+    let filtered = Controller {
+        window,
+        f,
+        inputs,
         ..c
     };
-    steps6to8(next, start, s)
+    steps6to8(filtered, start, s)
 }
 
 // The sample is outside -900,000..900,000.
@@ -399,43 +404,14 @@ fn outside(x: Units) -> bool
     }
 }
 
-// Step 3: the inputs are kept; a sample outside is F21 and is not kept.
+// Step 3, and those after: the inputs are kept; a sample outside is F21 and is not kept.
 fn step3(c: Controller, x: Units, inputs: u8) -> Ticked
     requires { ⌜ Sound c × (c .condition ≡ Condition.Clear) ⌝ }
     ensures { λ r. ⌜ Gives (step3 c (x .v) inputs) r ⌝ }
 {
     if outside(x) {
-        faulted(
-            Fault::F21,
-            Controller {
-                inputs: inputs,
-                ..c
-            },
-        )
+        faulted(Fault::F21, Controller { inputs, ..c })
     } else {
         steps4and5(c, x, inputs)
-    }
-}
-
-impl Controller {
-    // One tick: a sample and the inputs.
-    pub fn tick(self, sample: i32, inputs: u8) -> Ticked
-        requires { ⌜ Sound self ⌝ }
-        ensures { λ r. ⌜ Ticks self sample inputs r ⌝ }
-    {
-        if 15 < inputs {
-            return Ticked {
-                next: self,
-                answer: TickAnswer::R1,
-            };
-        }
-        let condition = self.condition;
-        match condition {
-            Condition::Clear => step3(self, Units { v: sample }, inputs),
-            Condition::Faulted(why) => Ticked {
-                next: self,
-                answer: TickAnswer::Fault(why),
-            },
-        }
     }
 }

@@ -3,9 +3,6 @@ use Rattle.controller.specs.Tick.{stableOf}
 use Rattle.controller.proofs.tick.stable_of.Statement.{statement}
 use Rattle.controller.proofs.tick.stable_of.Tie as tie
 
-cast-result : tie.Need-cast-result
-cast-result c = search needs
-
 mul-result : tie.Need-mul-result
 mul-result c = search needs
 
@@ -14,4 +11,4 @@ unfolding stableOf
 returns c = search needs
 
 pub stable-of-spec : {M : Type 1} → statement M
-stable-of-spec = tie.close (tie.spec cast-result mul-result returns)
+stable-of-spec = tie.close (tie.spec mul-result returns)

@@ -1,4 +1,5 @@
 use borrow.Author.Needs.{needs}
+use Rattle.dosing.specs.Laws.{step-zero}
 use Rattle.controller.specs.Tick.{step7, seenOf, wOf}
 use Rattle.controller.proofs.tick.step7.Statement.{statement}
 use Rattle.controller.proofs.tick.step7.Tie as tie
@@ -13,7 +14,12 @@ step-requires : tie.Need-step-requires
 step-requires c κs = search needs
 
 step8-requires : tie.Need-step8-requires
-step8-requires c κs = search needs
+step8-requires c κs =
+    let p = c .before .before .before .before .before .before .pre in
+    record {
+      set = p .set;
+      small = record { mean = p .small .mean; zero = rw (c .step .ensures) (step-zero _ _ _ (p .set) (p .small .zero)) };
+    }
 
 returns : tie.Need-returns
 unfolding step7 seenOf wOf

@@ -21,23 +21,23 @@ step7-requires c κs = search needs
 
 returns : tie.Need-returns
 returns c =
-    let d = c .before .before .before .before .before .before .before .before .before in
-    one-reached _ _ _ (d .runs-after .result) (d .runs-after .ensures) (omega arith) (c .faulted .ensures)
+    let r = c .before .before .before .before .before .before .before .before .before .runs-after in
+    one-reached _ _ _ (r .result) (r .ensures) (omega arith) (c .faulted .ensures)
 
 returns-2 : tie.Need-returns-2
 returns-2 c =
-    let d = c .before .before .before .before .before .before .before .before .before .before .before in
-    two-reached _ _ _ (d .runs-after .result) (d .runs-after .ensures) (omega arith) (omega arith) (c .faulted2 .ensures)
+    let r = c .before .before .before .before .before .before .before .before .before .before .before .runs-after in
+    two-reached _ _ _ (r .result) (r .ensures) (omega arith) (omega arith) (c .faulted2 .ensures)
 
 returns-3 : tie.Need-returns-3
 returns-3 c =
-    let d = c .before .before .before .before .before .before .before .before .before .before .before .before .before in
-    three-reached _ _ _ (d .runs-after .result) (d .runs-after .ensures) (omega arith) (omega arith) (omega arith) (c .faulted3 .ensures)
+    let r = c .before .before .before .before .before .before .before .before .before .before .before .before .before .runs-after in
+    three-reached _ _ _ (r .result) (r .ensures) (omega arith) (omega arith) (omega arith) (c .faulted3 .ensures)
 
 returns-4 : tie.Need-returns-4
 returns-4 c =
-    let d = c .before .before .before .before .before .before .before .before .before .before .before .before .before in
-    none-reached _ _ _ (d .runs-after .result) (d .runs-after .ensures) (omega arith) (omega arith) (omega arith) (c .step7 .ensures)
+    let r = c .before .before .before .before .before .before .before .before .before .before .before .before .before .runs-after in
+    none-reached _ _ _ (r .result) (r .ensures) (omega arith) (omega arith) (omega arith) (c .step7 .ensures)
 
 pub steps6to8-spec : {M : Type 1} → statement M
 steps6to8-spec =
