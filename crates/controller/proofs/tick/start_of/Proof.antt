@@ -1,3 +1,4 @@
+use native.Mathlib.Omega.{arith}
 use borrow.Author.Needs.{needs}
 use borrow.Author.Tests.{le-leb, lt-leb}
 use Rattle.controller.specs.Tick.{input}
@@ -14,11 +15,15 @@ returns c = simp (c .if1 .taken)
 
 returns-2 : tie.Need-returns-2
 unfolding startBy
-returns-2 c = simp (c .before .before .if1 .left, le-leb _ _ (c .if2 .taken))
+returns-2 c =
+    let d = c .before .before in
+    simp (d .if1 .left, le-leb 3 (d .before .args .set .algorithm) (omega arith))
 
 returns-3 : tie.Need-returns-3
 unfolding startBy input
-returns-3 c = simp (c .before .before .before .if1 .left, lt-leb _ _ (c .before .if2 .left), c .bit .ensures)
+returns-3 c =
+    let d = c .before .before .before in
+    simp (d .if1 .left, lt-leb 3 (d .before .args .set .algorithm) (omega arith), c .bit .ensures)
 
 pub start-of-spec : {M : Type 1} → statement M
 start-of-spec = tie.close (tie.spec bit-requires returns returns-2 returns-3)
