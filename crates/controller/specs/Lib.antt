@@ -6,3 +6,4 @@ pub mod Sound
 pub mod Says
 pub mod Cases
 pub mod Outside
+pub mod OutsideLaws
