@@ -3,7 +3,11 @@ pub mod Tick
 pub mod Calls
 pub mod Line
 pub mod Sound
+pub mod Done
+pub mod Bounds
+pub mod Keeps
 pub mod Says
+pub mod Made
 pub mod Cases
 pub mod Outside
 pub mod OutsideLaws

@@ -1,2 +1,5 @@
 pub mod Rules
 pub mod Gates
+pub mod Ways
+pub mod Laws
+pub mod Cases

@@ -1,7 +1,12 @@
 // The phase rules of AL0 to AL3 as one step: no samples, no counters.
 use settings::Settings;
 ghost use mathlib.Core.Path.{_≡_};
-ghost use Rattle.dosing.specs.Rules.{stepOf};
+ghost use mathlib.Core.Bool.{not, _&&_};
+ghost use Prim.Native.Nat.{_+_, _-_};
+ghost use lib.Dec.{eqb};
+ghost use lib.IntN.{pos, negℤ, _-ℤ_};
+ghost use lib.Signed.{ltZ, leZ};
+ghost use Rattle.dosing.specs.Rules.{gates, shut, to, complete, reachedWf, reachedWc, notBelowZero, nearZero, zeroed, full, coarseStage, fineStage, fillBegins, readyToFill, fill, hold, settleEnds, dischargeOpens, settle, amountOf, discharge, load, calm, doseCoarse, doseFine, doseSettle, readyToDose, waits, ready, stepOf};
 
 // A weight in display units.
 pub struct Units {
@@ -55,4 +60,449 @@ pub struct Moved {
     pub z: Units,
     pub gates: Gates,
     pub dose: Dose,
+}
+
+// A weight, or a difference of two, which an i32 need not hold.
+struct Wide {
+    v: i64,
+}
+
+// A weight, made wide.
+fn widened(a: Units) -> Wide
+    ensures { λ r. ⌜ r .v ≡ a .v ⌝ }
+{
+    let x = a.v as i64;
+    Wide { v: x }
+}
+
+// The difference a-b.
+fn difference(a: Units, b: Units) -> Wide
+    ensures { λ r. ⌜ r .v ≡ a .v -ℤ b .v ⌝ }
+{
+    let x = a.v as i64;
+    let y = b.v as i64;
+    Wide { v: x - y }
+}
+
+// x < n
+fn below(x: Wide, n: u32) -> bool
+    ensures { λ r. ⌜ r ≡ ltZ (x .v) (pos n) ⌝ }
+{
+    let v = x.v;
+    let limit = n as i64;
+    v < limit
+}
+
+// -n < x
+fn above_minus(x: Wide, n: u32) -> bool
+    ensures { λ r. ⌜ r ≡ ltZ (negℤ (pos n)) (x .v) ⌝ }
+{
+    let v = x.v;
+    let limit = n as i64;
+    0 - limit < v
+}
+
+// x >= n
+fn at_least(x: Wide, n: u32) -> bool
+    ensures { λ r. ⌜ r ≡ leZ (pos n) (x .v) ⌝ }
+{
+    let v = x.v;
+    let limit = n as i64;
+    limit <= v
+}
+
+// a-b; below 0 it is 0.
+fn not_below_zero(a: Units, b: Units) -> u32
+    ensures { λ r. ⌜ r ≡ notBelowZero (a .v -ℤ b .v) ⌝ }
+{
+    let d = difference(a, b);
+    let v = d.v;
+    if v < 0 { 0 } else { v as u32 }
+}
+
+// a-b of two settings; 0 where b is the greater.
+fn less(a: u32, b: u32) -> u32
+    ensures { λ r. ⌜ r ≡ a - b ⌝ }
+{
+    if b <= a { a - b } else { 0 }
+}
+
+// x >= Wf
+fn reached_wf(set: Settings, x: Wide) -> bool
+    ensures { λ r. ⌜ r ≡ reachedWf set (x .v) ⌝ }
+{
+    let wf = less(set.dose, set.pf);
+    at_least(x, wf)
+}
+
+// x >= Wc
+fn reached_wc(set: Settings, x: Wide) -> bool
+    ensures { λ r. ⌜ r ≡ reachedWc set (x .v) ⌝ }
+{
+    let wc = less(set.dose, set.pc);
+    at_least(x, wc)
+}
+
+// -M < F < M
+fn near_zero(set: Settings, f: Units) -> bool
+    ensures { λ r. ⌜ r ≡ nearZero set (f .v) ⌝ }
+{
+    let x = widened(f);
+    if above_minus(x, set.level) {
+        below(x, set.level)
+    } else {
+        false
+    }
+}
+
+// Outputs 1, 2 and 3: open or shut.
+fn outputs(one: bool, two: bool, three: bool) -> Gates
+    ensures { λ r. ⌜ r ≡ gates one two three ⌝ }
+{
+    Gates {
+        one: one,
+        two: two,
+        three: three,
+    }
+}
+
+// The phase goes on or changes, and no dose completes.
+fn to(phase: Phase, g: Gates, t: Seen) -> Moved
+    ensures { λ r. ⌜ r ≡ to phase g t ⌝ }
+{
+    let z = t.z;
+    Moved {
+        phase: phase,
+        z: z,
+        gates: g,
+        dose: Dose::Nothing,
+    }
+}
+
+// The same with all gates shut.
+fn rests(phase: Phase, t: Seen) -> Moved
+    ensures { λ r. ⌜ r ≡ to phase shut t ⌝ }
+{
+    let g = outputs(false, false, false);
+    to(phase, g, t)
+}
+
+// The dose is complete, Ready.
+fn completes(amount: u32, settled: bool, t: Seen) -> Moved
+    ensures { λ r. ⌜ r ≡ complete amount settled t ⌝ }
+{
+    let z = t.z;
+    let g = outputs(false, false, false);
+    Moved {
+        phase: Phase::Ready,
+        z: z,
+        gates: g,
+        dose: Dose::Complete {
+            amount: amount,
+            settled: settled,
+        },
+    }
+}
+
+// If -M < F < M then Z becomes F and w is 0.
+fn zeroed(set: Settings, t: Seen) -> Seen
+    ensures { λ r. ⌜ r ≡ zeroed set t ⌝ }
+{
+    let f = t.f;
+    if near_zero(set, f) {
+        Seen {
+            z: f,
+            w: Units { v: 0 },
+            ..t
+        }
+    } else {
+        t
+    }
+}
+
+// On reaching Wf AL1 enters Settle at tick number 0; AL0 holds.
+fn full(set: Settings, w0: Units) -> Phase
+    ensures { λ r. ⌜ r ≡ full set w0 ⌝ }
+{
+    if set.algorithm == 0 {
+        Phase::Hold
+    } else {
+        Phase::Settle { w0: w0, n: 0 }
+    }
+}
+
+// Coarse stage of Fill.
+fn coarse_stage(set: Settings, w0: Units, t: Seen) -> Moved
+    ensures { λ r. ⌜ r ≡ coarseStage set w0 t ⌝ }
+{
+    let w = t.w;
+    let x = widened(w);
+    if reached_wf(set, x) {
+        let p = full(set, w0);
+        rests(p, t)
+    } else if reached_wc(set, x) {
+        let g = outputs(false, true, false);
+        to(Phase::Fine { w0: w0 }, g, t)
+    } else {
+        let g = outputs(true, set.o == 1, false);
+        to(Phase::Coarse { w0: w0 }, g, t)
+    }
+}
+
+// Fine stage of Fill.
+fn fine_stage(set: Settings, w0: Units, t: Seen) -> Moved
+    ensures { λ r. ⌜ r ≡ fineStage set w0 t ⌝ }
+{
+    let w = t.w;
+    let x = widened(w);
+    if reached_wf(set, x) {
+        let p = full(set, w0);
+        rests(p, t)
+    } else {
+        let g = outputs(false, true, false);
+        to(Phase::Fine { w0: w0 }, g, t)
+    }
+}
+
+// w0 = w; go on at once as Fill, coarse stage.
+fn fill_begins(set: Settings, t: Seen) -> Moved
+    ensures { λ r. ⌜ r ≡ fillBegins set t ⌝ }
+{
+    let w = t.w;
+    coarse_stage(set, w, t)
+}
+
+// AL0 and AL1, Ready: on start the zero, w0, Fill.
+fn ready_to_fill(set: Settings, t: Seen) -> Moved
+    ensures { λ r. ⌜ r ≡ readyToFill set t ⌝ }
+{
+    if t.start {
+        let u = zeroed(set, t);
+        fill_begins(set, u)
+    } else {
+        rests(Phase::Ready, t)
+    }
+}
+
+// AL0: start is off.
+fn fill_stops(set: Settings, t: Seen) -> bool
+    ensures { λ r. ⌜ r ≡ (eqb (set .algorithm) 0 && not (t .start)) ⌝ }
+{
+    if set.algorithm == 0 { !t.start } else { false }
+}
+
+// AL0: start off during Fill closes both, Ready; this is looked at before the weight.
+fn fill(set: Settings, t: Seen, stage: Moved) -> Moved
+    ensures { λ r. ⌜ r ≡ fill set t stage ⌝ }
+{
+    if fill_stops(set, t) {
+        rests(Phase::Ready, t)
+    } else {
+        stage
+    }
+}
+
+// AL0: it holds with both closed until start goes off, then Ready.
+fn hold(t: Seen) -> Moved
+    ensures { λ r. ⌜ r ≡ hold t ⌝ }
+{
+    if t.start {
+        rests(Phase::Hold, t)
+    } else {
+        rests(Phase::Ready, t)
+    }
+}
+
+// Whether Settle or Calm, at tick number n before this tick, ends with it.
+fn settle_ends(set: Settings, n: u64, stable: bool) -> bool
+    ensures { λ r. ⌜ r ≡ settleEnds set (n + 1) stable ⌝ }
+{
+    let last = 256 * (set.p9 as u64);
+    if stable {
+        true
+    } else if n < last {
+        last <= n + 1
+    } else {
+        true
+    }
+}
+
+// wS = w, output 3 opens, Discharge.
+fn discharge_opens(w0: Units, t: Seen) -> Moved
+    ensures { λ r. ⌜ r ≡ dischargeOpens w0 t ⌝ }
+{
+    let w = t.w;
+    let p = Phase::Discharge {
+        w0: w0,
+        ws: w,
+        settled: t.stable,
+    };
+    let g = outputs(false, false, true);
+    to(p, g, t)
+}
+
+// AL1: Settle, at tick number n before this tick.
+fn settle(set: Settings, w0: Units, n: u64, t: Seen) -> Moved
+    ensures { λ r. ⌜ r ≡ settle set w0 (n + 1) t ⌝ }
+{
+    if settle_ends(set, n, t.stable) {
+        discharge_opens(w0, t)
+    } else {
+        rests(Phase::Settle { w0: w0, n: n + 1 }, t)
+    }
+}
+
+// wS-wE if p11 = 0, wS-w0 if 1; below 0 it is 0.
+fn amount_of(set: Settings, w0: Units, ws: Units, we: Units) -> u32
+    ensures { λ r. ⌜ r ≡ amountOf set w0 ws we ⌝ }
+{
+    if set.p11 == 0 {
+        not_below_zero(ws, we)
+    } else {
+        not_below_zero(ws, w0)
+    }
+}
+
+// AL1, Discharge: w < M closes 3, wE = w, the dose is complete, Ready.
+fn discharge(set: Settings, w0: Units, ws: Units, settled: bool, t: Seen) -> Moved
+    ensures { λ r. ⌜ r ≡ discharge set w0 ws settled t ⌝ }
+{
+    let w = t.w;
+    let x = widened(w);
+    if below(x, set.level) {
+        let amount = amount_of(set, w0, ws, w);
+        completes(amount, settled, t)
+    } else {
+        let p = Phase::Discharge {
+            w0: w0,
+            ws: ws,
+            settled: settled,
+        };
+        let g = outputs(false, false, true);
+        to(p, g, t)
+    }
+}
+
+// AL2 and AL3, Load: w >= M closes 3, Calm.
+fn load(set: Settings, t: Seen) -> Moved
+    ensures { λ r. ⌜ r ≡ load set t ⌝ }
+{
+    let w = t.w;
+    let x = widened(w);
+    if at_least(x, set.level) {
+        rests(Phase::Calm { n: 0 }, t)
+    } else {
+        let g = outputs(false, false, true);
+        to(Phase::Load, g, t)
+    }
+}
+
+// Calm ends as Settle does, then Ready.
+fn calm(set: Settings, n: u64, t: Seen) -> Moved
+    ensures { λ r. ⌜ r ≡ calm set (n + 1) t ⌝ }
+{
+    if settle_ends(set, n, t.stable) {
+        rests(Phase::Ready, t)
+    } else {
+        rests(Phase::Calm { n: n + 1 }, t)
+    }
+}
+
+// Coarse stage of Dose.
+fn dose_coarse(set: Settings, wh: Units, t: Seen) -> Moved
+    ensures { λ r. ⌜ r ≡ doseCoarse set wh t ⌝ }
+{
+    let w = t.w;
+    let x = difference(wh, w);
+    if reached_wf(set, x) {
+        rests(Phase::DoseSettle { wh: wh, n: 0 }, t)
+    } else if reached_wc(set, x) {
+        let g = outputs(false, true, false);
+        to(Phase::DoseFine { wh: wh }, g, t)
+    } else {
+        let g = outputs(true, true, false);
+        to(Phase::DoseCoarse { wh: wh }, g, t)
+    }
+}
+
+// Fine stage of Dose.
+fn dose_fine(set: Settings, wh: Units, t: Seen) -> Moved
+    ensures { λ r. ⌜ r ≡ doseFine set wh t ⌝ }
+{
+    let w = t.w;
+    let x = difference(wh, w);
+    if reached_wf(set, x) {
+        rests(Phase::DoseSettle { wh: wh, n: 0 }, t)
+    } else {
+        let g = outputs(false, true, false);
+        to(Phase::DoseFine { wh: wh }, g, t)
+    }
+}
+
+// Settle of Dose: at its end the dose is complete, amount wH-w or 0 if below 0, Ready.
+fn dose_settle(set: Settings, wh: Units, n: u64, t: Seen) -> Moved
+    ensures { λ r. ⌜ r ≡ doseSettle set wh (n + 1) t ⌝ }
+{
+    if settle_ends(set, n, t.stable) {
+        let w = t.w;
+        let amount = not_below_zero(wh, w);
+        completes(amount, t.stable, t)
+    } else {
+        rests(Phase::DoseSettle { wh: wh, n: n + 1 }, t)
+    }
+}
+
+// AL2, Ready: w < D opens 3, Load; else on start wH = w, Dose on the same tick.
+fn ready_to_dose(set: Settings, t: Seen) -> Moved
+    ensures { λ r. ⌜ r ≡ readyToDose set t ⌝ }
+{
+    let w = t.w;
+    let x = widened(w);
+    if below(x, set.dose) {
+        let g = outputs(false, false, true);
+        to(Phase::Load, g, t)
+    } else if t.start {
+        dose_coarse(set, w, t)
+    } else {
+        rests(Phase::Ready, t)
+    }
+}
+
+// AL3: in Ready nothing happens without start.
+fn waits(set: Settings, t: Seen) -> bool
+    ensures { λ r. ⌜ r ≡ waits set t ⌝ }
+{
+    if 3 <= set.algorithm { !t.start } else { false }
+}
+
+// Ready, in each algorithm.
+fn ready(set: Settings, t: Seen) -> Moved
+    ensures { λ r. ⌜ r ≡ ready set t ⌝ }
+{
+    if set.algorithm <= 1 {
+        ready_to_fill(set, t)
+    } else if waits(set, t) {
+        rests(Phase::Ready, t)
+    } else {
+        ready_to_dose(set, t)
+    }
+}
+
+// The phase rule of one tick.
+pub fn step(set: Settings, phase: Phase, seen: Seen) -> Moved
+    ensures { λ r. ⌜ r ≡ stepOf set phase seen ⌝ }
+{
+    match phase {
+        Phase::Ready => ready(set, seen),
+        Phase::Coarse { w0 } => fill(set, seen, coarse_stage(set, w0, seen)),
+        Phase::Fine { w0 } => fill(set, seen, fine_stage(set, w0, seen)),
+        Phase::Hold => hold(seen),
+        Phase::Settle { w0, n } => settle(set, w0, n, seen),
+        Phase::Discharge { w0, ws, settled } => discharge(set, w0, ws, settled, seen),
+        Phase::Load => load(set, seen),
+        Phase::Calm { n } => calm(set, n, seen),
+        Phase::DoseCoarse { wh } => dose_coarse(set, wh, seen),
+        Phase::DoseFine { wh } => dose_fine(set, wh, seen),
+        Phase::DoseSettle { wh, n } => dose_settle(set, wh, n, seen),
+    }
 }

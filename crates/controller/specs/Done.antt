@@ -1,0 +1,33 @@
+-- What an answer that is done tells of the tests before it. Assumes nothing.
+use mathlib.Core.Path.{_≡_, refl}
+use mathlib.Core.Bool.{Bool, true, false}
+use mathlib.Core.List.{List}
+use Prim.Native.Nat.{ℕ}
+use native.Mathlib.Omega.{arith}
+use Rattle.laws.specs.Pick.{pick}
+use Rattle.paper.specs.Answer.{Answer, done, refused, fault, onDone}
+
+pub refused-done : {X Q : Type 0} {n : ℕ} {vs : List ℕ} {x : X} → refused n vs ≡ done x → Q
+refused-done e = let z : _≡_ {A = ℕ} 0 1 = cc in let f : ⊥ = omega arith in absurd f
+
+pub fault-done : {X Q : Type 0} {n : ℕ} {vs : List ℕ} {x : X} → fault n vs ≡ done x → Q
+fault-done e = let z : _≡_ {A = ℕ} 0 1 = cc in let f : ⊥ = omega arith in absurd f
+
+-- where going on with an answer's values is done, the answer was done
+pub on-done : {A B Q : Type 0} (a : Answer A) (next : A → Answer B) (y : B) → onDone a next ≡ done y → ((x : A) → a ≡ done x → next x ≡ done y → Q) → Q
+unfolding onDone
+on-done (done x) next y e go = go x refl e
+on-done (refused n vs) next y e go = refused-done e
+on-done (fault n vs) next y e go = fault-done e
+
+-- a test before a refusal passed
+pub passed : {X : Type 0} (b : Bool) (a : Answer X) (n : ℕ) (vs : List ℕ) (y : X) → pick b a (refused n vs) ≡ done y → (b ≡ true) × (a ≡ done y)
+unfolding pick
+passed true a n vs y e = (refl, e)
+passed false a n vs y e = refused-done e
+
+-- a test that refuses failed
+pub failed : {X : Type 0} (b : Bool) (x : X) (n : ℕ) (vs : List ℕ) (y : X) → pick b (refused n vs) (done x) ≡ done y → (b ≡ false) × (x ≡ y)
+unfolding pick
+failed true x n vs y e = refused-done e
+failed false x n vs y e = (refl, cc)

@@ -1,0 +1,20 @@
+use borrow.Author.Needs.{needs}
+use mir.Syntax.{w64}
+use mir.Val.{SFits}
+use mir.Facts.{toZ-ofZ}
+use native.Mathlib.Omega.{arith}
+use Rattle.dosing.proofs.Laws.{pos-is}
+use Rattle.dosing.proofs.at_least.Statement.{statement}
+use Rattle.dosing.proofs.at_least.Tie as tie
+
+told : (c : tie.After-struct-told) → SFits w64 (c .before .args .x .v)
+told c = search needs
+
+cast-limit : tie.Need-cast-limit
+cast-limit c = search needs
+
+returns : tie.Need-returns
+returns c = rw (toZ-ofZ (told c), pos-is (c .before .args .n) (omega arith))
+
+pub at-least-spec : {M : Type 1} → statement M
+at-least-spec = tie.close (tie.spec cast-limit returns)

@@ -1,0 +1,12 @@
+use borrow.Author.Needs.{needs}
+use Rattle.dosing.proofs.completes.Statement.{statement}
+use Rattle.dosing.proofs.completes.Tie as tie
+
+outputs-requires : tie.Need-outputs-requires
+outputs-requires c κs = search needs
+
+returns : tie.Need-returns
+returns c = simp (c .outputs .ensures)
+
+pub completes-spec : {M : Type 1} → statement M
+completes-spec = tie.close (tie.spec outputs-requires returns)

@@ -1,0 +1,22 @@
+use Rattle.dosing.specs.Rules.{hold}
+use Rattle.laws.specs.Pick.{pick-true, pick-false}
+use borrow.Author.Needs.{needs}
+use Rattle.dosing.proofs.hold.Statement.{statement}
+use Rattle.dosing.proofs.hold.Tie as tie
+
+rests-requires : tie.Need-rests-requires
+rests-requires c κs = search needs
+
+rests-requires-2 : tie.Need-rests-requires-2
+rests-requires-2 c κs = search needs
+
+returns : tie.Need-returns
+unfolding hold
+returns c = simp (c .rests .ensures, c .before .if1 .taken, pick-true)
+
+returns-2 : tie.Need-returns-2
+unfolding hold
+returns-2 c = simp (c .rests2 .ensures, c .before .if1 .left, pick-false)
+
+pub hold-spec : {M : Type 1} → statement M
+hold-spec = tie.close (tie.spec rests-requires rests-requires-2 returns returns-2)

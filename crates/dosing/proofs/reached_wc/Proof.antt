@@ -1,0 +1,22 @@
+use mathlib.Core.Path.{ap, _∙_}
+use Prim.Native.Nat.{ℕ}
+use lib.IntN.{pos}
+use lib.Signed.{leZ}
+use Rattle.dosing.specs.Rules.{reachedWc}
+use Rattle.settings.specs.Table.{Wc}
+use borrow.Author.Needs.{needs}
+use Rattle.dosing.proofs.reached_wc.Statement.{statement}
+use Rattle.dosing.proofs.reached_wc.Tie as tie
+
+less-requires : tie.Need-less-requires
+less-requires c κs = search needs
+
+at-least-requires : tie.Need-at-least-requires
+at-least-requires c κs = search needs
+
+returns : tie.Need-returns
+unfolding reachedWc Wc
+returns c = c .at-least .ensures ∙ ap (λ (n : ℕ). leZ (pos n) (c .before .before .args .x .v)) (c .before .less .ensures)
+
+pub reached-wc-spec : {M : Type 1} → statement M
+reached-wc-spec = tie.close (tie.spec less-requires at-least-requires returns)

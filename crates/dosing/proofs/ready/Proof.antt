@@ -1,0 +1,42 @@
+use Rattle.dosing.specs.Rules.{ready}
+use Rattle.laws.specs.Pick.{picks}
+use Rattle.laws.specs.Pick.{so}
+use borrow.Author.Needs.{needs}
+use Rattle.dosing.proofs.ready.Statement.{statement}
+use Rattle.dosing.proofs.ready.Tie as tie
+
+ready-to-fill-requires : tie.Need-ready-to-fill-requires
+ready-to-fill-requires c κs = search needs
+
+waits-requires : tie.Need-waits-requires
+waits-requires c κs = search needs
+
+rests-requires : tie.Need-rests-requires
+rests-requires c κs = search needs
+
+ready-to-dose-requires : tie.Need-ready-to-dose-requires
+ready-to-dose-requires c κs = search needs
+
+returns : tie.Need-returns
+unfolding ready
+returns c = search (picks, c .ready-to-fill .ensures)
+
+returns-2 : tie.Need-returns-2
+unfolding ready
+returns-2 c = search (picks, c .rests .ensures, so (c .before .before .waits .ensures) (c .before .if2 .taken))
+
+returns-3 : tie.Need-returns-3
+unfolding ready
+returns-3 c = search (picks, c .ready-to-dose .ensures, so (c .before .before .waits .ensures) (c .before .if2 .left))
+
+pub ready-spec : {M : Type 1} → statement M
+ready-spec =
+    tie.close
+    (tie.spec
+    ready-to-fill-requires
+    waits-requires
+    rests-requires
+    ready-to-dose-requires
+    returns
+    returns-2
+    returns-3)

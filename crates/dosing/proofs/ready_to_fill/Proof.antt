@@ -1,0 +1,26 @@
+use Rattle.dosing.specs.Rules.{readyToFill}
+use Rattle.laws.specs.Pick.{pick-true, pick-false}
+use borrow.Author.Needs.{needs}
+use Rattle.dosing.proofs.ready_to_fill.Statement.{statement}
+use Rattle.dosing.proofs.ready_to_fill.Tie as tie
+
+zeroed-requires : tie.Need-zeroed-requires
+zeroed-requires c κs = search needs
+
+fill-begins-requires : tie.Need-fill-begins-requires
+fill-begins-requires c κs = search needs
+
+rests-requires : tie.Need-rests-requires
+rests-requires c κs = search needs
+
+returns : tie.Need-returns
+unfolding readyToFill
+returns c = simp (c .fill-begins .ensures, c .before .zeroed .ensures, c .before .before .if1 .taken, pick-true)
+
+returns-2 : tie.Need-returns-2
+unfolding readyToFill
+returns-2 c = simp (c .rests .ensures, c .before .if1 .left, pick-false)
+
+pub ready-to-fill-spec : {M : Type 1} → statement M
+ready-to-fill-spec =
+    tie.close (tie.spec zeroed-requires fill-begins-requires rests-requires returns returns-2)

@@ -1,0 +1,138 @@
+-- The rules run on numbers: document 01's boundary table for AL1 and cases of each algorithm. Assumes nothing.
+use mathlib.Core.Path.{_≡_, refl}
+use mathlib.Core.Bool.{Bool, true, false, not, _&&_, _||_}
+use Prim.Native.Nat.{ℕ}
+use lib.IntN.{ℤ, pos, negsuc}
+use Rattle.laws.specs.Pick.{pick}
+use Rattle.settings.specs.declared.Settings.{Settings}
+use Rattle.settings.specs.Table.{Wc, Wf}
+use Rattle.dosing.specs.Rules.{units, gates, shut, to, complete, reachedWf, reachedWc, notBelowZero, nearZero, zeroed, full, coarseStage, fineStage, fillBegins, readyToFill, fill, hold, settleEnds, dischargeOpens, settle, amountOf, discharge, load, calm, doseCoarse, doseFine, doseSettle, readyToDose, waits, ready, stepOf}
+use Rattle.dosing.specs.declared.Phase.the-variants.{Ready, Coarse, Fine, Hold, Settle, Discharge, Load, Calm, DoseCoarse, DoseFine, DoseSettle}
+use Rattle.dosing.specs.declared.Seen.{Seen}
+use Rattle.dosing.specs.declared.Dose.the-variants.{Complete}
+
+-- C 1,000, D 500, Pc 100, Pf 20, p9 1, with an algorithm, its M and p11
+abbrev box : ℕ → ℕ → ℕ → Settings
+box algorithm level p11 =
+    record {
+      algorithm = algorithm;
+      capacity = 1000;
+      dose = 500;
+      pc = 100;
+      pf = 20;
+      level = level;
+      p7 = 4;
+      p8 = 4;
+      p9 = 1;
+      p11 = p11;
+      o = 0;
+      in1 = 0;
+      in2 = 0;
+      in3 = 0;
+      address = 1;
+      serial = 0;
+      point = 0;
+    }
+
+abbrev al0 : Settings
+al0 = box 0 50 0
+
+abbrev al1 : Settings
+al1 = box 1 50 0
+
+abbrev al2 : Settings
+al2 = box 2 800 0
+
+abbrev al3 : Settings
+al3 = box 3 800 0
+
+-- a tick that sees w on a scale zeroed at 0, by start and stable
+abbrev sees : ℤ → Bool → Bool → Seen
+sees w start stable = record { f = units w; z = units (pos 0); w = units w; start = start; stable = stable }
+
+-- AL1: at 399 coarse is open; at 400 shut, fine open; at 479 fine open; at 480 both shut
+pub boundary :
+    (stepOf al1 (Coarse (units (pos 0))) (sees (pos 399) true false) .gates ≡ gates true false false)
+    × (stepOf al1 (Coarse (units (pos 0))) (sees (pos 400) true false) .gates ≡ gates false true false)
+    × (stepOf al1 (Fine (units (pos 0))) (sees (pos 479) true false) .gates ≡ gates false true false)
+    × (stepOf al1 (Fine (units (pos 0))) (sees (pos 480) true false) .gates ≡ shut)
+    × (stepOf al1 (Coarse (units (pos 0))) (sees (pos 480) true false) ≡ to (Settle (units (pos 0)) 0) shut (sees (pos 480) true false))
+unfolding stepOf coarseStage fineStage fill full reachedWf reachedWc Wc Wf pick
+boundary = (refl, refl, refl, refl, refl)
+
+-- coarse does not open again in the fine stage
+pub fine-stays : stepOf al1 (Fine (units (pos 0))) (sees (pos 300) true false) .gates ≡ gates false true false
+unfolding stepOf fineStage fill reachedWf Wf pick
+fine-stays = refl
+
+-- AL1, Ready: nothing without start; on start F within M becomes the zero, and F = M does not
+pub starts :
+    (stepOf al1 Ready (sees (pos 49) false true) ≡ to Ready shut (sees (pos 49) false true))
+    × (stepOf al1 Ready (sees (pos 49) true true) .z ≡ units (pos 49))
+    × (stepOf al1 Ready (sees (pos 49) true true) .phase ≡ Coarse (units (pos 0)))
+    × (stepOf al1 Ready (sees (pos 50) true true) .z ≡ units (pos 0))
+    × (stepOf al1 Ready (sees (pos 50) true true) .phase ≡ Coarse (units (pos 50)))
+    × (stepOf al1 Ready (sees (negsuc 48) true true) .z ≡ units (negsuc 48))
+    × (stepOf al1 Ready (sees (negsuc 49) true true) .z ≡ units (pos 0))
+unfolding stepOf ready readyToFill fillBegins zeroed nearZero coarseStage full reachedWf reachedWc Wc Wf pick
+starts = (refl, refl, refl, refl, refl, refl, refl)
+
+-- Settle, p9 = 1: it goes on at tick number 63 and 255, and ends on a stable tick and on number 256
+pub settles :
+    (stepOf al1 (Settle (units (pos 0)) 62) (sees (pos 490) true false) .phase ≡ Settle (units (pos 0)) 63)
+    × (stepOf al1 (Settle (units (pos 0)) 63) (sees (pos 490) true true) .phase ≡ Discharge (units (pos 0)) (units (pos 490)) true)
+    × (stepOf al1 (Settle (units (pos 0)) 254) (sees (pos 490) true false) .phase ≡ Settle (units (pos 0)) 255)
+    × (stepOf al1 (Settle (units (pos 0)) 255) (sees (pos 490) true false) .phase ≡ Discharge (units (pos 0)) (units (pos 490)) false)
+    × (stepOf al1 (Settle (units (pos 0)) 255) (sees (pos 490) true true) .phase ≡ Discharge (units (pos 0)) (units (pos 490)) true)
+unfolding stepOf settle settleEnds dischargeOpens pick
+settles = (refl, refl, refl, refl, refl)
+
+-- Discharge: at w = M it goes on; below M the amount is wS-wE if p11 = 0, wS-w0 if 1; below 0 it is 0
+pub discharges :
+    (stepOf al1 (Discharge (units (pos 7)) (units (pos 490)) true) (sees (pos 50) true false) .phase ≡ Discharge (units (pos 7)) (units (pos 490)) true)
+    × (stepOf al1 (Discharge (units (pos 7)) (units (pos 490)) true) (sees (pos 49) true false) ≡ complete 441 true (sees (pos 49) true false))
+    × (stepOf (box 1 50 1) (Discharge (units (pos 7)) (units (pos 490)) false) (sees (pos 49) true false) ≡ complete 483 false (sees (pos 49) true false))
+    × (stepOf al1 (Discharge (units (pos 7)) (units (negsuc 9)) true) (sees (negsuc 8) true false) ≡ complete 0 true (sees (negsuc 8) true false))
+unfolding stepOf discharge amountOf notBelowZero pick
+discharges = (refl, refl, refl, refl)
+
+-- AL0: start off during Fill is looked at before the weight; with start it holds until start goes off
+pub stops :
+    (stepOf al0 (Coarse (units (pos 0))) (sees (pos 480) false false) ≡ to Ready shut (sees (pos 480) false false))
+    × (stepOf al0 (Fine (units (pos 0))) (sees (pos 480) false false) ≡ to Ready shut (sees (pos 480) false false))
+    × (stepOf al0 (Fine (units (pos 0))) (sees (pos 480) true false) ≡ to Hold shut (sees (pos 480) true false))
+    × (stepOf al0 Hold (sees (pos 480) true false) ≡ to Hold shut (sees (pos 480) true false))
+    × (stepOf al0 Hold (sees (pos 480) false false) ≡ to Ready shut (sees (pos 480) false false))
+unfolding stepOf coarseStage fineStage fill full hold reachedWf reachedWc Wc Wf pick
+stops = (refl, refl, refl, refl, refl)
+
+-- AL2: w < D loads with or without start, until w >= M, then Calm, then Ready
+pub loads :
+    (stepOf al2 Ready (sees (pos 499) false false) ≡ to Load (gates false false true) (sees (pos 499) false false))
+    × (stepOf al2 Ready (sees (pos 500) false false) ≡ to Ready shut (sees (pos 500) false false))
+    × (stepOf al2 Load (sees (pos 799) false false) ≡ to Load (gates false false true) (sees (pos 799) false false))
+    × (stepOf al2 Load (sees (pos 800) false false) ≡ to (Calm 0) shut (sees (pos 800) false false))
+    × (stepOf al2 (Calm 254) (sees (pos 800) false false) ≡ to (Calm 255) shut (sees (pos 800) false false))
+    × (stepOf al2 (Calm 255) (sees (pos 800) false false) ≡ to Ready shut (sees (pos 800) false false))
+unfolding stepOf ready readyToDose waits load calm settleEnds pick
+loads = (refl, refl, refl, refl, refl, refl)
+
+-- AL2: Dose goes by wH-w; its amount is wH-w, or 0 if below 0
+pub doses :
+    (stepOf al2 Ready (sees (pos 800) true false) ≡ to (DoseCoarse (units (pos 800))) (gates true true false) (sees (pos 800) true false))
+    × (stepOf al2 (DoseCoarse (units (pos 800))) (sees (pos 401) true false) .gates ≡ gates true true false)
+    × (stepOf al2 (DoseCoarse (units (pos 800))) (sees (pos 400) true false) .gates ≡ gates false true false)
+    × (stepOf al2 (DoseFine (units (pos 800))) (sees (pos 321) true false) .gates ≡ gates false true false)
+    × (stepOf al2 (DoseFine (units (pos 800))) (sees (pos 320) true false) ≡ to (DoseSettle (units (pos 800)) 0) shut (sees (pos 320) true false))
+    × (stepOf al2 (DoseSettle (units (pos 800)) 0) (sees (pos 310) true true) ≡ complete 490 true (sees (pos 310) true true))
+    × (stepOf al2 (DoseSettle (units (pos 800)) 255) (sees (pos 810) true false) ≡ complete 0 false (sees (pos 810) true false))
+unfolding stepOf ready readyToDose waits doseCoarse doseFine doseSettle settleEnds notBelowZero reachedWf reachedWc Wc Wf pick
+doses = (refl, refl, refl, refl, refl, refl, refl)
+
+-- AL3 is AL2, but in Ready nothing happens without start
+pub waits-for-start :
+    (stepOf al3 Ready (sees (pos 100) false false) ≡ to Ready shut (sees (pos 100) false false))
+    × (stepOf al3 Ready (sees (pos 100) true false) ≡ to Load (gates false false true) (sees (pos 100) true false))
+    × (stepOf al3 Ready (sees (pos 500) true false) .phase ≡ DoseCoarse (units (pos 500)))
+unfolding stepOf ready readyToDose waits doseCoarse reachedWf reachedWc Wc Wf pick
+waits-for-start = (refl, refl, refl)
