@@ -1,2 +1,3 @@
 pub mod Events
 pub mod Statement
+pub mod Kept
