@@ -7,8 +7,9 @@ use native.Mathlib.Omega.{arith}
 use lib.Dec.{leb, ltb, eqb}
 use lib.IntN.{ℤ, pos, _-ℤ_, +ℤ-invr}
 use lib.ListN.{take}
-use borrow.Author.Tests.{eqb-true, lt-leb}
+use borrow.Author.Tests.{eqb-true, lt-leb, ltb-true}
 use Rattle.laws.specs.Pick.{pick, pick-t, pick-f, pick-true, pick-false, pick-all}
+use Rattle.laws.specs.Whole.{false-true}
 use Rattle.paper.specs.Answer.{Answer, done, refused, fault}
 use Rattle.window.specs.Mean.{meanOf}
 use Rattle.window.specs.Window.{samplesOf, pushOf}
@@ -16,7 +17,7 @@ use Rattle.window.specs.Laws.{samples-push}
 use Rattle.settings.specs.declared.Settings.{Settings}
 use Rattle.dosing.specs.Rules.{units, gates, shut, to, complete, nearZero, zeroed, full, notBelowZero, amountOf, coarseStage, doseCoarse, stepOf}
 use Rattle.dosing.specs.Gates.{gatesOf, belongs}
-use Rattle.dosing.specs.Ways.{coarse-ways, fine-ways, fill-ways, hold-ways, settle-ways, discharge-ways, load-ways, calm-ways, dose-coarse-ways, dose-fine-ways, dose-settle-ways, ready-ways}
+use Rattle.dosing.specs.Ways.{pick-if, coarse-ways, fine-ways, fill-ways, hold-ways, settle-ways, discharge-ways, load-ways, calm-ways, dose-coarse-ways, dose-fine-ways, dose-settle-ways, ready-ways}
 use Rattle.dosing.specs.declared.Units.{Units}
 use Rattle.dosing.specs.declared.Gates.{Gates}
 use Rattle.dosing.specs.declared.Phase.{Phase}
@@ -59,11 +60,13 @@ Answers n amounts (done t) = Tells n amounts (t .doses)
 Answers n amounts (refused r vs) = amounts ≡ []
 Answers n amounts (fault r vs) = amounts ≡ []
 
--- what a tick from c with the sample x comes to, seen from outside
-record Shown (c : Controller) (x : ℤ) (m : Noted) (r : Result Told) : Type 0 where
+-- what a tick from c with the sample x and the inputs i comes to, seen from outside
+record Shown (c : Controller) (x : ℤ) (i : ℕ) (m : Noted) (r : Result Told) : Type 0 where
   agrees : Agrees (r .next .phase) (noted c (r .next) (wAt c x (r .next)) m)
   counters : r .next .counters ≡ countedIn (c .counters) (dosesSeen c x (r .next) m)
   records : Answers (c .counters) (dosesSeen c x (r .next) m) (r .answer)
+  set : r .next .set ≡ c .set
+  weight : i ≤ 15 → clear (r .next .condition) ≡ true → wAt c x (r .next) ≡ r .next .f .v -ℤ r .next .z .v
 
 -- ---- tests
 
@@ -258,7 +261,7 @@ settles-not-ready (DoseCoarse wH) = refl
 settles-not-ready (DoseFine wH) = refl
 settles-not-ready (DoseSettle wH n) = refl
 
-module _ (c : Controller) (x : ℤ) (m : Noted) where
+module _ (c : Controller) (x : ℤ) (i : ℕ) (m : Noted) where
   -- a refusal, or a standing fault
   still-seen : dosesSeen c x c m ≡ []
   unfolding dosesSeen completes leavesSettle shuts3
@@ -271,9 +274,10 @@ module _ (c : Controller) (x : ℤ) (m : Noted) where
   unfolding noted begins opens3 pick
   still-noted = rw (and-not (atReady (c .phase)), not-and (c .gates .three))
 
-  still-shown : (r : Answer Told) → Agrees (c .phase) m → Answers (c .counters) [] r → Shown c x m (still c r)
+  still-shown : (r : Answer Told) → Agrees (c .phase) m → Answers (c .counters) [] r → (i ≤ 15 → clear (c .condition) ≡ true → ⊥) → Shown c x i m (still c r)
   unfolding countedIn
-  still-shown r a t = record { agrees = rw still-noted a; counters = rw still-seen; records = rw still-seen t }
+  still-shown r a t out =
+      record { agrees = rw still-noted a; counters = rw still-seen; records = rw still-seen t; set = refl; weight = λ h k. absurd (out h k) }
 
   -- a fault that ends the tick
   fault-seen : (why : Fault) (d : Controller) → dosesSeen c x (faulted why d .next) m ≡ []
@@ -285,13 +289,15 @@ module _ (c : Controller) (x : ℤ) (m : Noted) where
   says-none (F.F14 channel) = refl
   says-none F.F21 = refl
 
-  faulted-shown : (why : Fault) (d : Controller) → d .counters ≡ c .counters → Shown c x m (faulted why d)
-  unfolding Agrees faulted countedIn
-  faulted-shown why d e =
+  faulted-shown : (why : Fault) (d : Controller) → d .counters ≡ c .counters → d .set ≡ c .set → Shown c x i m (faulted why d)
+  unfolding Agrees faulted countedIn clear
+  faulted-shown why d e set =
       record {
         agrees = tt;
         counters = e ∙ sym (ap (countedIn (c .counters)) (fault-seen why d));
         records = subst (λ (l : List ℕ). Answers (c .counters) l (saysFault why)) (sym (fault-seen why d)) (says-none why);
+        set = set;
+        weight = λ h k. false-true k;
       }
 
   -- the phase rule and step 8
@@ -299,41 +305,46 @@ module _ (c : Controller) (x : ℤ) (m : Noted) where
   unfolding dosesSeen completes leavesSettle shuts3 wAt step8 clear
   step8-seen d to g k f h = rw (← f, g, k) (sym (h .doses))
 
-  step8-shown : (d : Controller) (to : Moved) → c .gates ≡ gatesOf (c .set) (c .phase) → d .counters ≡ c .counters → d .condition ≡ Clear → d .f .v ≡ mean c x → Matches (c .set) (c .phase) (d .f .v) m to → Shown c x m (step8 d to)
+  step8-shown : (d : Controller) (to : Moved) → c .gates ≡ gatesOf (c .set) (c .phase) → d .set ≡ c .set → d .counters ≡ c .counters → d .condition ≡ Clear → d .f .v ≡ mean c x → Matches (c .set) (c .phase) (d .f .v) m to → Shown c x i m (step8 d to)
   unfolding noted begins opens3 wAt step8 Answers
-  step8-shown d to g n k f h =
+  step8-shown d to g set n k f h =
       let e = step8-seen d to g k f h in
       record {
         agrees = rw (← f, g) (h .agrees);
         counters = ap (λ (k : Counters). countersAfter k (to .dose)) n ∙ counts-in (c .counters) (to .dose) ∙ sym (ap (countedIn (c .counters)) e);
         records = tells-of (c .counters) (d .counters) (to .dose) _ n e;
+        set = set;
+        weight = λ h' k'. ap (λ (f' : ℤ). f' -ℤ to .z .v) (sym f);
       }
 
-  mismatched-shown : (runs : Runs) (d : Controller) (next : Result Told) → d .counters ≡ c .counters → Shown c x m next → Shown c x m (mismatched runs d next)
+  mismatched-shown : (runs : Runs) (d : Controller) (next : Result Told) → d .counters ≡ c .counters → d .set ≡ c .set → Shown c x i m next → Shown c x i m (mismatched runs d next)
   unfolding mismatched
-  mismatched-shown runs d next e h =
-      pick-all (Shown c x m) (leb 64 (runs .one)) (faulted-shown (F.F14 1) d e)
-      (pick-all (Shown c x m) (leb 64 (runs .two)) (faulted-shown (F.F14 2) d e)
-      (pick-all (Shown c x m) (leb 64 (runs .three)) (faulted-shown (F.F14 3) d e) h))
+  mismatched-shown runs d next e set h =
+      pick-all (Shown c x i m) (leb 64 (runs .one)) (faulted-shown (F.F14 1) d e set)
+      (pick-all (Shown c x i m) (leb 64 (runs .two)) (faulted-shown (F.F14 2) d e set)
+      (pick-all (Shown c x i m) (leb 64 (runs .three)) (faulted-shown (F.F14 3) d e set) h))
 
 module _ (c : Controller) (x : ℤ) (i : ℕ) (m : Noted) (s : Sound c) (a : Agrees (c .phase) m) where
   kept-mean : (f : ℤ) → f ≡ meanOf (take (filterOf c) (samplesOf (pushOf (c .window) x))) → f ≡ mean c x
   kept-mean f e = e ∙ ap (λ (l : List ℤ). meanOf (take (filterOf c) l)) (samples-push (c .window) x (s .places))
 
-  steps4to8-shown : c .condition ≡ Clear → Shown c x m (steps4and5 (withInputs i c) x)
+  steps4to8-shown : c .condition ≡ Clear → Shown c x i m (steps4and5 (withInputs i c) x)
   unfolding steps4and5 steps6to8 step7 seenOf wOf filterOf
   steps4to8-shown k =
-      mismatched-shown c x m _ _ _ refl
-      (step8-shown c x m _ _ (s .gates) refl k (kept-mean _ refl) (step-matches (c .set) (c .phase) m _ refl (s .phase) a))
+      mismatched-shown c x i m _ _ _ refl refl
+      (step8-shown c x i m _ _ (s .gates) refl refl k (kept-mean _ refl) (step-matches (c .set) (c .phase) m _ refl (s .phase) a))
 
-  step2-shown : (k : Condition) → c .condition ≡ k → Shown c x m (step2 k c x i)
-  unfolding step2 step3
-  step2-shown Clear k = pick-all (Shown c x m) (outside x) (faulted-shown c x m F.F21 _ refl) (steps4to8-shown k)
-  step2-shown (Faulted why) k = still-shown c x m (saysFault why) a (says-none c x m why)
+  step2-shown : (k : Condition) → c .condition ≡ k → Shown c x i m (step2 k c x i)
+  unfolding step2 step3 clear
+  step2-shown Clear k = pick-all (Shown c x i m) (outside x) (faulted-shown c x i m F.F21 _ refl refl) (steps4to8-shown k)
+  step2-shown (Faulted why) k = still-shown c x i m (saysFault why) a (says-none c x i m why) (λ h t. false-true (rw k at t))
 
-  tick-shown : Shown c x m (tickOf c x i)
+  tick-shown : Shown c x i m (tickOf c x i)
   unfolding tickOf Answers
-  tick-shown = pick-all (Shown c x m) (ltb 15 i) (still-shown c x m _ a refl) (step2-shown (c .condition) refl)
+  tick-shown =
+      pick-if (Shown c x i m) (ltb 15 i)
+      (λ above. still-shown c x i m _ a refl (λ h k. omega (arith, ltb-true 15 i above)))
+      (λ e. step2-shown (c .condition) refl)
 
   -- what the next phase keeps is what was noted, this tick's notes included
   pub tick-agrees : Agrees (tickOf c x i .next .phase) (noted c (tickOf c x i .next) (wAt c x (tickOf c x i .next)) m)
@@ -346,3 +357,11 @@ module _ (c : Controller) (x : ℤ) (i : ℕ) (m : Noted) (s : Sound c) (a : Agr
   -- the doses seen are the doses told of
   pub tick-records : Answers (c .counters) (dosesSeen c x (tickOf c x i .next) m) (tickOf c x i .answer)
   tick-records = tick-shown .records
+
+  -- a tick changes no setting
+  pub tick-set : tickOf c x i .next .set ≡ c .set
+  tick-set = tick-shown .set
+
+  -- w at the tick is F-Z as the tick leaves them
+  pub tick-weight : i ≤ 15 → clear (tickOf c x i .next .condition) ≡ true → wAt c x (tickOf c x i .next) ≡ tickOf c x i .next .f .v -ℤ tickOf c x i .next .z .v
+  tick-weight = tick-shown .weight
