@@ -72,7 +72,7 @@ same-kept c d o k s p n = record { sound = s; agrees = rw p (k .agrees); count =
 
 pub kept-link : (c : Controller) (o : Outside) (on : Bool) → Kept c o → Kept (eventOf c (link on)) (seenAfter c (link on) o)
 unfolding eventOf seenAfter linkOf
-kept-link c o on k = same-kept c _ o k (link-sound c (k .sound) on) refl refl
+kept-link c o on k = same-kept c _ o k (link-sound c on (k .sound)) refl refl
 
 record Apart (c d : Controller) : Type 0 where
   phase : d .phase ≡ c .phase

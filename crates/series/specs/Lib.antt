@@ -1,3 +1,4 @@
 pub mod Events
 pub mod Statement
 pub mod Kept
+pub mod Proved
