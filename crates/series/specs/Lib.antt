@@ -2,3 +2,4 @@ pub mod Events
 pub mod Statement
 pub mod Kept
 pub mod Proved
+pub mod Calls
