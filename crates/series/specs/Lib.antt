@@ -3,3 +3,4 @@ pub mod Statement
 pub mod Kept
 pub mod Proved
 pub mod Calls
+pub mod Examples
