@@ -39,10 +39,11 @@ unfolding total
 total-append [] bs = omega arith
 total-append (a ∷ as') bs = omega (arith, total-append as' bs)
 
-abbrev Counts : Counters → List ℕ → Type 0
+-- count and total are those of these doses
+abbrev pub Counts : Counters → List ℕ → Type 0
 Counts n doses = (n .count ≡ length doses % 1000000) × (n .total ≡ total doses % 1000000000)
 
-one-more : (n : Counters) (doses : List ℕ) (amount : ℕ) → Counts n doses → Counts (countedOf n amount) (doses ++ amount ∷ [])
+pub one-more : (n : Counters) (doses : List ℕ) (amount : ℕ) → Counts n doses → Counts (countedOf n amount) (doses ++ amount ∷ [])
 unfolding countedOf total
 one-more n doses amount h = (omega (arith, length-append doses (amount ∷ [])), omega (arith, total-append doses (amount ∷ [])))
 

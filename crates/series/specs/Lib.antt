@@ -3,4 +3,5 @@ pub mod Statement
 pub mod Kept
 pub mod Proved
 pub mod Calls
+pub mod Records
 pub mod Examples
