@@ -4,4 +4,5 @@ pub mod Kept
 pub mod Proved
 pub mod Calls
 pub mod Records
+pub mod Lines
 pub mod Examples
