@@ -1,13 +1,21 @@
 -- The promise is not empty: for AL1, AL2 and AL3 a series from the fresh controller that completes two different doses. Assumes nothing.
-use mathlib.Core.Path.{_≡_, refl}
+use mathlib.Core.Path.{_≡_, refl, sym}
 use mathlib.Core.Bool.{Bool, true, false, not, _&&_, _||_, xor}
 use mathlib.Core.List.{List, [], _∷_, _++_}
 use Prim.Native.Nat.{ℕ}
+use native.Mathlib.Omega.{arith}
 use lib.Dec.{T}
 use lib.IntN.{ℤ, pos}
 use lib.ListN.{replicate}
 use Rattle.laws.specs.Pick.{pick}
 use Rattle.laws.specs.Tests.{both, each, both-left, both-right}
+use Rattle.laws.specs.Whole.{false-true}
+use Rattle.laws.specs.Decimal.{decimal, digitsOf, glyph}
+use Rattle.journal.specs.declared.Line.{Line}
+use Rattle.journal.specs.declared.Line.the-variants.{Dose, On}
+use Rattle.journal.specs.Line.{textOf, fieldsText}
+use Rattle.journal.specs.Journal.{hourIn, closes, firstHour, journalText}
+use Rattle.journal.specs.Order.{Follows}
 use Rattle.paper.specs.Answer.{Answer, done, refused, fault, onDone}
 use Rattle.settings.specs.Table.{firstBad, firstFrom, table, inRange, leastLevel, mostLevel, defaultSet, Wc, Wf}
 use Rattle.settings.specs.declared.Settings.{Settings}
@@ -16,12 +24,14 @@ use Rattle.window.specs.Mean.{meanOf, roundAway, nearest, sum}
 use Rattle.window.specs.Window.{samplesOf, pushOf, emptyWindow}
 use Rattle.dosing.specs.Rules.{stepOf, ready, readyToFill, readyToDose, waits, zeroed, nearZero, fillBegins, coarseStage, fineStage, fill, full, hold, settle, settleEnds, dischargeOpens, discharge, amountOf, load, calm, doseCoarse, doseFine, doseSettle, reachedWf, reachedWc, notBelowZero}
 use Rattle.controller.specs.declared.Controller.{Controller}
+use Rattle.controller.specs.declared.Record.{Record}
 use Rattle.controller.specs.State.{restarted}
 use Rattle.controller.specs.Tick.{tickOf, step2, step3, steps4and5, steps6to8, mismatched, runsAfter, runAfter, expected, step7, step8, seenOf, wOf, stableOf, filterOf, equalZ, none, calmRun, startOf, outside, faulted, saysFault, outputsOf, worth, input, overCapacity, changed, countersAfter, countedOf, recordsOf}
 use Rattle.controller.specs.Calls.{atReady, readyIn, isReady, storedBad, restartOf, freshOf, linkOf}
 use Rattle.controller.specs.Outside.{wAt, clear, inDoseSettle, shuts3, leavesSettle, completes, begins, opens3, noted, amountSeen, dosesSeen}
-use Rattle.series.specs.Events.{Event, tick, link, request, settings, reset, restart, restartedFrom, eventOf, run, Carried, Series, nothingSeen, seenAfter, seen}
+use Rattle.series.specs.Events.{Event, tick, link, request, settings, reset, restart, restartedFrom, eventOf, run, Carried, Series, nothingSeen, seenAfter, seen, recordsIn, recordsAt, records}
 use Rattle.series.specs.Statement.{dosesAfter}
+use Rattle.series.specs.Lines.{Stamped, lineFor, doseLines, JournalOf}
 
 -- n ticks with the sample x and the inputs i
 abbrev ticks : ℕ → ℕ → ℕ → List Event
@@ -81,3 +91,31 @@ begun-series set es h = (λ c e. (refl, refl), plain-series es _ h)
 pub two-series : Series freshOf twoOfAL1 × Series freshOf twoOfAL2 × Series freshOf twoOfAL3
 unfolding each plain both
 two-series = (begun-series _ _ tt, begun-series _ _ tt, begun-series _ _ tt)
+
+-- ---- a journal of the first: both doses in hour 10, and the box on for all of it
+
+abbrev dose : ℕ → ℕ → Record
+dose count amount = record { count = count; amount = amount; settled = true }
+
+abbrev stamp : Record → Stamped
+stamp r = record { hour = 10; dose = r }
+
+told-AL1 : records freshOf twoOfAL1 ≡ dose 1 112 ∷ dose 2 250 ∷ []
+unfolding records recordsAt recordsIn eventOf restartedFrom nothingSeen restartOf storedBad onDone firstBad firstFrom table inRange leastLevel mostLevel wAt clear inDoseSettle shuts3 leavesSettle completes begins opens3 noted amountSeen dosesSeen atReady readyIn isReady linkOf freshOf restarted defaultSet tickOf step2 step3 steps4and5 steps6to8 mismatched runsAfter runAfter expected step7 step8 seenOf wOf stableOf filterOf equalZ none calmRun startOf outside faulted saysFault outputsOf worth input overCapacity changed countersAfter countedOf recordsOf stepOf ready readyToFill readyToDose waits zeroed nearZero fillBegins coarseStage fineStage fill full hold settle settleEnds dischargeOpens discharge amountOf load calm doseCoarse doseFine doseSettle reachedWf reachedWc notBelowZero Wc Wf samplesOf pushOf emptyWindow meanOf roundAway nearest sum pick xor setOf
+told-AL1 = refl
+
+-- a line after a D of its hour
+after-dose : (h c a s : ℕ) (l : Line) → hourIn l ≡ h → Follows (Dose h c a s) l
+unfolding hourIn closes
+after-dose h c a s l e = record { onward = omega arith; beyond = λ k. false-true k }
+
+pub journal-AL1 : JournalOf twoOfAL1 (stamp (dose 1 112) ∷ stamp (dose 2 250) ∷ []) (Dose 10 1 112 1 ∷ Dose 10 2 250 1 ∷ On 10 ∷ [])
+unfolding doseLines lineFor hourIn closes firstHour journalText textOf fieldsText decimal digitsOf glyph pick
+journal-AL1 =
+    record {
+      whole = sym told-AL1;
+      doses = refl;
+      order = record { steps = (after-dose 10 1 112 1 (Dose 10 2 250 1) refl, (after-dose 10 2 250 1 (On 10) refl, tt)); near = omega arith };
+      hours = omega arith;
+      size = omega arith;
+    }
