@@ -5,17 +5,17 @@ use mathlib.Core.List.{List, [], _∷_}
 use Prim.Native.Nat.{ℕ, _+_, _≤_}
 use native.Mathlib.Omega.{arith}
 use lib.Dec.{leb, ltb, eqb}
-use lib.IntN.{ℤ, pos, _-ℤ_, +ℤ-invr}
+use lib.IntN.{ℤ, _-ℤ_, +ℤ-invr}
 use lib.ListN.{take}
 use borrow.Author.Tests.{eqb-true, lt-leb, ltb-true}
-use Rattle.laws.specs.Pick.{pick, pick-t, pick-f, pick-true, pick-false, pick-all}
+use Rattle.laws.specs.Pick.{pick, pick-t, pick-f, pick-all}
 use Rattle.laws.specs.Whole.{false-true}
 use Rattle.paper.specs.Answer.{Answer, done, refused, fault}
 use Rattle.window.specs.Mean.{meanOf}
 use Rattle.window.specs.Window.{samplesOf, pushOf}
 use Rattle.window.specs.Laws.{samples-push}
 use Rattle.settings.specs.declared.Settings.{Settings}
-use Rattle.dosing.specs.Rules.{units, gates, shut, to, complete, nearZero, zeroed, full, notBelowZero, amountOf, coarseStage, doseCoarse, stepOf}
+use Rattle.dosing.specs.Rules.{gates, shut, to, complete, nearZero, zeroed, full, notBelowZero, amountOf, coarseStage, doseCoarse, stepOf}
 use Rattle.dosing.specs.Gates.{gatesOf, belongs}
 use Rattle.dosing.specs.Ways.{pick-if, coarse-ways, fine-ways, fill-ways, hold-ways, settle-ways, discharge-ways, load-ways, calm-ways, dose-coarse-ways, dose-fine-ways, dose-settle-ways, ready-ways}
 use Rattle.dosing.specs.declared.Units.{Units}
@@ -26,8 +26,8 @@ use Rattle.dosing.specs.declared.Seen.{Seen}
 use Rattle.dosing.specs.declared.Dose.{Dose}
 use Rattle.dosing.specs.declared.Dose.the-variants.{Nothing, Complete}
 use Rattle.dosing.specs.declared.Moved.{Moved}
-use Rattle.controller.specs.State.{withWindow, withF, withS, withRuns, withInputs}
-use Rattle.controller.specs.Tick.{Result, Told, still, saysFault, faulted, countedOf, countersAfter, recordsOf, step8, wOf, seenOf, step7, mismatched, runsAfter, steps6to8, filterOf, calmRun, startOf, steps4and5, outside, step3, step2, tickOf}
+use Rattle.controller.specs.State.{withInputs}
+use Rattle.controller.specs.Tick.{Result, Told, still, saysFault, faulted, countedOf, countersAfter, recordsOf, step8, wOf, seenOf, step7, mismatched, steps6to8, filterOf, steps4and5, outside, step3, step2, tickOf}
 use Rattle.controller.specs.Calls.{atReady}
 use Rattle.controller.specs.Sound.{Sound}
 use Rattle.controller.specs.Outside.{wAt, clear, inDoseSettle, shuts3, leavesSettle, completes, Noted, begins, opens3, noted, amountSeen, dosesSeen, Agrees}

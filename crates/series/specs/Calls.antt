@@ -1,5 +1,5 @@
 -- What each public call hands back is what its event makes of the controller: so a series of events is a series of calls. Assumes nothing.
-use mathlib.Core.Path.{_≡_, refl, sym, ap, _∙_}
+use mathlib.Core.Path.{_≡_, refl, sym, _∙_}
 use mathlib.Core.Bool.{Bool}
 use mathlib.Core.List.{List, []}
 use Prim.Native.Nat.{ℕ}
@@ -16,7 +16,7 @@ use Rattle.controller.specs.Calls.{restartOf, controllerIn, freshOf, linkOf}
 use Rattle.controller.specs.Says.{saysRestart, Ticks, Sets, Resets, Restarts, Replies}
 use Rattle.controller.specs.Made.{Made}
 use Rattle.controller.specs.Done.{refused-done, fault-done}
-use Rattle.series.specs.Events.{Event, tick, link, request, settings, reset, restart, restartedFrom, eventOf, run}
+use Rattle.series.specs.Events.{tick, link, request, settings, reset, restart, restartedFrom, eventOf, run}
 
 pub fresh-is : (r : Controller) → Made freshOf r → r ≡ run freshOf []
 unfolding run

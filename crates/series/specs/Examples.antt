@@ -1,11 +1,11 @@
 -- The promise is not empty: for AL1, AL2 and AL3 a series from the fresh controller that completes two different doses. Assumes nothing.
 use mathlib.Core.Path.{_≡_, refl, sym}
-use mathlib.Core.Bool.{Bool, true, false, not, _&&_, _||_, xor}
+use mathlib.Core.Bool.{Bool, true, false, xor}
 use mathlib.Core.List.{List, [], _∷_, _++_}
 use Prim.Native.Nat.{ℕ}
 use native.Mathlib.Omega.{arith}
 use lib.Dec.{T}
-use lib.IntN.{ℤ, pos}
+use lib.IntN.{pos}
 use lib.ListN.{replicate}
 use Rattle.laws.specs.Pick.{pick}
 use Rattle.laws.specs.Tests.{both, each, both-left, both-right}
@@ -16,7 +16,7 @@ use Rattle.journal.specs.declared.Line.the-variants.{Dose, On}
 use Rattle.journal.specs.Line.{textOf, fieldsText}
 use Rattle.journal.specs.Journal.{hourIn, closes, firstHour, journalText}
 use Rattle.journal.specs.Order.{Follows}
-use Rattle.paper.specs.Answer.{Answer, done, refused, fault, onDone}
+use Rattle.paper.specs.Answer.{onDone}
 use Rattle.settings.specs.Table.{firstBad, firstFrom, table, inRange, leastLevel, mostLevel, defaultSet, Wc, Wf}
 use Rattle.settings.specs.declared.Settings.{Settings}
 use Rattle.settings.specs.Cases.{setOf}
@@ -29,7 +29,7 @@ use Rattle.controller.specs.State.{restarted}
 use Rattle.controller.specs.Tick.{tickOf, step2, step3, steps4and5, steps6to8, mismatched, runsAfter, runAfter, expected, step7, step8, seenOf, wOf, stableOf, filterOf, equalZ, none, calmRun, startOf, outside, faulted, saysFault, outputsOf, worth, input, overCapacity, changed, countersAfter, countedOf, recordsOf}
 use Rattle.controller.specs.Calls.{atReady, readyIn, isReady, storedBad, restartOf, freshOf, linkOf}
 use Rattle.controller.specs.Outside.{wAt, clear, inDoseSettle, shuts3, leavesSettle, completes, begins, opens3, noted, amountSeen, dosesSeen}
-use Rattle.series.specs.Events.{Event, tick, link, request, settings, reset, restart, restartedFrom, eventOf, run, Carried, Series, nothingSeen, seenAfter, seen, recordsIn, recordsAt, records}
+use Rattle.series.specs.Events.{Event, tick, link, request, settings, reset, restart, restartedFrom, eventOf, Carried, Series, nothingSeen, seenAfter, seen, recordsIn, recordsAt, records}
 use Rattle.series.specs.Statement.{dosesAfter}
 use Rattle.series.specs.Lines.{Stamped, lineFor, doseLines, JournalOf}
 

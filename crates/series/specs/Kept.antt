@@ -7,14 +7,14 @@ use native.Mathlib.Omega.{arith}
 use lib.IntN.{ℤ}
 use lib.ListN.{length, length-append}
 use Rattle.laws.specs.Pick.{pick, pick-all}
-use Rattle.paper.specs.Answer.{Answer, done, refused, fault, onDone}
-use Rattle.paper.specs.Numbers.{R3, R15}
+use Rattle.paper.specs.Answer.{Answer, done, refused, fault}
+use Rattle.paper.specs.Numbers.{R15}
 use Rattle.settings.specs.declared.Settings.{Settings}
 use Rattle.settings.specs.Table.{firstBad}
 use Rattle.hourly.specs.Hours.{total}
 use Rattle.controller.specs.declared.Controller.{Controller}
 use Rattle.controller.specs.declared.Counters.{Counters}
-use Rattle.controller.specs.State.{counters, restarted, withCounters}
+use Rattle.controller.specs.State.{restarted}
 use Rattle.controller.specs.Tick.{Result, countedOf, tickOf}
 use Rattle.controller.specs.Calls.{storedBad, restartOf, freshOf, isReady, taken, after, settingsAnswer, settingsOf, resetAnswer, resetOf, linkOf}
 use Rattle.controller.specs.Line.{Asked, Replied, zeroedBy, replied, repliesTo, askedOf, requestOf}
@@ -112,14 +112,14 @@ kept-settings c o set k =
 -- ---- a counter reset
 
 -- in Ready the counters and the doses are forgotten together, else neither
-reset-kept : (c : Controller) (o : Outside) (ready : Bool) → let d = after (pick ready (done tt) (refused R3 [])) (withCounters (counters 0 0) c) c in Kept c o → Sound d → Kept d (record { notes = o .notes; doses = pick ready [] (o .doses) })
-unfolding after pick total
-reset-kept c o true k s = record { sound = s; agrees = k .agrees; count = refl; total = refl }
-reset-kept c o false k s = k
+reset-kept : (c : Controller) (o : Outside) (ready : Bool) → isReady c ≡ ready → Kept c o → Kept (eventOf c reset) (seenAfter c reset o)
+unfolding eventOf seenAfter resetOf resetAnswer after pick total
+reset-kept c o true e k = record { sound = reset-sound c (k .sound); agrees = rw e (k .agrees); count = rw e refl; total = rw e refl }
+reset-kept c o false e k =
+    record { sound = reset-sound c (k .sound); agrees = rw e (k .agrees); count = rw e (k .count); total = rw e (k .total) }
 
 pub kept-reset : (c : Controller) (o : Outside) → Kept c o → Kept (eventOf c reset) (seenAfter c reset o)
-unfolding eventOf seenAfter resetOf resetAnswer
-kept-reset c o k = reset-kept c o (isReady c) k (reset-sound c (k .sound))
+kept-reset c o k = reset-kept c o (isReady c) refl k
 
 -- ---- a restart
 

@@ -1,18 +1,15 @@
 -- Demand 3 holds of every series of calls from a fresh controller. Assumes nothing.
 use mathlib.Core.Path.{_≡_, sym, ap, ap₂, refl, _∙_}
-use mathlib.Core.Bool.{Bool, true, false, _&&_}
+use mathlib.Core.Bool.{Bool, true, false}
 use mathlib.Core.List.{List}
-use Prim.Native.Nat.{ℕ, _≤_, _<_}
-use native.Mathlib.Omega.{arith}
+use Prim.Native.Nat.{ℕ, _≤_}
 use lib.Dec.{ltb}
-use lib.IntN.{ℤ, _-ℤ_}
+use lib.IntN.{ℤ}
 use borrow.Author.Tests.{ltb-false}
-use Rattle.laws.specs.Pick.{pick}
 use Rattle.laws.specs.Whole.{true-false, false-true}
 use Rattle.settings.specs.declared.Settings.{Settings}
 use Rattle.dosing.specs.Gates.{fillingOpen}
 use Rattle.dosing.specs.Ways.{pick-if}
-use Rattle.paper.specs.Answer.{Answer, done, refused, fault}
 use Rattle.controller.specs.declared.Controller.{Controller}
 use Rattle.controller.specs.declared.Condition.{Condition}
 use Rattle.controller.specs.declared.Condition.the-variants.{Clear, Faulted}
@@ -21,7 +18,7 @@ use Rattle.controller.specs.Calls.{freshOf}
 use Rattle.controller.specs.Sound.{Sound}
 use Rattle.controller.specs.Keeps.{tick-sound}
 use Rattle.controller.specs.Promises.{never-together, fault-unfilled, tick-unfilled}
-use Rattle.controller.specs.Outside.{Noted, Agrees, wAt, clear}
+use Rattle.controller.specs.Outside.{wAt, clear}
 use Rattle.controller.specs.OutsideLaws.{tick-set, tick-weight}
 use Rattle.series.specs.Events.{Event, Outside, Series, run, seen, nothingSeen}
 use Rattle.series.specs.Statement.{accepted, Demand3}

@@ -1,9 +1,7 @@
 -- The dose records that the ticks of a series answer are the doses seen, each with the count after it, and each can be written to a journal. Assumes nothing.
-use mathlib.Core.Path.{_≡_, refl, sym, ap, ap₂, _∙_}
+use mathlib.Core.Path.{_≡_, refl, ap₂, _∙_}
 use mathlib.Core.List.{List, [], _∷_, _++_, map, map-append}
 use Prim.Native.Nat.{ℕ, _%_}
-use native.Mathlib.Omega.{arith}
-use lib.IntN.{ℤ}
 use lib.ListN.{length}
 use Rattle.paper.specs.Answer.{Answer, done, refused, fault}
 use Rattle.controller.specs.declared.Controller.{Controller}
