@@ -1,0 +1,66 @@
+-- What each public call hands back is what its event makes of the controller: so a series of events is a series of calls. Assumes nothing.
+use mathlib.Core.Path.{_≡_, refl, sym, _∙_}
+use mathlib.Core.Bool.{Bool}
+use mathlib.Core.List.{List, []}
+use Prim.Native.Nat.{ℕ}
+use lib.IntN.{ℤ}
+use Rattle.paper.specs.Answer.{Answer, done, refused, fault, told}
+use Rattle.settings.specs.declared.Settings.{Settings}
+use Rattle.controller.specs.declared.Controller.{Controller}
+use Rattle.controller.specs.declared.Ticked.{Ticked}
+use Rattle.controller.specs.declared.Requested.{Requested}
+use Rattle.controller.specs.declared.SetTo.{SetTo}
+use Rattle.controller.specs.declared.ResetTo.{ResetTo}
+use Rattle.controller.specs.declared.Restarted.{Restarted}
+use Rattle.controller.specs.Calls.{restartOf, controllerIn, freshOf, linkOf}
+use Rattle.controller.specs.Says.{saysRestart, Ticks, Sets, Resets, Restarts, Replies}
+use Rattle.controller.specs.Made.{Made}
+use Rattle.controller.specs.Done.{refused-done, fault-done}
+use Rattle.series.specs.Events.{tick, link, request, settings, reset, restart, restartedFrom, eventOf, run}
+
+pub fresh-is : (r : Controller) → Made freshOf r → r ≡ run freshOf []
+unfolding run
+fresh-is r h = h .is
+
+pub tick-is : (c : Controller) (x : ℤ) (i : ℕ) (r : Ticked) → Ticks c x i r → r .next ≡ eventOf c (tick x i)
+unfolding eventOf
+tick-is c x i r h = h .next
+
+pub link-is : (c : Controller) (on : Bool) (r : Controller) → Made (linkOf c on) r → r ≡ eventOf c (link on)
+unfolding eventOf
+link-is c on r h = h .is
+
+-- `old` is the reply buffer that is lent
+pub request-is : (c : Controller) (s old new : List ℕ) (r : Requested) → Replies c s old new r → r .next ≡ eventOf c (request s old)
+unfolding eventOf
+request-is c s old new r h = h .next
+
+pub settings-is : (c : Controller) (set : Settings) (r : SetTo) → Sets c set r → r .next ≡ eventOf c (settings set)
+unfolding eventOf
+settings-is c set r h = h .next
+
+pub reset-is : (c : Controller) (r : ResetTo) → Resets c r → r .next ≡ eventOf c reset
+unfolding eventOf
+reset-is c r h = h .next
+
+-- an accepted restart is put in place of the old controller
+taken-in : (f : Controller → Unit {0}) (c : Controller) (a : Answer Controller) → told f a ≡ done tt → controllerIn a ≡ restartedFrom c a
+unfolding told controllerIn restartedFrom
+taken-in f c (done d) e = refl
+taken-in f c (refused n vs) e = refused-done e
+taken-in f c (fault n vs) e = fault-done e
+
+pub restart-is : (c : Controller) (set : Settings) (count total : ℕ) (r : Restarted) → Restarts set count total r → saysRestart (r .answer) ≡ done tt → r .next ≡ eventOf c (restart set count total)
+unfolding eventOf
+restart-is c set count total r h e = h .next ∙ taken-in _ c (restartOf set count total) (sym (h .says) ∙ e)
+
+-- at a refused one the old controller stays
+stays-in : (f : Controller → Unit {0}) (c : Controller) (a : Answer Controller) (n : ℕ) (vs : List ℕ) → told f a ≡ refused n vs → restartedFrom c a ≡ c
+unfolding told restartedFrom
+stays-in f c (done d) n vs e = refused-done (sym e)
+stays-in f c (refused m us) n vs e = refl
+stays-in f c (fault m us) n vs e = refl
+
+pub restart-stays : (c : Controller) (set : Settings) (count total : ℕ) (r : Restarted) (n : ℕ) (vs : List ℕ) → Restarts set count total r → saysRestart (r .answer) ≡ refused n vs → eventOf c (restart set count total) ≡ c
+unfolding eventOf
+restart-stays c set count total r n vs h e = stays-in _ c (restartOf set count total) n vs (sym (h .says) ∙ e)
