@@ -5,7 +5,11 @@ pub mod Line
 pub mod Sound
 pub mod Done
 pub mod Bounds
+pub mod Setters
+pub mod Ways
 pub mod Keeps
+pub mod Promises
+pub mod Determined
 pub mod Says
 pub mod Made
 pub mod Cases

@@ -1,0 +1,213 @@
+-- What every sound controller promises beside the calls: doses and weights that can always be written, shut gates, and refusals that change nothing. Assumes nothing.
+use mathlib.Core.Path.{_≡_, refl, sym, ap, _∙_}
+use mathlib.Core.Bool.{Bool, true, false, _&&_}
+use mathlib.Core.List.{List, [], _∷_}
+use Prim.Native.Nat.{ℕ, _≤_, _<_}
+use native.Mathlib.Omega.{arith}
+use lib.Dec.{leb, ltb, eqb}
+use lib.IntN.{ℤ, natAbs, _-ℤ_}
+use lib.ListN.{length}
+use borrow.Author.Tests.{le-leb}
+use Rattle.laws.specs.Pick.{pick-all}
+use Rattle.laws.specs.Whole.{true-false}
+use Rattle.paper.specs.Answer.{Answer, done, refused, fault}
+use Rattle.settings.specs.declared.Settings.{Settings}
+use Rattle.settings.specs.Good.{good-ranges}
+use Rattle.window.specs.Window.{samplesOf}
+use Rattle.field.specs.Field.{writable}
+use Rattle.field.specs.declared.Weight.{Weight}
+use Rattle.dosing.specs.Rules.{shut, stepOf}
+use Rattle.dosing.specs.Gates.{gatesOf, fillingOpen, emptyingOpen}
+use Rattle.dosing.specs.Ways.{pick-if}
+use Rattle.dosing.specs.Laws.{ready-shut, never-both, over-unfilled, step-amount}
+use Rattle.dosing.specs.declared.Phase.the-variants.{Ready}
+use Rattle.dosing.specs.declared.Dose.{Dose}
+use Rattle.dosing.specs.declared.Dose.the-variants.{Nothing, Complete}
+use Rattle.controller.specs.Tick.{Result, Told, saysFault, faulted, overCapacity, countersAfter, recordsOf, step8, step7, seenOf, wOf, none, tickOf, step2}
+use Rattle.controller.specs.Calls.{isReady, taken, after, settingsAnswer, settingsOf, resetAnswer, resetOf}
+use Rattle.controller.specs.Line.{filtered, weightFrom, weightBy, Asked, Replied, askedOf, replyFrame, zeroedBy, replied, repliesTo, requestOf}
+use Rattle.controller.specs.Sound.{Sound, Abandoned}
+use Rattle.controller.specs.Done.{refused-done, fault-done}
+use Rattle.controller.specs.Bounds.{weight-within, ready-is}
+use Rattle.controller.specs.Ways.{tick-ways}
+use Rattle.controller.specs.Keeps.{after-most}
+use Rattle.controller.specs.declared.Controller.{Controller}
+use Rattle.controller.specs.declared.Counters.{Counters}
+use Rattle.controller.specs.declared.Record.{Record}
+use Rattle.controller.specs.declared.Fault.{Fault}
+use Rattle.controller.specs.declared.Fault.the-variants as F
+use Rattle.controller.specs.declared.Condition.{Condition}
+use Rattle.controller.specs.declared.Condition.the-variants.{Clear, Faulted}
+
+-- ---- doses
+
+-- count 0..999,999, amount 0..1,800,000: the ranges of a D line
+pub record Recordable (r : Record) : Type 0 where
+  pub count : r .count ≤ 999999
+  pub amount : r .amount ≤ 1800000
+
+abbrev pub AllRecordable : List Record → Type 0
+AllRecordable [] = Unit {0}
+AllRecordable (r ∷ rs) = Recordable r × AllRecordable rs
+
+records-recordable : (n : Counters) (d : Dose) → n .count ≤ 999999 → ((a : ℕ) (settled : Bool) → d ≡ Complete a settled → a ≤ 1800000) → AllRecordable (recordsOf n d)
+unfolding recordsOf
+records-recordable n Nothing h most = tt
+records-recordable n (Complete a settled) h most = (record { count = h; amount = most a settled refl }, tt)
+
+-- the D line of a tick's dose is never refused
+step7-recordable : (c : Controller) (start : Bool) (t : Told) → Sound c → step7 c start .answer ≡ done t → AllRecordable (t .doses)
+unfolding step7 step8 seenOf wOf
+step7-recordable c start t s e =
+    let m = stepOf (c .set) (c .phase) (seenOf c start) in
+    let after = countersAfter (c .counters) (m .dose) in
+    let same : recordsOf after (m .dose) ≡ t .doses = cc in
+    rw (sym same)
+    (records-recordable after (m .dose) (after-most (c .counters) (m .dose) (s .count) (s .total) .0)
+    (step-amount (c .set) (c .phase) (seenOf c start) (good-ranges (c .set) (s .set)) (s .previous) refl (s .kept)))
+
+fault-undone : {X Q : Type 0} (why : Fault) (x : X) → saysFault why ≡ done x → Q
+unfolding saysFault
+fault-undone (F.F14 channel) x e = fault-done e
+fault-undone F.F21 x e = fault-done e
+
+pub tick-recordable : (c : Controller) (x : ℤ) (i : ℕ) (t : Told) → Sound c → tickOf c x i .answer ≡ done t → AllRecordable (t .doses)
+unfolding faulted
+tick-recordable c x i t s =
+    tick-ways (λ (r : Result Told). r .answer ≡ done t → AllRecordable (t .doses))
+    (λ why d sound e. fault-undone why t e)
+    c x i s
+    (λ a e. refused-done e)
+    (λ why e' e. fault-undone why t e)
+    (λ d start r e. step7-recordable d start t (r .sound) e)
+
+-- ---- weights
+
+writable-small : (v : Weight) → natAbs (v .value) ≤ 999999 → v .point ≤ 7 → writable v ≡ true
+unfolding writable
+writable-small v a b = rw (le-leb (natAbs (v .value)) 999999 a, le-leb (v .point) 7 b)
+
+weight-from : (c : Controller) (w : ℤ) (empty : Bool) → Sound c → natAbs w ≤ 924998 → writable (weightFrom empty c w) ≡ true
+unfolding weightFrom
+weight-from c w true s h = writable-small (weightFrom true c w) (omega arith) (omega (arith, good-ranges (c .set) (s .set) .point))
+weight-from c w false s h = writable-small (weightFrom false c w) (omega arith) (omega (arith, good-ranges (c .set) (s .set) .point))
+
+-- a reply's weight field is never refused
+pub weight-writable : (c : Controller) (n : ℕ) → Sound c → writable (weightBy c n) ≡ true
+unfolding weightBy
+weight-writable c n s = weight-from c (filtered c n -ℤ c .z .v) (none (samplesOf (c .window))) s (weight-within c s n)
+
+-- ---- gates
+
+module _ (c : Controller) (s : Sound c) where
+  phase-shut : c .phase ≡ Ready → c .gates ≡ shut
+  phase-shut e = s .gates ∙ ap (gatesOf (c .set)) e ∙ ready-shut (c .set)
+
+  -- outputs 1 to 3 are shut in Ready
+  pub ready-gates : isReady c ≡ true → c .gates ≡ shut
+  ready-gates e = phase-shut (ready-is c e .1)
+
+  -- and in a fault, where output 4 is on
+  pub fault-gates : (why : Fault) → c .condition ≡ Faulted why → (c .gates ≡ shut) × (c .alarm ≡ true)
+  fault-gates why e =
+      let a : Abandoned (Faulted why) (c .phase) (c .alarm) = rw e at (s .abandoned) in
+      (phase-shut (a .0), a .1)
+
+  -- filling and emptying gates are never open together
+  pub never-together : (fillingOpen (c .set) (c .gates) && emptyingOpen (c .set) (c .gates)) ≡ false
+  never-together = rw (s .gates) (never-both (c .set) (c .phase) (s .phase))
+
+shut-unfilled : (set : Settings) → fillingOpen set shut ≡ false
+unfolding fillingOpen
+shut-unfilled set = pick-all (λ (b : Bool). b ≡ false) _ refl refl
+
+-- in a fault no filling gate is open
+pub fault-unfilled : (c : Controller) (why : Fault) → Sound c → c .condition ≡ Faulted why → fillingOpen (c .set) (c .gates) ≡ false
+fault-unfilled c why s e = rw (fault-gates c s why e .0) (shut-unfilled (c .set))
+
+abbrev OverUnfilled : Controller → Type 0
+OverUnfilled c = overCapacity (c .set) (c .f .v -ℤ c .z .v) ≡ true → fillingOpen (c .set) (c .gates) ≡ false
+
+step7-unfilled : (c : Controller) (start : Bool) → Sound c → OverUnfilled (step7 c start .next)
+unfolding step7 step8 seenOf wOf overCapacity
+step7-unfilled c start s e = over-unfilled (c .set) (c .phase) (seenOf c start) (good-ranges (c .set) (s .set)) (s .phase) refl e
+
+-- after a tick that is not refused, no filling gate is open where w is above C+9
+pub tick-unfilled : (c : Controller) (x : ℤ) (i : ℕ) → Sound c → i ≤ 15 → OverUnfilled (tickOf c x i .next)
+unfolding faulted
+tick-unfilled c x i s h =
+    tick-ways (λ (r : Result Told). OverUnfilled (r .next))
+    (λ why d sound e. shut-unfilled (d .set))
+    c x i s
+    (λ a. absurd (omega arith))
+    (λ why k e. fault-unfilled c why s k)
+    (λ d start r. step7-unfilled d start (r .sound))
+
+-- ---- what changes nothing
+
+fault-unrefused : {X Q : Type 0} (why : Fault) (n : ℕ) (vs : List ℕ) → _≡_ {A = Answer X} (saysFault why) (refused n vs) → Q
+unfolding saysFault
+fault-unrefused (F.F14 channel) n vs e = let z : _≡_ {A = ℕ} 0 1 = cc in let f : ⊥ = omega arith in absurd f
+fault-unrefused F.F21 n vs e = let z : _≡_ {A = ℕ} 0 1 = cc in let f : ⊥ = omega arith in absurd f
+
+done-unrefused : {X Q : Type 0} (x : X) (n : ℕ) (vs : List ℕ) → done x ≡ refused n vs → Q
+done-unrefused x n vs e = let z : _≡_ {A = ℕ} 0 1 = cc in let f : ⊥ = omega arith in absurd f
+
+-- a tick is refused only with R1, and changes nothing then
+pub tick-refused : (c : Controller) (x : ℤ) (i n : ℕ) (vs : List ℕ) → Sound c → tickOf c x i .answer ≡ refused n vs → (15 < i) × (tickOf c x i .next ≡ c)
+unfolding faulted step7 step8
+tick-refused c x i n vs s =
+    tick-ways (λ (r : Result Told). r .answer ≡ refused n vs → (15 < i) × (r .next ≡ c))
+    (λ why d sound e. fault-unrefused why n vs e)
+    c x i s
+    (λ a e. (a, refl))
+    (λ why k e. fault-unrefused why n vs e)
+    (λ d start r e. done-unrefused _ n vs e)
+
+again-still : (k : Condition) (c : Controller) (x : ℤ) (i : ℕ) (why : Fault) → k ≡ Faulted why → step2 k c x i .next ≡ c
+unfolding step2
+again-still Clear c x i why e = let z : _≡_ {A = ℕ} 0 1 = cc in let f : ⊥ = omega arith in absurd f
+again-still (Faulted other) c x i why e = refl
+
+-- nor does a tick in a fault change anything
+pub tick-faulted : (c : Controller) (x : ℤ) (i : ℕ) (why : Fault) → c .condition ≡ Faulted why → tickOf c x i .next ≡ c
+unfolding tickOf
+tick-faulted c x i why e = pick-all (λ (r : Result Told). r .next ≡ c) (ltb 15 i) refl (again-still (c .condition) c x i why e)
+
+after-refused : (a : Answer (Unit {0})) (changed same : Controller) (n : ℕ) (vs : List ℕ) → a ≡ refused n vs → after a changed same ≡ same
+unfolding after
+after-refused (done u) changed same n vs e = done-unrefused u n vs e
+after-refused (refused m us) changed same n vs e = refl
+after-refused (fault m us) changed same n vs e = refl
+
+pub settings-refused : (c : Controller) (set : Settings) (n : ℕ) (vs : List ℕ) → settingsOf c set .answer ≡ refused n vs → settingsOf c set .next ≡ c
+unfolding settingsOf
+settings-refused c set n vs e = after-refused (settingsAnswer c set) (taken set c) c n vs e
+
+pub reset-refused : (c : Controller) (n : ℕ) (vs : List ℕ) → resetOf c .answer ≡ refused n vs → resetOf c .next ≡ c
+unfolding resetOf
+reset-refused c n vs e = after-refused (resetAnswer c) _ c n vs e
+
+replies-refused : (c : Controller) (room : ℕ) (a : Answer Asked) (n : ℕ) (vs : List ℕ) → repliesTo c room a .answer ≡ refused n vs → repliesTo c room a .next ≡ c
+unfolding repliesTo replied
+replies-refused c room (done a) n vs e =
+    pick-all (λ (r : Result Replied). r .answer ≡ refused n vs → r .next ≡ c) (leb (length (replyFrame c a)) room)
+    (λ k. done-unrefused _ n vs k) (λ k. refl) e
+replies-refused c room (refused m us) n vs e = refl
+replies-refused c room (fault m us) n vs e = refl
+
+pub request-refused : (c : Controller) (bytes : List ℕ) (room n : ℕ) (vs : List ℕ) → requestOf c bytes room .answer ≡ refused n vs → requestOf c bytes room .next ≡ c
+unfolding requestOf
+request-refused c bytes room n vs e = replies-refused c room (askedOf c bytes) n vs e
+
+replies-still : (c : Controller) (room : ℕ) (a : Asked) → eqb (a .operation) 0xC0 ≡ false → replied c a room .next ≡ c
+unfolding replied zeroedBy
+replies-still c room a h =
+    pick-all (λ (r : Result Replied). r .next ≡ c) _
+    (pick-if (λ (d : Controller). d ≡ c) (eqb (a .operation) 0xC0) (λ e. true-false (sym e ∙ h)) (λ e. refl))
+    refl
+
+-- C2 to C5 change nothing
+pub request-still : (c : Controller) (bytes : List ℕ) (room : ℕ) (a : Asked) → askedOf c bytes ≡ done a → eqb (a .operation) 0xC0 ≡ false → requestOf c bytes room .next ≡ c
+unfolding requestOf repliesTo
+request-still c bytes room a e h = rw e (replies-still c room a h)
