@@ -3,6 +3,11 @@ pub mod Tick
 pub mod Calls
 pub mod Line
 pub mod Sound
+pub mod Says
+pub mod Cases
+pub mod Outside
+pub mod Made
+pub mod Parts
 pub mod Done
 pub mod Bounds
 pub mod Setters
@@ -10,8 +15,4 @@ pub mod Ways
 pub mod Keeps
 pub mod Promises
 pub mod Determined
-pub mod Says
-pub mod Made
-pub mod Cases
-pub mod Outside
 pub mod OutsideLaws

@@ -1,6 +1,6 @@
 -- The rules run on numbers: document 01's boundary table for AL1 and cases of each algorithm. Assumes nothing.
 use mathlib.Core.Path.{_≡_, refl}
-use mathlib.Core.Bool.{Bool, true, false, not, _&&_, _||_}
+use mathlib.Core.Bool.{Bool, true, false}
 use Prim.Native.Nat.{ℕ}
 use lib.IntN.{ℤ, pos, negsuc}
 use Rattle.laws.specs.Pick.{pick}
@@ -9,7 +9,6 @@ use Rattle.settings.specs.Table.{Wc, Wf}
 use Rattle.dosing.specs.Rules.{units, gates, shut, to, complete, reachedWf, reachedWc, notBelowZero, nearZero, zeroed, full, coarseStage, fineStage, fillBegins, readyToFill, fill, hold, settleEnds, dischargeOpens, settle, amountOf, discharge, load, calm, doseCoarse, doseFine, doseSettle, readyToDose, waits, ready, stepOf}
 use Rattle.dosing.specs.declared.Phase.the-variants.{Ready, Coarse, Fine, Hold, Settle, Discharge, Load, Calm, DoseCoarse, DoseFine, DoseSettle}
 use Rattle.dosing.specs.declared.Seen.{Seen}
-use Rattle.dosing.specs.declared.Dose.the-variants.{Complete}
 
 -- C 1,000, D 500, Pc 100, Pf 20, p9 1, with an algorithm, its M and p11
 abbrev box : ℕ → ℕ → ℕ → Settings

@@ -12,64 +12,65 @@ use Rattle.laws.specs.Whole.{abs-sub, true-false, false-true}
 use Rattle.settings.specs.declared.Settings.{Settings}
 use Rattle.settings.specs.Table.{Wf, mostLevel}
 use Rattle.settings.specs.Ranges.{Ranges}
-use Rattle.dosing.specs.Rules.{gates, shut, to, complete, reachedWf, notBelowZero, nearZero, zeroed, full, coarseStage, doseCoarse, settleEnds, amountOf, stepOf}
+use Rattle.dosing.specs.Rules.{shut, complete, reachedWf, notBelowZero, nearZero, zeroed, coarseStage, doseCoarse, settleEnds, dischargeOpens, amountOf, stepOf}
 use Rattle.dosing.specs.Gates.{fillingOpen, emptyingOpen, gatesOf, belongs, Scaled, Kept}
-use Rattle.dosing.specs.Ways.{pick-if, coarse-ways, fine-ways, fill-ways, hold-ways, settle-ways, discharge-ways, load-ways, calm-ways, dose-coarse-ways, dose-fine-ways, dose-settle-ways, ready-ways}
+use Rattle.dosing.specs.Ways.{pick-if, on, coarse-ways, fine-ways, fill-ways, hold-ways, settle-ways, discharge-ways, load-ways, calm-ways, dose-coarse-ways, dose-fine-ways, dose-settle-ways, ready-ways}
 use Rattle.dosing.specs.declared.Units.{Units}
 use Rattle.dosing.specs.declared.Gates.{Gates}
 use Rattle.dosing.specs.declared.Phase.{Phase}
 use Rattle.dosing.specs.declared.Phase.the-variants.{Ready, Coarse, Fine, Hold, Settle, Discharge, Load, Calm, DoseCoarse, DoseFine, DoseSettle}
 use Rattle.dosing.specs.declared.Seen.{Seen}
-use Rattle.dosing.specs.declared.Dose.{Dose}
 use Rattle.dosing.specs.declared.Dose.the-variants.{Nothing, Complete}
 use Rattle.dosing.specs.declared.Moved.{Moved}
 
--- ---- the phase determines the outputs, and a dose completes only into Ready
+-- two results that both meet the contract of `step` are equal
+pub step-determined : (set : Settings) (p : Phase) (t : Seen) (a b : Moved) → a ≡ stepOf set p t → b ≡ stepOf set p t → a ≡ b
+step-determined set p t a b h k = h ∙ sym k
+
+-- the phase determines the outputs, and a dose completes only into Ready
 
 record Tells (set : Settings) (m : Moved) : Type 0 where
   gates : m .gates ≡ gatesOf set (m .phase)
   dose : (a : ℕ) (settled : Bool) → m .dose ≡ Complete a settled → m .phase ≡ Ready
 
 module _ (set : Settings) (t : Seen) where
-  to-tells : (p : Phase) (g : Gates) → g ≡ gatesOf set p → Tells set (to p g t)
-  to-tells p g e = record { gates = e; dose = λ a settled h. cc }
+  on-tells : (p : Phase) → Tells set (on set p t)
+  on-tells p = record { gates = refl; dose = λ a settled h. cc }
 
-  full-tells : (w0 : Units) → Tells set (to (full set w0) shut t)
-  unfolding full gatesOf
-  full-tells w0 = to-tells (full set w0) shut (pick-all (λ (p : Phase). shut ≡ gatesOf set p) (eqb (set .algorithm) 0) refl refl)
+  opens-tells : (w0 : Units) → Tells set (dischargeOpens w0 t)
+  unfolding dischargeOpens gatesOf
+  opens-tells w0 = record { gates = refl; dose = λ a settled h. cc }
 
   complete-tells : (a : ℕ) (settled : Bool) → Tells set (complete a settled t)
   unfolding gatesOf
   complete-tells a settled = record { gates = refl; dose = λ b s h. refl }
 
-coarse-tells : (set : Settings) (t : Seen) (w0 : Units) → Tells set (coarseStage set w0 t)
-unfolding gatesOf
-coarse-tells set t w0 =
-    coarse-ways (Tells set) set t w0 (full-tells set t w0) (λ e. to-tells set t (Fine w0) _ refl) (λ e. to-tells set t (Coarse w0) _ refl)
+  coarse-tells : (w0 : Units) → Tells set (coarseStage set w0 t)
+  coarse-tells w0 =
+      coarse-ways (Tells set) set t w0 (λ e. on-tells Hold) (λ e. on-tells (Settle w0 0)) (λ e. on-tells (Fine w0)) (λ e. on-tells (Coarse w0))
 
-dose-coarse-tells : (set : Settings) (t : Seen) (wH : Units) → Tells set (doseCoarse set wH t)
-unfolding gatesOf
-dose-coarse-tells set t wH =
-    dose-coarse-ways (Tells set) set t wH (to-tells set t (DoseSettle wH 0) _ refl) (to-tells set t (DoseFine wH) _ refl) (to-tells set t (DoseCoarse wH) _ refl)
+  dose-coarse-tells : (wH : Units) → Tells set (doseCoarse set wH t)
+  dose-coarse-tells wH = dose-coarse-ways (Tells set) set t wH (on-tells (DoseSettle wH 0)) (on-tells (DoseFine wH)) (on-tells (DoseCoarse wH))
 
 step-tells : (set : Settings) (p : Phase) (t : Seen) → Tells set (stepOf set p t)
-unfolding stepOf gatesOf
+unfolding stepOf
 step-tells set Ready t =
-    ready-ways (Tells set) set t (to-tells set t Ready _ refl) (λ low. coarse-tells set (zeroed set t) (zeroed set t .w)) (λ high e. to-tells set t Load _ refl) (λ high. dose-coarse-tells set t (t .w))
-step-tells set (Coarse w0) t = fill-ways (Tells set) set t _ (to-tells set t Ready _ refl) (coarse-tells set t w0)
+    ready-ways (Tells set) set t (on-tells set t Ready) (λ low. coarse-tells set (zeroed set t) (zeroed set t .w)) (λ high e. on-tells set t Load)
+    (λ high. dose-coarse-tells set t (t .w))
+step-tells set (Coarse w0) t = fill-ways (Tells set) set t _ (on-tells set t Ready) (coarse-tells set t w0)
 step-tells set (Fine w0) t =
-    fill-ways (Tells set) set t _ (to-tells set t Ready _ refl) (fine-ways (Tells set) set t w0 (full-tells set t w0) (λ e. to-tells set t (Fine w0) _ refl))
-step-tells set Hold t = hold-ways (Tells set) set t (to-tells set t Hold _ refl) (to-tells set t Ready _ refl)
-step-tells set (Settle w0 n) t =
-    settle-ways (Tells set) set t w0 (n + 1) (to-tells set t (Discharge w0 (t .w) (t .stable)) _ refl) (λ e. to-tells set t (Settle w0 (n + 1)) _ refl)
+    fill-ways (Tells set) set t _ (on-tells set t Ready)
+    (fine-ways (Tells set) set t w0 (λ e. on-tells set t Hold) (λ e. on-tells set t (Settle w0 0)) (λ e. on-tells set t (Fine w0)))
+step-tells set Hold t = hold-ways (Tells set) set t (on-tells set t Hold) (on-tells set t Ready)
+step-tells set (Settle w0 n) t = settle-ways (Tells set) set t w0 (n + 1) (opens-tells set t w0) (λ e. on-tells set t (Settle w0 (n + 1)))
 step-tells set (Discharge w0 wS settled) t =
-    discharge-ways (Tells set) set t w0 wS settled (complete-tells set t _ settled) (to-tells set t (Discharge w0 wS settled) _ refl)
-step-tells set Load t = load-ways (Tells set) set t (to-tells set t (Calm 0) _ refl) (λ e. to-tells set t Load _ refl)
-step-tells set (Calm n) t = calm-ways (Tells set) set t (n + 1) (to-tells set t Ready _ refl) (λ e. to-tells set t (Calm (n + 1)) _ refl)
+    discharge-ways (Tells set) set t w0 wS settled (complete-tells set t _ settled) (on-tells set t (Discharge w0 wS settled))
+step-tells set Load t = load-ways (Tells set) set t (on-tells set t (Calm 0)) (λ e. on-tells set t Load)
+step-tells set (Calm n) t = calm-ways (Tells set) set t (n + 1) (on-tells set t Ready) (λ e. on-tells set t (Calm (n + 1)))
 step-tells set (DoseCoarse wH) t = dose-coarse-tells set t wH
-step-tells set (DoseFine wH) t = dose-fine-ways (Tells set) set t wH (to-tells set t (DoseSettle wH 0) _ refl) (to-tells set t (DoseFine wH) _ refl)
+step-tells set (DoseFine wH) t = dose-fine-ways (Tells set) set t wH (on-tells set t (DoseSettle wH 0)) (on-tells set t (DoseFine wH))
 step-tells set (DoseSettle wH n) t =
-    dose-settle-ways (Tells set) set t wH (n + 1) (complete-tells set t _ (t .stable)) (λ e. to-tells set t (DoseSettle wH (n + 1)) _ refl)
+    dose-settle-ways (Tells set) set t wH (n + 1) (complete-tells set t _ (t .stable)) (λ e. on-tells set t (DoseSettle wH (n + 1)))
 
 -- the phase determines the outputs
 pub step-gates : (set : Settings) (p : Phase) (t : Seen) → stepOf set p t .gates ≡ gatesOf set (stepOf set p t .phase)
@@ -87,18 +88,21 @@ ready-shut set = refl
 pub step-ready-shut : (set : Settings) (p : Phase) (t : Seen) → stepOf set p t .phase ≡ Ready → stepOf set p t .gates ≡ shut
 step-ready-shut set p t e = step-gates set p t ∙ ap (gatesOf set) e ∙ ready-shut set
 
--- ---- the zero: it changes only from Ready, where Fill begins
+-- the zero: it changes only from Ready, where Fill begins
 
-pub zero-ways : (Q : Units → Type 0) (set : Settings) (p : Phase) (t : Seen) → Q (t .z) → (p ≡ Ready → leb (set .algorithm) 1 ≡ true → Q (zeroed set t .z)) → Q (stepOf set p t .z)
-unfolding stepOf
+zero-ways : (Q : Units → Type 0) (set : Settings) (p : Phase) (t : Seen) → Q (t .z) → (p ≡ Ready → leb (set .algorithm) 1 ≡ true → Q (zeroed set t .z)) → Q (stepOf set p t .z)
+unfolding stepOf dischargeOpens
 zero-ways Q set Ready t h k =
     let P : Moved → Type 0 = λ m. Q (m .z) in
-    ready-ways P set t h (λ low. coarse-ways P set (zeroed set t) (zeroed set t .w) (k refl low) (λ e. k refl low) (λ e. k refl low)) (λ high e. h)
+    ready-ways P set t h
+    (λ low. let q = k refl low in coarse-ways P set (zeroed set t) (zeroed set t .w) (λ e. q) (λ e. q) (λ e. q) (λ e. q)) (λ high e. h)
     (λ high. dose-coarse-ways P set t (t .w) h h h)
 zero-ways Q set (Coarse w0) t h k =
     let P : Moved → Type 0 = λ m. Q (m .z) in
-    fill-ways P set t _ h (coarse-ways P set t w0 h (λ e. h) (λ e. h))
-zero-ways Q set (Fine w0) t h k = let P : Moved → Type 0 = λ m. Q (m .z) in fill-ways P set t _ h (fine-ways P set t w0 h (λ e. h))
+    fill-ways P set t _ h (coarse-ways P set t w0 (λ e. h) (λ e. h) (λ e. h) (λ e. h))
+zero-ways Q set (Fine w0) t h k =
+    let P : Moved → Type 0 = λ m. Q (m .z) in
+    fill-ways P set t _ h (fine-ways P set t w0 (λ e. h) (λ e. h) (λ e. h))
 zero-ways Q set Hold t h k = hold-ways (λ m. Q (m .z)) set t h h
 zero-ways Q set (Settle w0 n) t h k = settle-ways (λ m. Q (m .z)) set t w0 (n + 1) h (λ e. h)
 zero-ways Q set (Discharge w0 wS settled) t h k = discharge-ways (λ m. Q (m .z)) set t w0 wS settled h h
@@ -143,7 +147,7 @@ zeroed-size set t r low h =
 pub step-zero : (set : Settings) (p : Phase) (t : Seen) → Ranges set → natAbs (t .z .v) ≤ 24998 → natAbs (stepOf set p t .z .v) ≤ 24998
 step-zero set p t r h = zero-ways (λ (z : Units). natAbs (z .v) ≤ 24998) set p t h (λ e low. zeroed-size set t r low h)
 
--- ---- the phases of the algorithm
+-- the phases of the algorithm
 
 -- AL0 and AL1, and not AL2 or AL3
 one-low : (al : ℕ) → eqb al 1 ≡ true → leb al 1 ≡ true
@@ -167,17 +171,16 @@ record Stays (set : Settings) (m : Moved) : Type 0 where
   dose : set .algorithm ≡ 0 → m .dose ≡ Nothing
 
 module _ (set : Settings) (t : Seen) where
-  to-stays : (p : Phase) (g : Gates) → belongs (set .algorithm) p ≡ true → Stays set (to p g t)
-  to-stays p g h = record { phase = h; dose = λ e. refl }
+  on-stays : (p : Phase) → belongs (set .algorithm) p ≡ true → Stays set (on set p t)
+  on-stays p h = record { phase = h; dose = λ e. refl }
 
-  ready-stays : Stays set (to Ready shut t)
+  ready-stays : Stays set (on set Ready t)
   unfolding belongs
-  ready-stays = to-stays Ready shut refl
+  ready-stays = on-stays Ready refl
 
-  full-stays : (w0 : Units) → leb (set .algorithm) 1 ≡ true → Stays set (to (full set w0) shut t)
-  unfolding full belongs
-  full-stays w0 low =
-      to-stays (full set w0) shut (pick-if (λ (p : Phase). belongs (set .algorithm) p ≡ true) (eqb (set .algorithm) 0) (λ e. e) (low-one (set .algorithm) low))
+  opens-stays : (w0 : Units) → eqb (set .algorithm) 1 ≡ true → Stays set (dischargeOpens w0 t)
+  unfolding dischargeOpens belongs
+  opens-stays w0 h = record { phase = h; dose = λ e. refl }
 
   -- AL1 to AL3 count
   complete-stays : (a : ℕ) (settled : Bool) → (set .algorithm ≡ 0 → ⊥) → Stays set (complete a settled t)
@@ -187,34 +190,35 @@ module _ (set : Settings) (t : Seen) where
 coarse-stays : (set : Settings) (t : Seen) (w0 : Units) → leb (set .algorithm) 1 ≡ true → Stays set (coarseStage set w0 t)
 unfolding belongs
 coarse-stays set t w0 low =
-    coarse-ways (Stays set) set t w0 (full-stays set t w0 low) (λ e. to-stays set t (Fine w0) _ low) (λ e. to-stays set t (Coarse w0) _ low)
+    coarse-ways (Stays set) set t w0 (on-stays set t Hold) (λ e. on-stays set t (Settle w0 0) (low-one (set .algorithm) low e))
+    (λ e. on-stays set t (Fine w0) low) (λ e. on-stays set t (Coarse w0) low)
 
 dose-coarse-stays : (set : Settings) (t : Seen) (wH : Units) → leb 2 (set .algorithm) ≡ true → Stays set (doseCoarse set wH t)
 unfolding belongs
 dose-coarse-stays set t wH high =
-    dose-coarse-ways (Stays set) set t wH (to-stays set t (DoseSettle wH 0) _ high) (to-stays set t (DoseFine wH) _ high) (to-stays set t (DoseCoarse wH) _ high)
+    dose-coarse-ways (Stays set) set t wH (on-stays set t (DoseSettle wH 0) high) (on-stays set t (DoseFine wH) high) (on-stays set t (DoseCoarse wH) high)
 
 step-stays : (set : Settings) (p : Phase) (t : Seen) → belongs (set .algorithm) p ≡ true → Stays set (stepOf set p t)
 unfolding stepOf belongs
 step-stays set Ready t h =
     ready-ways (Stays set) set t (ready-stays set t) (coarse-stays set (zeroed set t) (zeroed set t .w))
-    (λ high e. to-stays set t Load _ (high-two (set .algorithm) high)) (λ high. dose-coarse-stays set t (t .w) (high-two (set .algorithm) high))
+    (λ high e. on-stays set t Load (high-two (set .algorithm) high)) (λ high. dose-coarse-stays set t (t .w) (high-two (set .algorithm) high))
 step-stays set (Coarse w0) t h = fill-ways (Stays set) set t _ (ready-stays set t) (coarse-stays set t w0 h)
 step-stays set (Fine w0) t h =
-    fill-ways (Stays set) set t _ (ready-stays set t) (fine-ways (Stays set) set t w0 (full-stays set t w0 h) (λ e. to-stays set t (Fine w0) _ h))
-step-stays set Hold t h = hold-ways (Stays set) set t (to-stays set t Hold _ h) (ready-stays set t)
-step-stays set (Settle w0 n) t h =
-    settle-ways (Stays set) set t w0 (n + 1) (to-stays set t (Discharge w0 (t .w) (t .stable)) _ h) (λ e. to-stays set t (Settle w0 (n + 1)) _ h)
+    fill-ways (Stays set) set t _ (ready-stays set t)
+    (fine-ways (Stays set) set t w0 (on-stays set t Hold) (λ e. on-stays set t (Settle w0 0) (low-one (set .algorithm) h e)) (λ e. on-stays set t (Fine w0) h))
+step-stays set Hold t h = hold-ways (Stays set) set t (on-stays set t Hold h) (ready-stays set t)
+step-stays set (Settle w0 n) t h = settle-ways (Stays set) set t w0 (n + 1) (opens-stays set t w0 h) (λ e. on-stays set t (Settle w0 (n + 1)) h)
 step-stays set (Discharge w0 wS settled) t h =
     discharge-ways (Stays set) set t w0 wS settled (complete-stays set t _ settled (λ e. omega (arith, eqb-true (set .algorithm) 1 h)))
-    (to-stays set t (Discharge w0 wS settled) _ h)
-step-stays set Load t h = load-ways (Stays set) set t (to-stays set t (Calm 0) _ h) (λ e. to-stays set t Load _ h)
-step-stays set (Calm n) t h = calm-ways (Stays set) set t (n + 1) (ready-stays set t) (λ e. to-stays set t (Calm (n + 1)) _ h)
+    (on-stays set t (Discharge w0 wS settled) h)
+step-stays set Load t h = load-ways (Stays set) set t (on-stays set t (Calm 0) h) (λ e. on-stays set t Load h)
+step-stays set (Calm n) t h = calm-ways (Stays set) set t (n + 1) (ready-stays set t) (λ e. on-stays set t (Calm (n + 1)) h)
 step-stays set (DoseCoarse wH) t h = dose-coarse-stays set t wH h
-step-stays set (DoseFine wH) t h = dose-fine-ways (Stays set) set t wH (to-stays set t (DoseSettle wH 0) _ h) (to-stays set t (DoseFine wH) _ h)
+step-stays set (DoseFine wH) t h = dose-fine-ways (Stays set) set t wH (on-stays set t (DoseSettle wH 0) h) (on-stays set t (DoseFine wH) h)
 step-stays set (DoseSettle wH n) t h =
     dose-settle-ways (Stays set) set t wH (n + 1) (complete-stays set t _ (t .stable) (λ e. omega (arith, leb-true 2 (set .algorithm) h)))
-    (λ e. to-stays set t (DoseSettle wH (n + 1)) _ h)
+    (λ e. on-stays set t (DoseSettle wH (n + 1)) h)
 
 -- the phase stays one of the algorithm's
 pub step-belongs : (set : Settings) (p : Phase) (t : Seen) → belongs (set .algorithm) p ≡ true → belongs (set .algorithm) (stepOf set p t .phase) ≡ true
@@ -224,7 +228,7 @@ step-belongs set p t h = step-stays set p t h .phase
 pub no-dose : (set : Settings) (p : Phase) (t : Seen) → set .algorithm ≡ 0 → belongs (set .algorithm) p ≡ true → stepOf set p t .dose ≡ Nothing
 no-dose set p t e h = step-stays set p t h .dose e
 
--- ---- filling and emptying
+-- filling and emptying
 
 and-right : (a : Bool) → (a && false) ≡ false
 and-right true = refl
@@ -261,7 +265,7 @@ shut-fills set = pick-same _ false
 pub never-both : (set : Settings) (p : Phase) → belongs (set .algorithm) p ≡ true → (fillingOpen set (gatesOf set p) && emptyingOpen set (gatesOf set p)) ≡ false
 unfolding gatesOf belongs
 never-both set Ready h = unfilled set shut (shut-fills set)
-never-both set (Coarse w0) h = unemptied set _ (empty-low set _ h refl)
+never-both set (Coarse w0) h = unemptied set (gatesOf set (Coarse w0)) (empty-low set (gatesOf set (Coarse w0)) h refl)
 never-both set (Fine w0) h = unemptied set _ (empty-low set _ h refl)
 never-both set Hold h = unfilled set shut (shut-fills set)
 never-both set (Settle w0 n) h = unfilled set shut (shut-fills set)
@@ -272,7 +276,7 @@ never-both set (DoseCoarse wH) h = unfilled set _ (fill-high set _ (two-high (se
 never-both set (DoseFine wH) h = unfilled set _ (fill-high set _ (two-high (set .algorithm) h))
 never-both set (DoseSettle wH n) h = unfilled set shut (shut-fills set)
 
--- ---- no filling gate is open above the capacity
+-- no filling gate is open above the capacity
 
 -- the phases that fill
 abbrev fills : Phase → Bool
@@ -315,16 +319,12 @@ abbrev Below : Settings → ℤ → Moved → Type 0
 Below set f m = fills (m .phase) ≡ true → leZ (f -ℤ m .z .v) (pos (set .capacity)) ≡ true
 
 module _ (set : Settings) (t : Seen) (f : ℤ) (r : Ranges set) (net : t .w .v ≡ f -ℤ t .z .v) where
-  full-below : (w0 : Units) → Below set f (to (full set w0) shut t)
-  unfolding full
-  full-below w0 = pick-all (λ (p : Phase). Below set f (to p shut t)) (eqb (set .algorithm) 0) false-true false-true
-
   wf-below : reachedWf set (t .w .v) ≡ false → leZ (f -ℤ t .z .v) (pos (set .capacity)) ≡ true
   unfolding reachedWf Wf
   wf-below e = rw net at (unreached-below (Wf set) (set .capacity) (t .w .v) e (omega (arith, r .dose .1)))
 
   coarse-below : (w0 : Units) → Below set f (coarseStage set w0 t)
-  coarse-below w0 = coarse-ways (Below set f) set t w0 (full-below w0) (λ e h. wf-below e) (λ e h. wf-below e)
+  coarse-below w0 = coarse-ways (Below set f) set t w0 (λ e. false-true) (λ e. false-true) (λ e h. wf-below e) (λ e h. wf-below e)
 
   -- AL2 and AL3: M is at most C
   load-below : leb (set .algorithm) 1 ≡ false → leZ (pos (set .level)) (t .w .v) ≡ false → leZ (f -ℤ t .z .v) (pos (set .capacity)) ≡ true
@@ -342,7 +342,7 @@ unfolding zeroed
 zeroed-net set t net = pick-all (λ (u : Seen). u .w .v ≡ t .f .v -ℤ u .z .v) (nearZero set (t .f .v)) (sym (+ℤ-invr (t .f .v))) net
 
 step-below : (set : Settings) (p : Phase) (t : Seen) → Ranges set → belongs (set .algorithm) p ≡ true → t .w .v ≡ t .f .v -ℤ t .z .v → Below set (t .f .v) (stepOf set p t)
-unfolding stepOf belongs
+unfolding stepOf belongs dischargeOpens
 step-below set Ready t r b net =
     let B : Moved → Type 0 = Below set (t .f .v) in
     ready-ways B set t false-true (λ low. coarse-below set (zeroed set t) (t .f .v) r (zeroed-net set t net) (zeroed set t .w))
@@ -350,7 +350,7 @@ step-below set Ready t r b net =
 step-below set (Coarse w0) t r b net = fill-ways (Below set (t .f .v)) set t _ false-true (coarse-below set t (t .f .v) r net w0)
 step-below set (Fine w0) t r b net =
     let B : Moved → Type 0 = Below set (t .f .v) in
-    fill-ways B set t _ false-true (fine-ways B set t w0 (full-below set t (t .f .v) r net w0) (λ e h. wf-below set t (t .f .v) r net e))
+    fill-ways B set t _ false-true (fine-ways B set t w0 (λ e. false-true) (λ e. false-true) (λ e h. wf-below set t (t .f .v) r net e))
 step-below set Hold t r b net = hold-ways (Below set (t .f .v)) set t false-true false-true
 step-below set (Settle w0 n) t r b net = settle-ways (Below set (t .f .v)) set t w0 (n + 1) false-true (λ e. false-true)
 step-below set (Discharge w0 wS settled) t r b net = discharge-ways (Below set (t .f .v)) set t w0 wS settled false-true false-true
@@ -378,7 +378,7 @@ over-unfilled set p t r b net over = decide (fillingOpen set (stepOf set p t .ga
     decide true h = sym (h refl) ∙ over-not (set .capacity) (t .f .v -ℤ stepOf set p t .z .v) over
     decide false h = refl
 
--- ---- what a phase keeps, and the amount
+-- what a phase keeps, and the amount
 
 or-right : (a b : Bool) → (a || b) ≡ false → b ≡ false
 or-right true b h = true-false h
@@ -416,22 +416,23 @@ complete-same : (n a : ℕ) (b settled : Bool) → n ≤ 1800000 → Complete n 
 complete-same n a b settled h e = let same : n ≡ a = cc in omega arith
 
 module _ (set : Settings) (t : Seen) (r : Ranges set) where
-  to-holds : (p : Phase) (g : Gates) → Kept (t .z .v) p → Holds (to p g t)
-  to-holds p g h = record { phase = h; dose = nothing-holds }
+  on-holds : (p : Phase) → Kept (t .z .v) p → Holds (on set p t)
+  on-holds p h = record { phase = h; dose = nothing-holds }
 
-  full-holds : (w0 : Units) → Scaled (t .z .v) w0 → Holds (to (full set w0) shut t)
-  unfolding full
-  full-holds w0 h = to-holds (full set w0) shut (pick-all (Kept (t .z .v)) (eqb (set .algorithm) 0) tt (h, omega arith))
+  opens-holds : (w0 : Units) → Scaled (t .z .v) w0 → Scaled (t .z .v) (t .w) → Holds (dischargeOpens w0 t)
+  unfolding dischargeOpens
+  opens-holds w0 h k = record { phase = (h, k); dose = nothing-holds }
 
   complete-holds : (n : ℕ) (settled : Bool) → n ≤ 1800000 → Holds (complete n settled t)
   complete-holds n settled h = record { phase = tt; dose = λ a b. complete-same n a settled b h }
 
   coarse-holds : (w0 : Units) → Scaled (t .z .v) w0 → Holds (coarseStage set w0 t)
-  coarse-holds w0 h = coarse-ways Holds set t w0 (full-holds w0 h) (λ e. to-holds (Fine w0) _ h) (λ e. to-holds (Coarse w0) _ h)
+  coarse-holds w0 h =
+      coarse-ways Holds set t w0 (λ e. on-holds Hold tt) (λ e. on-holds (Settle w0 0) (h, omega arith)) (λ e. on-holds (Fine w0) h)
+      (λ e. on-holds (Coarse w0) h)
 
   dose-coarse-holds : (wH : Units) → Scaled (t .z .v) wH → Holds (doseCoarse set wH t)
-  dose-coarse-holds wH h =
-      dose-coarse-ways Holds set t wH (to-holds (DoseSettle wH 0) _ (h, omega arith)) (to-holds (DoseFine wH) _ h) (to-holds (DoseCoarse wH) _ h)
+  dose-coarse-holds wH h = dose-coarse-ways Holds set t wH (on-holds (DoseSettle wH 0) (h, omega arith)) (on-holds (DoseFine wH) h) (on-holds (DoseCoarse wH) h)
 
   number-kept : (n : ℕ) → settleEnds set n (t .stable) ≡ false → n ≤ 16128
   number-kept n e = omega (arith, settle-later set n (t .stable) e, r .p9 .1)
@@ -449,30 +450,31 @@ step-holds : (set : Settings) (p : Phase) (t : Seen) → Ranges set → natAbs (
 unfolding stepOf
 step-holds set Ready t r s net k =
     let u = zeroed set t in
-    ready-ways Holds set t (to-holds set t r Ready _ tt)
+    ready-ways Holds set t (on-holds set t r Ready tt)
     (λ low. coarse-holds set u r (u .w) (net-scaled (t .f .v) (u .z) (u .w) s (zeroed-net set t net)))
-    (λ high e. to-holds set t r Load _ tt) (λ high. dose-coarse-holds set t r (t .w) (net-scaled (t .f .v) (t .z) (t .w) s net))
-step-holds set (Coarse w0) t r s net k = fill-ways Holds set t _ (to-holds set t r Ready _ tt) (coarse-holds set t r w0 k)
+    (λ high e. on-holds set t r Load tt) (λ high. dose-coarse-holds set t r (t .w) (net-scaled (t .f .v) (t .z) (t .w) s net))
+step-holds set (Coarse w0) t r s net k = fill-ways Holds set t _ (on-holds set t r Ready tt) (coarse-holds set t r w0 k)
 step-holds set (Fine w0) t r s net k =
-    fill-ways Holds set t _ (to-holds set t r Ready _ tt) (fine-ways Holds set t w0 (full-holds set t r w0 k) (λ e. to-holds set t r (Fine w0) _ k))
-step-holds set Hold t r s net k = hold-ways Holds set t (to-holds set t r Hold _ tt) (to-holds set t r Ready _ tt)
+    fill-ways Holds set t _ (on-holds set t r Ready tt)
+    (fine-ways Holds set t w0 (λ e. on-holds set t r Hold tt) (λ e. on-holds set t r (Settle w0 0) (k, omega arith)) (λ e. on-holds set t r (Fine w0) k))
+step-holds set Hold t r s net k = hold-ways Holds set t (on-holds set t r Hold tt) (on-holds set t r Ready tt)
 step-holds set (Settle w0 n) t r s net k =
-    settle-ways Holds set t w0 (n + 1) (to-holds set t r (Discharge w0 (t .w) (t .stable)) _ (k .0, net-scaled (t .f .v) (t .z) (t .w) s net))
-    (λ e. to-holds set t r (Settle w0 (n + 1)) _ (k .0, number-kept set t r (n + 1) e))
+    settle-ways Holds set t w0 (n + 1) (opens-holds set t r w0 (k .0) (net-scaled (t .f .v) (t .z) (t .w) s net))
+    (λ e. on-holds set t r (Settle w0 (n + 1)) (k .0, number-kept set t r (n + 1) e))
 step-holds set (Discharge w0 wS settled) t r s net k =
     discharge-ways Holds set t w0 wS settled
     (complete-holds set t r _ settled (amount-kept set t r w0 wS (k .0) (k .1) (net-scaled (t .f .v) (t .z) (t .w) s net)))
-    (to-holds set t r (Discharge w0 wS settled) _ k)
-step-holds set Load t r s net k = load-ways Holds set t (to-holds set t r (Calm 0) _ (omega arith)) (λ e. to-holds set t r Load _ tt)
+    (on-holds set t r (Discharge w0 wS settled) k)
+step-holds set Load t r s net k = load-ways Holds set t (on-holds set t r (Calm 0) (omega arith)) (λ e. on-holds set t r Load tt)
 step-holds set (Calm n) t r s net k =
-    calm-ways Holds set t (n + 1) (to-holds set t r Ready _ tt) (λ e. to-holds set t r (Calm (n + 1)) _ (number-kept set t r (n + 1) e))
+    calm-ways Holds set t (n + 1) (on-holds set t r Ready tt) (λ e. on-holds set t r (Calm (n + 1)) (number-kept set t r (n + 1) e))
 step-holds set (DoseCoarse wH) t r s net k = dose-coarse-holds set t r wH k
 step-holds set (DoseFine wH) t r s net k =
-    dose-fine-ways Holds set t wH (to-holds set t r (DoseSettle wH 0) _ (k, omega arith)) (to-holds set t r (DoseFine wH) _ k)
+    dose-fine-ways Holds set t wH (on-holds set t r (DoseSettle wH 0) (k, omega arith)) (on-holds set t r (DoseFine wH) k)
 step-holds set (DoseSettle wH n) t r s net k =
     dose-settle-ways Holds set t wH (n + 1)
     (complete-holds set t r _ (t .stable) (scaled-amount (t .z .v) wH (t .w) (k .0) (net-scaled (t .f .v) (t .z) (t .w) s net)))
-    (λ e. to-holds set t r (DoseSettle wH (n + 1)) _ (k .0, number-kept set t r (n + 1) e))
+    (λ e. on-holds set t r (DoseSettle wH (n + 1)) (k .0, number-kept set t r (n + 1) e))
 
 -- what the phase keeps stays bounded
 pub step-kept : (set : Settings) (p : Phase) (t : Seen) → Ranges set → natAbs (t .f .v) ≤ 900000 → t .w .v ≡ t .f .v -ℤ t .z .v → Kept (t .z .v) p → Kept (stepOf set p t .z .v) (stepOf set p t .phase)

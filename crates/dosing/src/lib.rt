@@ -1,12 +1,13 @@
 // The phase rules of AL0 to AL3 as one step: no samples, no counters.
 use settings::Settings;
 ghost use mathlib.Core.Path.{_≡_};
-ghost use mathlib.Core.Bool.{not, _&&_};
+ghost use mathlib.Core.Bool.{true, false, not, _&&_};
 ghost use Prim.Native.Nat.{_+_, _-_};
 ghost use lib.Dec.{eqb};
 ghost use lib.IntN.{pos, negℤ, _-ℤ_};
 ghost use lib.Signed.{ltZ, leZ};
 ghost use Rattle.dosing.specs.Rules.{gates, shut, to, complete, reachedWf, reachedWc, notBelowZero, nearZero, zeroed, full, coarseStage, fineStage, fillBegins, readyToFill, fill, hold, settleEnds, dischargeOpens, settle, amountOf, discharge, load, calm, doseCoarse, doseFine, doseSettle, readyToDose, waits, ready, stepOf};
+ghost use Rattle.dosing.specs.declared.Phase.the-variants.{Coarse, Fine, Load, DoseCoarse, DoseFine};
 
 // A weight in display units.
 pub struct Units {
@@ -166,17 +167,24 @@ fn outputs(one: bool, two: bool, three: bool) -> Gates
     }
 }
 
-// The phase goes on or changes, and no dose completes.
-fn to(phase: Phase, g: Gates, t: Seen) -> Moved
-    ensures { λ r. ⌜ r ≡ to phase g t ⌝ }
+// A phase, the outputs and a dose; Z is as it was.
+fn outcome(phase: Phase, g: Gates, d: Dose, t: Seen) -> Moved
+    ensures { λ r. ⌜ r ≡ record { phase = phase; z = t .z; gates = g; dose = d } ⌝ }
 {
     let z = t.z;
     Moved {
         phase: phase,
         z: z,
         gates: g,
-        dose: Dose::Nothing,
+        dose: d,
     }
+}
+
+// The phase goes on or changes, and no dose completes.
+fn to(phase: Phase, g: Gates, t: Seen) -> Moved
+    ensures { λ r. ⌜ r ≡ to phase g t ⌝ }
+{
+    outcome(phase, g, Dose::Nothing, t)
 }
 
 // The same with all gates shut.
@@ -191,17 +199,53 @@ fn rests(phase: Phase, t: Seen) -> Moved
 fn completes(amount: u32, settled: bool, t: Seen) -> Moved
     ensures { λ r. ⌜ r ≡ complete amount settled t ⌝ }
 {
-    let z = t.z;
     let g = outputs(false, false, false);
-    Moved {
-        phase: Phase::Ready,
-        z: z,
-        gates: g,
-        dose: Dose::Complete {
-            amount: amount,
-            settled: settled,
-        },
-    }
+    let d = Dose::Complete {
+        amount: amount,
+        settled: settled,
+    };
+    outcome(Phase::Ready, g, d, t)
+}
+
+// Fill, coarse stage: 1 open, and 2 open exactly if o = 1.
+fn coarse_filling(set: Settings, w0: Units, t: Seen) -> Moved
+    ensures { λ r. ⌜ r ≡ to (Coarse w0) (gates true (eqb (set .o) 1) false) t ⌝ }
+{
+    let both = set.o == 1;
+    let g = outputs(true, both, false);
+    to(Phase::Coarse { w0: w0 }, g, t)
+}
+
+// Fill, fine stage: 2 open.
+fn fine_filling(w0: Units, t: Seen) -> Moved
+    ensures { λ r. ⌜ r ≡ to (Fine w0) (gates false true false) t ⌝ }
+{
+    let g = outputs(false, true, false);
+    to(Phase::Fine { w0: w0 }, g, t)
+}
+
+// Load: 3 open.
+fn loading(t: Seen) -> Moved
+    ensures { λ r. ⌜ r ≡ to Load (gates false false true) t ⌝ }
+{
+    let g = outputs(false, false, true);
+    to(Phase::Load, g, t)
+}
+
+// Dose, coarse stage: 1 and 2 open.
+fn coarse_dosing(wh: Units, t: Seen) -> Moved
+    ensures { λ r. ⌜ r ≡ to (DoseCoarse wh) (gates true true false) t ⌝ }
+{
+    let g = outputs(true, true, false);
+    to(Phase::DoseCoarse { wh: wh }, g, t)
+}
+
+// Dose, fine stage: 2 open.
+fn fine_dosing(wh: Units, t: Seen) -> Moved
+    ensures { λ r. ⌜ r ≡ to (DoseFine wh) (gates false true false) t ⌝ }
+{
+    let g = outputs(false, true, false);
+    to(Phase::DoseFine { wh: wh }, g, t)
 }
 
 // If -M < F < M then Z becomes F and w is 0.
@@ -241,11 +285,9 @@ fn coarse_stage(set: Settings, w0: Units, t: Seen) -> Moved
         let p = full(set, w0);
         rests(p, t)
     } else if reached_wc(set, x) {
-        let g = outputs(false, true, false);
-        to(Phase::Fine { w0: w0 }, g, t)
+        fine_filling(w0, t)
     } else {
-        let g = outputs(true, set.o == 1, false);
-        to(Phase::Coarse { w0: w0 }, g, t)
+        coarse_filling(set, w0, t)
     }
 }
 
@@ -259,8 +301,7 @@ fn fine_stage(set: Settings, w0: Units, t: Seen) -> Moved
         let p = full(set, w0);
         rests(p, t)
     } else {
-        let g = outputs(false, true, false);
-        to(Phase::Fine { w0: w0 }, g, t)
+        fine_filling(w0, t)
     }
 }
 
@@ -296,7 +337,8 @@ fn fill(set: Settings, t: Seen, stage: Moved) -> Moved
     ensures { λ r. ⌜ r ≡ fill set t stage ⌝ }
 {
     if fill_stops(set, t) {
-        rests(Phase::Ready, t)
+        let p = Phase::Ready;
+        rests(p, t)
     } else {
         stage
     }
@@ -338,7 +380,7 @@ fn discharge_opens(w0: Units, t: Seen) -> Moved
         settled: t.stable,
     };
     let g = outputs(false, false, true);
-    to(p, g, t)
+    outcome(p, g, Dose::Nothing, t)
 }
 
 // AL1: Settle, at tick number n before this tick.
@@ -392,8 +434,7 @@ fn load(set: Settings, t: Seen) -> Moved
     if at_least(x, set.level) {
         rests(Phase::Calm { n: 0 }, t)
     } else {
-        let g = outputs(false, false, true);
-        to(Phase::Load, g, t)
+        loading(t)
     }
 }
 
@@ -417,11 +458,9 @@ fn dose_coarse(set: Settings, wh: Units, t: Seen) -> Moved
     if reached_wf(set, x) {
         rests(Phase::DoseSettle { wh: wh, n: 0 }, t)
     } else if reached_wc(set, x) {
-        let g = outputs(false, true, false);
-        to(Phase::DoseFine { wh: wh }, g, t)
+        fine_dosing(wh, t)
     } else {
-        let g = outputs(true, true, false);
-        to(Phase::DoseCoarse { wh: wh }, g, t)
+        coarse_dosing(wh, t)
     }
 }
 
@@ -434,8 +473,7 @@ fn dose_fine(set: Settings, wh: Units, t: Seen) -> Moved
     if reached_wf(set, x) {
         rests(Phase::DoseSettle { wh: wh, n: 0 }, t)
     } else {
-        let g = outputs(false, true, false);
-        to(Phase::DoseFine { wh: wh }, g, t)
+        fine_dosing(wh, t)
     }
 }
 
@@ -459,8 +497,7 @@ fn ready_to_dose(set: Settings, t: Seen) -> Moved
     let w = t.w;
     let x = widened(w);
     if below(x, set.dose) {
-        let g = outputs(false, false, true);
-        to(Phase::Load, g, t)
+        loading(t)
     } else if t.start {
         dose_coarse(set, w, t)
     } else {

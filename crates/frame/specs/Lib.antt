@@ -2,3 +2,11 @@ pub mod Check
 pub mod Frame
 pub mod Read
 pub mod Says
+pub mod AnswerLaws
+pub mod Linear
+pub mod CheckLaws
+pub mod FrameLaws
+pub mod ReadLaws
+pub mod RoundTrip
+pub mod Puts
+pub mod Stands

@@ -1,11 +1,20 @@
 // Tenso-M frames: the check byte, the frame writer and the frame reader.
 ghost use mathlib.Core.Path.{_≡_};
-ghost use lib.ListN.{length};
+ghost use mathlib.Core.List.{_++_};
+ghost use Prim.Native.Nat.{_+_, _-_, _≤_};
+ghost use lib.ListN.{length, take, replicate};
+ghost use lib.Seq.{sets};
 ghost use Rattle.paper.specs.Answer.{Fills, Hands};
-ghost use Rattle.frame.specs.Check.{check};
-ghost use Rattle.frame.specs.Frame.{writeOf, echoOf};
-ghost use Rattle.frame.specs.Read.{readOf};
+ghost use Rattle.frame.specs.Check.{check, enter};
+ghost use Rattle.frame.specs.Frame.{sentByte, sent, frame, framable, writeOf, echoOf};
+ghost use Rattle.frame.specs.Read.{grown, step, readAll, tooShort, bad};
 ghost use Rattle.frame.specs.Says.{saysWrote, saysEchoed, Reads};
+ghost use Rattle.frame.specs.Puts.{Puts};
+ghost use Rattle.frame.specs.Stands.{stands, Held, Stands};
+
+mod table;
+
+use table::TABLE;
 
 // What the writer answers: the length of the frame, or a refusal.
 pub enum Wrote {
@@ -36,4 +45,331 @@ pub enum Echoed {
 pub struct Echo {
     pub echoed: Echoed,
     pub body: [u8; 255],
+}
+
+// How far reading has come: the places of FF bytes and the length of the body.
+enum State {
+    Seek,
+    Lead(usize),
+    Body {
+        before: usize,
+        len: usize,
+    },
+    Mark {
+        before: usize,
+        len: usize,
+        last: usize,
+    },
+    Ended {
+        len: usize,
+        place: usize,
+    },
+}
+
+// A byte enters the check.
+fn enter(s: u8, x: u8) -> u8
+    ensures { λ r. ⌜ r ≡ enter s x ⌝ }
+{
+    TABLE[s as usize] ^ x
+}
+
+// The check byte of a body.
+pub fn check_byte(body: &[u8]) -> u8
+    ensures { λ r. ⌜ r ≡ check (now (body .entry)) ⌝ }
+{
+    let mut c: u8 = 0;
+    let mut i: usize = 0;
+    while i < body.len() {
+        c = enter(c, body[i]);
+        i += 1;
+    }
+    enter(c, 0)
+}
+
+// Whether a body can be framed.
+pub fn framable(body: &[u8]) -> bool
+    ensures { λ r. ⌜ r ≡ framable (now (body .entry)) ⌝ }
+{
+    if body.len() < 2 {
+        return false;
+    }
+    if 254 < body.len() {
+        return false;
+    }
+    let first = body[0];
+    if first == 0xFF {
+        return false;
+    }
+    if first == 0xFE {
+        return false;
+    }
+    if first == 0 {
+        return 5 <= body.len();
+    }
+    true
+}
+
+// How many bytes send a body byte.
+fn byte_len(b: u8) -> usize
+    ensures { λ r. ⌜ r ≡ length (sentByte b) ⌝ }
+{
+    if b == 0xFF {
+        return 2;
+    }
+    1
+}
+
+// How many bytes send a body.
+fn sent_len(body: &[u8]) -> usize
+    requires { ⌜ length (now body) ≤ 254 ⌝ }
+    ensures { λ r. ⌜ r ≡ length (sent (now (body .entry))) ⌝ }
+{
+    let mut n: usize = 0;
+    let mut i: usize = 0;
+    while i < body.len() {
+        n += byte_len(body[i]);
+        i += 1;
+    }
+    n
+}
+
+// The length of a body's frame; c is the body's check byte.
+fn frame_len(body: &[u8], c: u8) -> usize
+    requires { ⌜ (length (now body) ≤ 254) × (c ≡ check (now body)) ⌝ }
+    ensures { λ r. ⌜ r ≡ length (frame (now (body .entry))) ⌝ }
+{
+    sent_len(body) + byte_len(c) + 3
+}
+
+// Puts a body byte as it is sent, and answers the place after it.
+fn put_byte(out: &mut [u8], at: usize, b: u8) -> usize
+    requires { ⌜ at + length (sentByte b) ≤ length (now out) ⌝ }
+    ensures { λ r. ⌜ Puts (sentByte b) (now (out .entry)) (now (out .exit)) at r ⌝ }
+{
+    out[at] = b;
+    if b == 0xFF {
+        out[at + 1] = 0xFE;
+        return at + 2;
+    }
+    at + 1
+}
+
+// Puts a body as it is sent, and answers the place after it.
+fn put_body(out: &mut [u8], at: usize, body: &[u8]) -> usize
+    requires { ⌜ at + length (sent (now body)) ≤ length (now out) ⌝ }
+    ensures { λ r. ⌜ Puts (sent (now (body .entry))) (now (out .entry)) (now (out .exit)) at r ⌝ }
+{
+    let mut to = at;
+    let mut i: usize = 0;
+    while i < body.len() {
+        to = put_byte(out, to, body[i]);
+        i += 1;
+    }
+    to
+}
+
+// Puts a body's frame at the buffer's start; c is the body's check byte.
+fn put_frame(out: &mut [u8], body: &[u8], c: u8)
+    requires { ⌜ (length (frame (now body)) ≤ length (now out)) × (c ≡ check (now body)) ⌝ }
+    ensures { λ _. ⌜ now (out .exit) ≡ sets (now (out .entry)) 0 (frame (now (body .entry))) ⌝ }
+{
+    out[0] = 0xFF;
+    let at = put_body(out, 1, body);
+    let end = put_byte(out, at, c);
+    out[end] = 0xFF;
+    out[end + 1] = 0xFF;
+}
+
+// Writes the frame of a body from the buffer's start; a refusal leaves the buffer as it was.
+pub fn write_frame(body: &[u8], out: &mut [u8]) -> Wrote
+    ensures { λ r. ⌜ Fills (saysWrote r) (writeOf (now (body .entry)) (length (now (out .entry)))) (now (out .entry)) (now (out .exit)) ⌝ }
+{
+    if !framable(body) {
+        return Wrote::R14;
+    }
+    let c = check_byte(body);
+    let n = frame_len(body, c);
+    if out.len() < n {
+        return Wrote::R8;
+    }
+    put_frame(out, body, c);
+    Wrote::Frame(n)
+}
+
+// A body of n bytes grows by one, or is dropped.
+fn grow(buf: &mut [u8], before: usize, n: usize, b: u8) -> State
+    requires { ⌜ (length (now buf) ≡ 255) × (n ≤ 255) ⌝ }
+    ensures { λ r. ⌜ Stands r (now (buf .exit)) (grown before (take n (now (buf .entry))) b) ⌝ }
+{
+    if n < 255 {
+        buf[n] = b;
+        return State::Body { before, len: n + 1 };
+    }
+    State::Seek
+}
+
+// The byte b at place i is read.
+fn step(st: State, buf: &mut [u8], i: usize, b: u8) -> State
+    requires { ⌜ Held st (now buf) ⌝ }
+    ensures { λ r. ⌜ Stands r (now (buf .exit)) (step (stands st (now (buf .entry))) i b) ⌝ }
+{
+    match st {
+        State::Seek => {
+            if b == 0xFF {
+                return State::Lead(i);
+            }
+            st
+        }
+        State::Lead(before) => {
+            if b == 0xFF {
+                return State::Lead(i);
+            }
+            if b == 0xFE {
+                return st;
+            }
+            grow(buf, before, 0, b)
+        }
+        State::Body { before, len } => {
+            if b == 0xFF {
+                return State::Mark {
+                    before,
+                    len,
+                    last: i,
+                };
+            }
+            grow(buf, before, len, b)
+        }
+        State::Mark { before, len, last } => {
+            if b == 0xFF {
+                return State::Ended { len, place: i };
+            }
+            if b == 0xFE {
+                return grow(buf, before, len, 0xFF);
+            }
+            grow(buf, last, 0, b)
+        }
+        State::Ended { len: _, place: _ } => st,
+    }
+}
+
+// Reads bytes up to the end of the first finished body, which is left at the buffer's start.
+fn scan(bytes: &[u8], buf: &mut [u8]) -> State
+    requires { ⌜ length (now buf) ≡ 255 ⌝ }
+    ensures { λ r. ⌜ Stands r (now (buf .exit)) (readAll (now (bytes .entry))) ⌝ }
+{
+    let mut st = State::Seek;
+    let mut i: usize = 0;
+    while i < bytes.len() {
+        st = step(st, buf, i, bytes[i]);
+        i += 1;
+        if let State::Ended { len: _, place: _ } = st {
+            return st;
+        }
+    }
+    st
+}
+
+// Whether a finished body is too short.
+fn too_short(body: &[u8]) -> bool
+    ensures { λ r. ⌜ r ≡ tooShort (now (body .entry)) ⌝ }
+{
+    if body.len() < 3 {
+        return true;
+    }
+    if body[0] == 0 {
+        return body.len() < 6;
+    }
+    false
+}
+
+// Whether a finished body is too short or its check is not 0.
+fn bad(body: &[u8]) -> bool
+    ensures { λ r. ⌜ r ≡ bad (now (body .entry)) ⌝ }
+{
+    if too_short(body) {
+        return true;
+    }
+    check_byte(body) != 0
+}
+
+// Puts 0 at each place from n on.
+fn clear(buf: &mut [u8], n: usize)
+    requires { ⌜ n ≤ length (now buf) ⌝ }
+    ensures { λ _. ⌜ now (buf .exit) ≡ take n (now (buf .entry)) ++ replicate (length (now (buf .entry)) - n) 0 ⌝ }
+{
+    let mut i = n;
+    while i < buf.len() {
+        buf[i] = 0;
+        i += 1;
+    }
+}
+
+// An answer with no body.
+fn no_body(found: Found) -> Read
+    ensures { λ r. ⌜ (r .found ≡ found) × (r .body ≡ replicate 255 0) ⌝ }
+{
+    Read {
+        found,
+        body: [0u8; 255],
+    }
+}
+
+// Reads bytes up to the end of the first finished body, and answers that body or why there is none.
+pub fn read_frame(bytes: &[u8]) -> Read
+    ensures { λ r. ⌜ Reads (now (bytes .entry)) r ⌝ }
+{
+    let mut buf = [0u8; 255];
+    let st = scan(bytes, &mut buf);
+    match st {
+        State::Seek => no_body(Found::R9(bytes.len())),
+        State::Lead(before) => no_body(Found::R9(before)),
+        State::Body { before, len: _ } => no_body(Found::R9(before)),
+        State::Mark {
+            before,
+            len: _,
+            last: _,
+        } => no_body(Found::R9(before)),
+        State::Ended { len, place } => {
+            if bad(&buf[..len]) {
+                return no_body(Found::R6(place));
+            }
+            clear(&mut buf, len);
+            Read {
+                found: Found::Body { place, len },
+                body: buf,
+            }
+        }
+    }
+}
+
+// A refused echo.
+fn no_echo() -> Echo
+    ensures { λ r. ⌜ (r .echoed ≡ Echoed.R14) × (r .body ≡ replicate 255 0) ⌝ }
+{
+    Echo {
+        echoed: Echoed::R14,
+        body: [0u8; 255],
+    }
+}
+
+// Writes a body's frame, reads it back, and answers the body that was read.
+pub fn echo_frame(body: &[u8]) -> Echo
+    ensures { λ r. ⌜ Hands 255 (saysEchoed (r .echoed)) (echoOf (now (body .entry))) (r .body) ⌝ }
+{
+    let mut line = [0u8; 513];
+    let wrote = write_frame(body, &mut line);
+    let Wrote::Frame(n) = wrote else {
+        return no_echo();
+    };
+    let back = read_frame(&line[..n]);
+    let found = back.found;
+    let Found::Body { place: _, len } = found else {
+        return no_echo();
+    };
+    let mut bytes = back.body;
+    bytes[len - 1] = 0;
+    Echo {
+        echoed: Echoed::Body(len - 1),
+        body: bytes,
+    }
 }

@@ -52,6 +52,7 @@ pub ended : (n : ℕ) (ms l got m : List ℕ) (f : List ℕ → Line) (a : Answe
     → a ≡ placed n (onGood (fieldsAt ms [] l) (λ vs rest. good (f vs) rest))
 ended n ms l got m f a e h = h ∙ ap (placed n) (sym (ap (λ (p : Parsed (List ℕ)). onGood p (λ vs rest. good (f vs) rest)) e ∙ fields-end f got m))
 
+-- what a letter asks for
 pub line-D : (s : List ℕ) (at : ℕ) → getD s at 0 ≡ letterD → lineOf (drop at s) ≡ onGood (fieldsAt mostOfD [] (drop (at + 1) s)) (λ vs rest. good (doseFrom vs) rest)
 unfolding lineOf
 line-D s at e =

@@ -20,9 +20,11 @@ use Rattle.journal.specs.declared.Line.the-variants.{Dose, On}
 use Rattle.journal.specs.declared.Past.{Past}
 use Rattle.journal.specs.declared.Summary.{Summary}
 
+-- what follows a line, with f as the bound on the number of lines
 abbrev next-line : (f : ℕ) (p : Past) (n : ℕ) (l : Line) (rest : List ℕ) → Answer (List Line)
 next-line f p n l rest = ordered p l n (told (λ (ls : List Line). l ∷ ls) (readFrom f (pastAfter p l) (suc n) rest))
 
+-- the bound does not matter where it is at least the number of bytes
 pub read-enough : (f g : ℕ) (p : Past) (n : ℕ) (l : List ℕ) → length l ≤ f → length l ≤ g → readFrom f p n l ≡ readFrom g p n l
 unfolding readFrom onLine
 read-enough zero zero p n l h k = refl
@@ -62,6 +64,7 @@ lines-good p n (b ∷ bs) x rest e =
     ap (λ (q : Parsed Line). onLine n q (next-line (length bs) p n)) e
     ∙ ap (λ (a : Answer (List Line)). ordered p x n (told (λ (ls : List Line). x ∷ ls) a)) (read-enough (length bs) (length rest) (pastAfter p x) (suc n) rest (omega arith) (omega arith))
 
+-- R13, then line by line
 pub journal-lines : (s : List ℕ) → length s ≤ 65536 → journalOf s ≡ linesFrom noPast 1 s
 unfolding journalOf linesFrom
 journal-lines s h = pick-f _ _ _ (le-ltb 65536 (length s) h)
@@ -102,7 +105,7 @@ told-done l (fault n vs) ls e = fault-done e
 reads-none : (p : Past) (n : ℕ) (ls : List Line) → linesFrom p n [] ≡ done ls → Reads p [] ls
 reads-none p n ls e = let q : [] ≡ ls = cc (lines-none p n) in subst (λ (ms : List Line). Reads p [] ms) q none
 
--- exactly the journals that are read
+-- bytes are read as lines exactly if they hold them
 pub lines-reads : (f : ℕ) (p : Past) (n : ℕ) (s : List ℕ) (ls : List Line) → length s ≤ f → linesFrom p n s ≡ done ls → Reads p s ls
 lines-reads zero p n [] ls h e = reads-none p n ls e
 lines-reads zero p n (b ∷ bs) ls h e = absurd (omega arith)
@@ -198,6 +201,7 @@ text-lines (l ∷ ls) = omega (arith, text-least l, text-lines ls, length-append
 pub lines-most : (s : List ℕ) (ls : List Line) → journalOf s ≡ done ls → 4 * length ls ≤ length s
 lines-most s ls e = omega (arith, text-lines ls, ap length (journal-text s ls e))
 
+-- what the reader's answer says of the journal
 pub judged-lines : (s : List ℕ) (m : Summary) → done m ≡ told summaryOf (journalOf s) → (ls : List Line) × (journalOf s ≡ done ls) × (m ≡ summaryOf ls)
 unfolding told
 judged-lines s m e = go (journalOf s) refl e

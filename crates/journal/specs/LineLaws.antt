@@ -64,11 +64,11 @@ fields-text (m ∷ ms) (v ∷ vs) got rest e =
     ∙ ap (λ (l : List ℕ). good l rest) (append-assoc got (v ∷ []) vs)
 
 -- what was read as values is their text
-pub record Written (ms got l vs rest : List ℕ) : Type 0 where
-  pub ws : List ℕ
-  pub all : vs ≡ got ++ ws
-  pub text : l ≡ fieldsText ws ++ rest
-  pub fit : within ws ms ≡ true
+record Written (ms got l vs rest : List ℕ) : Type 0 where
+  ws : List ℕ
+  all : vs ≡ got ++ ws
+  text : l ≡ fieldsText ws ++ rest
+  fit : within ws ms ≡ true
 
 expected : {X : Type 0} (b : ℕ) (l : List ℕ) (next : List ℕ → Parsed X) (x : X) (rest : List ℕ) → expect b l next ≡ good x rest → (t : List ℕ) × (l ≡ b ∷ t) × (next t ≡ good x rest)
 unfolding expect pick
@@ -171,7 +171,7 @@ fields-none : length (fieldsText []) ≡ 1
 unfolding fieldsText
 fields-none = refl
 
-pub fields-length : (v : ℕ) (vs : List ℕ) → length (fieldsText (v ∷ vs)) ≡ 1 + length (decimal v) + length (fieldsText vs)
+fields-length : (v : ℕ) (vs : List ℕ) → length (fieldsText (v ∷ vs)) ≡ 1 + length (decimal v) + length (fieldsText vs)
 unfolding fieldsText
 fields-length v vs = omega (arith, length-append (decimal v) (fieldsText vs))
 
@@ -265,6 +265,7 @@ line-at-only s at l next e =
     let x = placed-good (length s) next l (lineOf (drop at s)) e in
     subst (λ (k : ℕ). Stands s at l k) (sym (x .2)) (stands s at l (x .0) (x .1))
 
+-- the writer's answers
 pub write-range : (l : Line) (room : ℕ) → inRange l ≡ false → writeOf l room ≡ refused R10 (0 ∷ [])
 unfolding writeOf
 write-range l room e = pick-f _ _ _ e

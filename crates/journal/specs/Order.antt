@@ -123,6 +123,7 @@ steps-first : (l : Line) (ls : List Line) (f : ℕ) → f ≤ hourIn l → Steps
 steps-first l [] f h s = (h, tt)
 steps-first l (m ∷ ls) f h s = (h, steps-first m ls f (omega (arith, s .0 .onward)) (s .1))
 
+-- an hour from the first to the last, and less than 744 above the first
 pub record Within (ls : List Line) (l : Line) : Type 0 where
   pub from : firstHour ls ≤ hourIn l
   pub to : hourIn l ≤ lastHour ls
@@ -145,7 +146,7 @@ unfolding lastHour
 last-holds P l [] e = e .0
 last-holds P l (m ∷ ls) e = last-holds P m ls (e .1)
 
--- and so does the last
+-- so does the last hour itself
 pub ordered-span : (ls : List Line) → Ordered ls → (firstHour ls ≤ lastHour ls) × (lastHour ls < firstHour ls + 744)
 unfolding firstHour lastHour
 ordered-span [] o = (omega arith, omega arith)

@@ -215,7 +215,8 @@ pub fn write(line: Line, out: &mut [u8]) -> Wrote
     if out.len() < text_len(line) {
         return Wrote::R8;
     }
-    Wrote::Line(store_line(out, line))
+    let written = store_line(out, line);
+    Wrote::Line(written)
 }
 
 // The byte at a place, 0 past the end.

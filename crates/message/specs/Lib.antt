@@ -1,2 +1,3 @@
 pub mod Message
 pub mod Says
+pub mod BuildSplit

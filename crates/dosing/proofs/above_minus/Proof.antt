@@ -1,11 +1,11 @@
-use borrow.Author.Needs.{needs}
+use native.Mathlib.Omega.{arith}
 use mir.Syntax.{w64}
 use mir.Val.{SFits}
 use mir.Facts.{toZ-ofZ}
-use native.Mathlib.Omega.{arith}
+use borrow.Author.Needs.{needs}
 use Rattle.dosing.proofs.Laws.{minus-pos-fits, minus-pos-is}
-use Rattle.dosing.proofs.above_minus.Statement.{statement}
 use Rattle.dosing.proofs.above_minus.Tie as tie
+use Rattle.dosing.proofs.above_minus.Statement.{statement}
 
 told : (c : tie.After-struct-told) → SFits w64 (c .before .args .x .v)
 told c = search needs

@@ -1,8 +1,8 @@
+use borrow.Author.Needs.{needs}
 use Rattle.laws.specs.Pick.{picks}
 use Rattle.dosing.specs.Rules.{amountOf}
-use borrow.Author.Needs.{needs}
-use Rattle.dosing.proofs.amount_of.Statement.{statement}
 use Rattle.dosing.proofs.amount_of.Tie as tie
+use Rattle.dosing.proofs.amount_of.Statement.{statement}
 
 not-below-zero-requires : tie.Need-not-below-zero-requires
 not-below-zero-requires c κs = search needs

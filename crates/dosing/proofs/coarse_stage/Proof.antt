@@ -1,8 +1,9 @@
-use Rattle.dosing.specs.Rules.{coarseStage}
-use Rattle.laws.specs.Pick.{pick-true, pick-false}
+use mathlib.Core.Path.{_≡_}
 use borrow.Author.Needs.{needs}
-use Rattle.dosing.proofs.coarse_stage.Statement.{statement}
+use Rattle.laws.specs.Pick.{pick-true, pick-false, so}
+use Rattle.dosing.specs.Rules.{reachedWf, reachedWc, coarseStage}
 use Rattle.dosing.proofs.coarse_stage.Tie as tie
+use Rattle.dosing.proofs.coarse_stage.Statement.{statement}
 
 widened-requires : tie.Need-widened-requires
 widened-requires c κs = search needs
@@ -19,29 +20,29 @@ rests-requires c κs = search needs
 reached-wc-requires : tie.Need-reached-wc-requires
 reached-wc-requires c κs = search needs
 
-outputs-requires : tie.Need-outputs-requires
-outputs-requires c κs = search needs
+fine-filling-requires : tie.Need-fine-filling-requires
+fine-filling-requires c κs = search needs
 
-to-requires : tie.Need-to-requires
-to-requires c κs = search needs
+coarse-filling-requires : tie.Need-coarse-filling-requires
+coarse-filling-requires c κs = search needs
 
-outputs-requires-2 : tie.Need-outputs-requires-2
-outputs-requires-2 c κs = search needs
+at-wf : (c : tie.After-reached-wf) → c .reached-wf .result ≡ reachedWf (c .before .before .before .args .set) (c .before .before .before .args .t .w .v)
+at-wf c = simp (c .reached-wf .ensures, c .before .widened .ensures)
 
-to-requires-2 : tie.Need-to-requires-2
-to-requires-2 c κs = search needs
+at-wc : (c : tie.After-reached-wc) → c .reached-wc .result ≡ reachedWc (c .before .before .before .before .before .args .set) (c .before .before .before .before .before .args .t .w .v)
+at-wc c = simp (c .reached-wc .ensures, c .before .before .before .widened .ensures)
 
 returns : tie.Need-returns
 unfolding coarseStage
-returns c = simp (c .rests .ensures, c .before .full .ensures, rw (c .before .before .before .reached-wf .ensures, c .before .before .before .before .widened .ensures) at (c .before .before .if1 .taken), pick-true)
+returns c = simp (c .rests .ensures, c .before .full .ensures, so (at-wf (c .before .before .before)) (c .before .before .if1 .taken), pick-true)
 
 returns-2 : tie.Need-returns-2
 unfolding coarseStage
-returns-2 c = simp (c .to .ensures, c .before .outputs .ensures, rw (c .before .before .before .before .before .reached-wf .ensures, c .before .before .before .before .before .before .widened .ensures) at (c .before .before .before .before .if1 .left), rw (c .before .before .before .reached-wc .ensures, c .before .before .before .before .before .before .widened .ensures) at (c .before .before .if2 .taken), pick-true, pick-false)
+returns-2 c = simp (c .fine-filling .ensures, so (at-wf (c .before .before .before .before)) (c .before .before .before .if1 .left), so (at-wc (c .before .before)) (c .before .if2 .taken), pick-true, pick-false)
 
 returns-3 : tie.Need-returns-3
 unfolding coarseStage
-returns-3 c = simp (c .to2 .ensures, c .before .outputs2 .ensures, rw (c .before .before .before .before .before .before .reached-wf .ensures, c .before .before .before .before .before .before .before .widened .ensures) at (c .before .before .before .before .before .if1 .left), rw (c .before .before .before .before .reached-wc .ensures, c .before .before .before .before .before .before .before .widened .ensures) at (c .before .before .before .if2 .left), pick-true, pick-false)
+returns-3 c = simp (c .coarse-filling .ensures, so (at-wf (c .before .before .before .before)) (c .before .before .before .if1 .left), so (at-wc (c .before .before)) (c .before .if2 .left), pick-false)
 
 pub coarse-stage-spec : {M : Type 1} → statement M
 coarse-stage-spec =
@@ -52,10 +53,8 @@ coarse-stage-spec =
     full-requires
     rests-requires
     reached-wc-requires
-    outputs-requires
-    to-requires
-    outputs-requires-2
-    to-requires-2
+    fine-filling-requires
+    coarse-filling-requires
     returns
     returns-2
     returns-3)

@@ -1,9 +1,9 @@
-use borrow.Author.Needs.{needs}
 use mir.Syntax.{w32}
 use mir.Val.{SFits}
+use borrow.Author.Needs.{needs}
 use Rattle.dosing.proofs.Laws.{wide-fits, minus-fits, minus-is}
-use Rattle.dosing.proofs.difference.Statement.{statement}
 use Rattle.dosing.proofs.difference.Tie as tie
+use Rattle.dosing.proofs.difference.Statement.{statement}
 
 told-a : (c : tie.After-struct-told) → SFits w32 (c .before .before .args .a .v)
 told-a c = search needs

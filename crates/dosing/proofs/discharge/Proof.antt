@@ -1,8 +1,11 @@
-use Rattle.dosing.specs.Rules.{discharge}
-use Rattle.laws.specs.Pick.{pick-true, pick-false}
+use mathlib.Core.Path.{_≡_}
+use lib.IntN.{pos}
+use lib.Signed.{ltZ}
 use borrow.Author.Needs.{needs}
-use Rattle.dosing.proofs.discharge.Statement.{statement}
+use Rattle.laws.specs.Pick.{pick-true, pick-false, so}
+use Rattle.dosing.specs.Rules.{discharge}
 use Rattle.dosing.proofs.discharge.Tie as tie
+use Rattle.dosing.proofs.discharge.Statement.{statement}
 
 widened-requires : tie.Need-widened-requires
 widened-requires c κs = search needs
@@ -22,13 +25,16 @@ outputs-requires c κs = search needs
 to-requires : tie.Need-to-requires
 to-requires c κs = search needs
 
+below-m : (c : tie.After-below) → c .below .result ≡ ltZ (c .before .before .before .args .t .w .v) (pos (c .before .before .before .args .set .level))
+below-m c = simp (c .below .ensures, c .before .widened .ensures)
+
 returns : tie.Need-returns
 unfolding discharge
-returns c = simp (c .completes .ensures, c .before .amount-of .ensures, rw (c .before .before .before .below .ensures, c .before .before .before .before .widened .ensures) at (c .before .before .if1 .taken), pick-true)
+returns c = simp (c .completes .ensures, c .before .amount-of .ensures, so (below-m (c .before .before .before)) (c .before .before .if1 .taken), pick-true)
 
 returns-2 : tie.Need-returns-2
 unfolding discharge
-returns-2 c = simp (c .to .ensures, c .before .outputs .ensures, rw (c .before .before .before .below .ensures, c .before .before .before .before .widened .ensures) at (c .before .before .if1 .left), pick-false)
+returns-2 c = simp (c .to .ensures, c .before .outputs .ensures, so (below-m (c .before .before .before)) (c .before .before .if1 .left), pick-false)
 
 pub discharge-spec : {M : Type 1} → statement M
 discharge-spec =

@@ -1,8 +1,10 @@
-use Rattle.dosing.specs.Rules.{doseCoarse}
-use Rattle.laws.specs.Pick.{pick-true, pick-false}
+use mathlib.Core.Path.{_≡_}
+use lib.IntN.{_-ℤ_}
 use borrow.Author.Needs.{needs}
-use Rattle.dosing.proofs.dose_coarse.Statement.{statement}
+use Rattle.laws.specs.Pick.{pick-true, pick-false, so}
+use Rattle.dosing.specs.Rules.{reachedWf, reachedWc, doseCoarse}
 use Rattle.dosing.proofs.dose_coarse.Tie as tie
+use Rattle.dosing.proofs.dose_coarse.Statement.{statement}
 
 difference-requires : tie.Need-difference-requires
 difference-requires c κs = search needs
@@ -16,29 +18,29 @@ rests-requires c κs = search needs
 reached-wc-requires : tie.Need-reached-wc-requires
 reached-wc-requires c κs = search needs
 
-outputs-requires : tie.Need-outputs-requires
-outputs-requires c κs = search needs
+fine-dosing-requires : tie.Need-fine-dosing-requires
+fine-dosing-requires c κs = search needs
 
-to-requires : tie.Need-to-requires
-to-requires c κs = search needs
+coarse-dosing-requires : tie.Need-coarse-dosing-requires
+coarse-dosing-requires c κs = search needs
 
-outputs-requires-2 : tie.Need-outputs-requires-2
-outputs-requires-2 c κs = search needs
+at-wf : (c : tie.After-reached-wf) → c .reached-wf .result ≡ reachedWf (c .before .before .before .args .set) (c .before .before .before .args .wh .v -ℤ c .before .before .before .args .t .w .v)
+at-wf c = simp (c .reached-wf .ensures, c .before .difference .ensures)
 
-to-requires-2 : tie.Need-to-requires-2
-to-requires-2 c κs = search needs
+at-wc : (c : tie.After-reached-wc) → c .reached-wc .result ≡ reachedWc (c .before .before .before .before .before .args .set) (c .before .before .before .before .before .args .wh .v -ℤ c .before .before .before .before .before .args .t .w .v)
+at-wc c = simp (c .reached-wc .ensures, c .before .before .before .difference .ensures)
 
 returns : tie.Need-returns
 unfolding doseCoarse
-returns c = simp (c .rests .ensures, rw (c .before .before .reached-wf .ensures, c .before .before .before .difference .ensures) at (c .before .if1 .taken), pick-true)
+returns c = simp (c .rests .ensures, so (at-wf (c .before .before)) (c .before .if1 .taken), pick-true)
 
 returns-2 : tie.Need-returns-2
 unfolding doseCoarse
-returns-2 c = simp (c .to .ensures, c .before .outputs .ensures, rw (c .before .before .before .before .before .reached-wf .ensures, c .before .before .before .before .before .before .difference .ensures) at (c .before .before .before .before .if1 .left), rw (c .before .before .before .reached-wc .ensures, c .before .before .before .before .before .before .difference .ensures) at (c .before .before .if2 .taken), pick-true, pick-false)
+returns-2 c = simp (c .fine-dosing .ensures, so (at-wf (c .before .before .before .before)) (c .before .before .before .if1 .left), so (at-wc (c .before .before)) (c .before .if2 .taken), pick-true, pick-false)
 
 returns-3 : tie.Need-returns-3
 unfolding doseCoarse
-returns-3 c = simp (c .to2 .ensures, c .before .outputs2 .ensures, rw (c .before .before .before .before .before .reached-wf .ensures, c .before .before .before .before .before .before .difference .ensures) at (c .before .before .before .before .if1 .left), rw (c .before .before .before .reached-wc .ensures, c .before .before .before .before .before .before .difference .ensures) at (c .before .before .if2 .left), pick-false)
+returns-3 c = simp (c .coarse-dosing .ensures, so (at-wf (c .before .before .before .before)) (c .before .before .before .if1 .left), so (at-wc (c .before .before)) (c .before .if2 .left), pick-false)
 
 pub dose-coarse-spec : {M : Type 1} → statement M
 dose-coarse-spec =
@@ -48,10 +50,8 @@ dose-coarse-spec =
     reached-wf-requires
     rests-requires
     reached-wc-requires
-    outputs-requires
-    to-requires
-    outputs-requires-2
-    to-requires-2
+    fine-dosing-requires
+    coarse-dosing-requires
     returns
     returns-2
     returns-3)

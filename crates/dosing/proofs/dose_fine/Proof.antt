@@ -1,8 +1,10 @@
-use Rattle.dosing.specs.Rules.{doseFine}
-use Rattle.laws.specs.Pick.{pick-true, pick-false}
+use mathlib.Core.Path.{_≡_}
+use lib.IntN.{_-ℤ_}
 use borrow.Author.Needs.{needs}
-use Rattle.dosing.proofs.dose_fine.Statement.{statement}
+use Rattle.laws.specs.Pick.{pick-true, pick-false, so}
+use Rattle.dosing.specs.Rules.{reachedWf, doseFine}
 use Rattle.dosing.proofs.dose_fine.Tie as tie
+use Rattle.dosing.proofs.dose_fine.Statement.{statement}
 
 difference-requires : tie.Need-difference-requires
 difference-requires c κs = search needs
@@ -13,19 +15,19 @@ reached-wf-requires c κs = search needs
 rests-requires : tie.Need-rests-requires
 rests-requires c κs = search needs
 
-outputs-requires : tie.Need-outputs-requires
-outputs-requires c κs = search needs
+fine-dosing-requires : tie.Need-fine-dosing-requires
+fine-dosing-requires c κs = search needs
 
-to-requires : tie.Need-to-requires
-to-requires c κs = search needs
+at-wf : (c : tie.After-reached-wf) → c .reached-wf .result ≡ reachedWf (c .before .before .before .args .set) (c .before .before .before .args .wh .v -ℤ c .before .before .before .args .t .w .v)
+at-wf c = simp (c .reached-wf .ensures, c .before .difference .ensures)
 
 returns : tie.Need-returns
 unfolding doseFine
-returns c = simp (c .rests .ensures, rw (c .before .before .reached-wf .ensures, c .before .before .before .difference .ensures) at (c .before .if1 .taken), pick-true)
+returns c = simp (c .rests .ensures, so (at-wf (c .before .before)) (c .before .if1 .taken), pick-true)
 
 returns-2 : tie.Need-returns-2
 unfolding doseFine
-returns-2 c = simp (c .to .ensures, c .before .outputs .ensures, rw (c .before .before .before .reached-wf .ensures, c .before .before .before .before .difference .ensures) at (c .before .before .if1 .left), pick-false)
+returns-2 c = simp (c .fine-dosing .ensures, so (at-wf (c .before .before)) (c .before .if1 .left), pick-false)
 
 pub dose-fine-spec : {M : Type 1} → statement M
 dose-fine-spec =
@@ -34,7 +36,6 @@ dose-fine-spec =
     difference-requires
     reached-wf-requires
     rests-requires
-    outputs-requires
-    to-requires
+    fine-dosing-requires
     returns
     returns-2)

@@ -1,11 +1,11 @@
-use Rattle.dosing.specs.Rules.{doseSettle}
-use Rattle.laws.specs.Pick.{pick-true, pick-false}
-use Rattle.dosing.specs.Laws.{settle-later}
-use native.Mathlib.Omega.{arith}
 use Prim.Native.Nat.{_+_}
+use native.Mathlib.Omega.{arith}
 use borrow.Author.Needs.{needs}
-use Rattle.dosing.proofs.dose_settle.Statement.{statement}
+use Rattle.laws.specs.Pick.{pick-true, pick-false, so}
+use Rattle.dosing.specs.Rules.{doseSettle}
+use Rattle.dosing.specs.Laws.{settle-later}
 use Rattle.dosing.proofs.dose_settle.Tie as tie
+use Rattle.dosing.proofs.dose_settle.Statement.{statement}
 
 settle-ends-requires : tie.Need-settle-ends-requires
 settle-ends-requires c κs = search needs
@@ -17,18 +17,18 @@ completes-requires : tie.Need-completes-requires
 completes-requires c κs = search needs
 
 add-t9 : tie.Need-add-t9
-add-t9 c = let a = c .before .before .args in record { fits = omega (arith, settle-later (a .set) (a .n + 1) (a .t .stable) (rw (c .before .settle-ends .ensures) at (c .if1 .left))) }
+add-t9 c = let a = c .before .before .args in record { fits = omega (arith, settle-later (a .set) (a .n + 1) (a .t .stable) (so (c .before .settle-ends .ensures) (c .if1 .left))) }
 
 rests-requires : tie.Need-rests-requires
 rests-requires c κs = search needs
 
 returns : tie.Need-returns
 unfolding doseSettle
-returns c = simp (c .completes .ensures, c .before .not-below-zero .ensures, rw (c .before .before .before .before .settle-ends .ensures) at (c .before .before .before .if1 .taken), pick-true)
+returns c = simp (c .completes .ensures, c .before .not-below-zero .ensures, so (c .before .before .before .before .settle-ends .ensures) (c .before .before .before .if1 .taken), pick-true)
 
 returns-2 : tie.Need-returns-2
 unfolding doseSettle
-returns-2 c = simp (c .rests .ensures, rw (c .before .before .settle-ends .ensures) at (c .before .if1 .left), pick-false)
+returns-2 c = simp (c .rests .ensures, so (c .before .before .settle-ends .ensures) (c .before .if1 .left), pick-false)
 
 pub dose-settle-spec : {M : Type 1} → statement M
 dose-settle-spec =

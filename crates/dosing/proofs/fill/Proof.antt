@@ -1,8 +1,8 @@
-use Rattle.dosing.specs.Rules.{fill}
-use Rattle.laws.specs.Pick.{pick-true, pick-false}
 use borrow.Author.Needs.{needs}
-use Rattle.dosing.proofs.fill.Statement.{statement}
+use Rattle.laws.specs.Pick.{pick-true, pick-false, so}
+use Rattle.dosing.specs.Rules.{fill}
 use Rattle.dosing.proofs.fill.Tie as tie
+use Rattle.dosing.proofs.fill.Statement.{statement}
 
 fill-stops-requires : tie.Need-fill-stops-requires
 fill-stops-requires c κs = search needs
@@ -12,11 +12,11 @@ rests-requires c κs = search needs
 
 returns : tie.Need-returns
 unfolding fill
-returns c = simp (c .rests .ensures, rw (c .before .before .fill-stops .ensures) at (c .before .if1 .taken), pick-true)
+returns c = simp (c .rests .ensures, so (c .before .before .fill-stops .ensures) (c .before .if1 .taken), pick-true)
 
 returns-2 : tie.Need-returns-2
 unfolding fill
-returns-2 c = simp (rw (c .before .fill-stops .ensures) at (c .if1 .left), pick-false)
+returns-2 c = simp (so (c .before .fill-stops .ensures) (c .if1 .left), pick-false)
 
 pub fill-spec : {M : Type 1} → statement M
 fill-spec = tie.close (tie.spec fill-stops-requires rests-requires returns returns-2)

@@ -1,7 +1,7 @@
-use Rattle.dosing.specs.Rules.{fillBegins}
 use borrow.Author.Needs.{needs}
-use Rattle.dosing.proofs.fill_begins.Statement.{statement}
+use Rattle.dosing.specs.Rules.{fillBegins}
 use Rattle.dosing.proofs.fill_begins.Tie as tie
+use Rattle.dosing.proofs.fill_begins.Statement.{statement}
 
 coarse-stage-requires : tie.Need-coarse-stage-requires
 coarse-stage-requires c κs = search needs

@@ -1,6 +1,6 @@
 use Rattle.laws.specs.Pick.{picks}
-use Rattle.dosing.proofs.fill_stops.Statement.{statement}
 use Rattle.dosing.proofs.fill_stops.Tie as tie
+use Rattle.dosing.proofs.fill_stops.Statement.{statement}
 
 returns : tie.Need-returns
 returns c = search picks

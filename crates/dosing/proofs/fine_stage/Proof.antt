@@ -1,8 +1,9 @@
-use Rattle.dosing.specs.Rules.{fineStage}
-use Rattle.laws.specs.Pick.{pick-true, pick-false}
+use mathlib.Core.Path.{_≡_}
 use borrow.Author.Needs.{needs}
-use Rattle.dosing.proofs.fine_stage.Statement.{statement}
+use Rattle.laws.specs.Pick.{pick-true, pick-false, so}
+use Rattle.dosing.specs.Rules.{reachedWf, fineStage}
 use Rattle.dosing.proofs.fine_stage.Tie as tie
+use Rattle.dosing.proofs.fine_stage.Statement.{statement}
 
 widened-requires : tie.Need-widened-requires
 widened-requires c κs = search needs
@@ -16,19 +17,19 @@ full-requires c κs = search needs
 rests-requires : tie.Need-rests-requires
 rests-requires c κs = search needs
 
-outputs-requires : tie.Need-outputs-requires
-outputs-requires c κs = search needs
+fine-filling-requires : tie.Need-fine-filling-requires
+fine-filling-requires c κs = search needs
 
-to-requires : tie.Need-to-requires
-to-requires c κs = search needs
+at-wf : (c : tie.After-reached-wf) → c .reached-wf .result ≡ reachedWf (c .before .before .before .args .set) (c .before .before .before .args .t .w .v)
+at-wf c = simp (c .reached-wf .ensures, c .before .widened .ensures)
 
 returns : tie.Need-returns
 unfolding fineStage
-returns c = simp (c .rests .ensures, c .before .full .ensures, rw (c .before .before .before .reached-wf .ensures, c .before .before .before .before .widened .ensures) at (c .before .before .if1 .taken), pick-true)
+returns c = simp (c .rests .ensures, c .before .full .ensures, so (at-wf (c .before .before .before)) (c .before .before .if1 .taken), pick-true)
 
 returns-2 : tie.Need-returns-2
 unfolding fineStage
-returns-2 c = simp (c .to .ensures, c .before .outputs .ensures, rw (c .before .before .before .reached-wf .ensures, c .before .before .before .before .widened .ensures) at (c .before .before .if1 .left), pick-false)
+returns-2 c = simp (c .fine-filling .ensures, so (at-wf (c .before .before)) (c .before .if1 .left), pick-false)
 
 pub fine-stage-spec : {M : Type 1} → statement M
 fine-stage-spec =
@@ -38,7 +39,6 @@ fine-stage-spec =
     reached-wf-requires
     full-requires
     rests-requires
-    outputs-requires
-    to-requires
+    fine-filling-requires
     returns
     returns-2)

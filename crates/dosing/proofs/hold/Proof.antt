@@ -1,8 +1,8 @@
-use Rattle.dosing.specs.Rules.{hold}
-use Rattle.laws.specs.Pick.{pick-true, pick-false}
 use borrow.Author.Needs.{needs}
-use Rattle.dosing.proofs.hold.Statement.{statement}
+use Rattle.laws.specs.Pick.{pick-true, pick-false}
+use Rattle.dosing.specs.Rules.{hold}
 use Rattle.dosing.proofs.hold.Tie as tie
+use Rattle.dosing.proofs.hold.Statement.{statement}
 
 rests-requires : tie.Need-rests-requires
 rests-requires c κs = search needs

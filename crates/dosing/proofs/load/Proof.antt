@@ -1,8 +1,11 @@
-use Rattle.dosing.specs.Rules.{load}
-use Rattle.laws.specs.Pick.{pick-true, pick-false}
+use mathlib.Core.Path.{_≡_}
+use lib.IntN.{pos}
+use lib.Signed.{leZ}
 use borrow.Author.Needs.{needs}
-use Rattle.dosing.proofs.load.Statement.{statement}
+use Rattle.laws.specs.Pick.{pick-true, pick-false, so}
+use Rattle.dosing.specs.Rules.{load}
 use Rattle.dosing.proofs.load.Tie as tie
+use Rattle.dosing.proofs.load.Statement.{statement}
 
 widened-requires : tie.Need-widened-requires
 widened-requires c κs = search needs
@@ -13,28 +16,21 @@ at-least-requires c κs = search needs
 rests-requires : tie.Need-rests-requires
 rests-requires c κs = search needs
 
-outputs-requires : tie.Need-outputs-requires
-outputs-requires c κs = search needs
+loading-requires : tie.Need-loading-requires
+loading-requires c κs = search needs
 
-to-requires : tie.Need-to-requires
-to-requires c κs = search needs
+from-m : (c : tie.After-at-least) → c .at-least .result ≡ leZ (pos (c .before .before .before .args .set .level)) (c .before .before .before .args .t .w .v)
+from-m c = simp (c .at-least .ensures, c .before .widened .ensures)
 
 returns : tie.Need-returns
 unfolding load
-returns c = simp (c .rests .ensures, rw (c .before .before .at-least .ensures, c .before .before .before .widened .ensures) at (c .before .if1 .taken), pick-true)
+returns c = simp (c .rests .ensures, so (from-m (c .before .before)) (c .before .if1 .taken), pick-true)
 
 returns-2 : tie.Need-returns-2
 unfolding load
-returns-2 c = simp (c .to .ensures, c .before .outputs .ensures, rw (c .before .before .before .at-least .ensures, c .before .before .before .before .widened .ensures) at (c .before .before .if1 .left), pick-false)
+returns-2 c = simp (c .loading .ensures, so (from-m (c .before .before)) (c .before .if1 .left), pick-false)
 
 pub load-spec : {M : Type 1} → statement M
 load-spec =
     tie.close
-    (tie.spec
-    widened-requires
-    at-least-requires
-    rests-requires
-    outputs-requires
-    to-requires
-    returns
-    returns-2)
+    (tie.spec widened-requires at-least-requires rests-requires loading-requires returns returns-2)

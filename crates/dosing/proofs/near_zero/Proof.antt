@@ -1,7 +1,7 @@
-use Rattle.dosing.specs.Rules.{nearZero}
 use borrow.Author.Needs.{needs}
-use Rattle.dosing.proofs.near_zero.Statement.{statement}
+use Rattle.dosing.specs.Rules.{nearZero}
 use Rattle.dosing.proofs.near_zero.Tie as tie
+use Rattle.dosing.proofs.near_zero.Statement.{statement}
 
 widened-requires : tie.Need-widened-requires
 widened-requires c κs = search needs

@@ -1,13 +1,13 @@
-use borrow.Author.Needs.{needs}
 use mathlib.Core.Path.{_≡_, sym, _∙_}
 use lib.IntN.{ℤ, _-ℤ_}
 use mir.Syntax.{w32, w64}
 use mir.Val.{toZ, ofZ, SFits}
 use mir.Facts.{toZ-ofZ}
+use borrow.Author.Needs.{needs}
 use Rattle.laws.specs.Whole.{from-zero-nonNeg}
 use Rattle.dosing.proofs.Laws.{diff-small, amount-below, amount-from}
-use Rattle.dosing.proofs.not_below_zero.Statement.{statement}
 use Rattle.dosing.proofs.not_below_zero.Tie as tie
+use Rattle.dosing.proofs.not_below_zero.Statement.{statement}
 
 difference-requires : tie.Need-difference-requires
 difference-requires c κs = search needs

@@ -2,11 +2,11 @@ use mathlib.Core.Path.{ap, _∙_}
 use Prim.Native.Nat.{ℕ}
 use lib.IntN.{pos}
 use lib.Signed.{leZ}
-use Rattle.dosing.specs.Rules.{reachedWc}
-use Rattle.settings.specs.Table.{Wc}
 use borrow.Author.Needs.{needs}
-use Rattle.dosing.proofs.reached_wc.Statement.{statement}
+use Rattle.settings.specs.Table.{Wc}
+use Rattle.dosing.specs.Rules.{reachedWc}
 use Rattle.dosing.proofs.reached_wc.Tie as tie
+use Rattle.dosing.proofs.reached_wc.Statement.{statement}
 
 less-requires : tie.Need-less-requires
 less-requires c κs = search needs

@@ -1,9 +1,8 @@
-use Rattle.dosing.specs.Rules.{ready}
-use Rattle.laws.specs.Pick.{picks}
-use Rattle.laws.specs.Pick.{so}
 use borrow.Author.Needs.{needs}
-use Rattle.dosing.proofs.ready.Statement.{statement}
+use Rattle.laws.specs.Pick.{picks, so}
+use Rattle.dosing.specs.Rules.{ready}
 use Rattle.dosing.proofs.ready.Tie as tie
+use Rattle.dosing.proofs.ready.Statement.{statement}
 
 ready-to-fill-requires : tie.Need-ready-to-fill-requires
 ready-to-fill-requires c κs = search needs

@@ -1,8 +1,11 @@
-use Rattle.dosing.specs.Rules.{readyToDose}
-use Rattle.laws.specs.Pick.{pick-true, pick-false}
+use mathlib.Core.Path.{_≡_}
+use lib.IntN.{pos}
+use lib.Signed.{ltZ}
 use borrow.Author.Needs.{needs}
-use Rattle.dosing.proofs.ready_to_dose.Statement.{statement}
+use Rattle.laws.specs.Pick.{pick-true, pick-false, so}
+use Rattle.dosing.specs.Rules.{readyToDose}
 use Rattle.dosing.proofs.ready_to_dose.Tie as tie
+use Rattle.dosing.proofs.ready_to_dose.Statement.{statement}
 
 widened-requires : tie.Need-widened-requires
 widened-requires c κs = search needs
@@ -10,11 +13,8 @@ widened-requires c κs = search needs
 below-requires : tie.Need-below-requires
 below-requires c κs = search needs
 
-outputs-requires : tie.Need-outputs-requires
-outputs-requires c κs = search needs
-
-to-requires : tie.Need-to-requires
-to-requires c κs = search needs
+loading-requires : tie.Need-loading-requires
+loading-requires c κs = search needs
 
 dose-coarse-requires : tie.Need-dose-coarse-requires
 dose-coarse-requires c κs = search needs
@@ -22,17 +22,20 @@ dose-coarse-requires c κs = search needs
 rests-requires : tie.Need-rests-requires
 rests-requires c κs = search needs
 
+below-d : (c : tie.After-below) → c .below .result ≡ ltZ (c .before .before .before .args .t .w .v) (pos (c .before .before .before .args .set .dose))
+below-d c = simp (c .below .ensures, c .before .widened .ensures)
+
 returns : tie.Need-returns
 unfolding readyToDose
-returns c = simp (c .to .ensures, c .before .outputs .ensures, rw (c .before .before .before .below .ensures, c .before .before .before .before .widened .ensures) at (c .before .before .if1 .taken), pick-true)
+returns c = simp (c .loading .ensures, so (below-d (c .before .before)) (c .before .if1 .taken), pick-true)
 
 returns-2 : tie.Need-returns-2
 unfolding readyToDose
-returns-2 c = simp (c .dose-coarse .ensures, rw (c .before .before .before .below .ensures, c .before .before .before .before .widened .ensures) at (c .before .before .if1 .left), c .before .if2 .taken, pick-true, pick-false)
+returns-2 c = simp (c .dose-coarse .ensures, so (below-d (c .before .before .before)) (c .before .before .if1 .left), c .before .if2 .taken, pick-true, pick-false)
 
 returns-3 : tie.Need-returns-3
 unfolding readyToDose
-returns-3 c = simp (c .rests .ensures, rw (c .before .before .before .below .ensures, c .before .before .before .before .widened .ensures) at (c .before .before .if1 .left), c .before .if2 .left, pick-false)
+returns-3 c = simp (c .rests .ensures, so (below-d (c .before .before .before)) (c .before .before .if1 .left), c .before .if2 .left, pick-false)
 
 pub ready-to-dose-spec : {M : Type 1} → statement M
 ready-to-dose-spec =
@@ -40,8 +43,7 @@ ready-to-dose-spec =
     (tie.spec
     widened-requires
     below-requires
-    outputs-requires
-    to-requires
+    loading-requires
     dose-coarse-requires
     rests-requires
     returns

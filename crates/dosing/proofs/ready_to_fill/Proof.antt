@@ -1,8 +1,8 @@
-use Rattle.dosing.specs.Rules.{readyToFill}
-use Rattle.laws.specs.Pick.{pick-true, pick-false}
 use borrow.Author.Needs.{needs}
-use Rattle.dosing.proofs.ready_to_fill.Statement.{statement}
+use Rattle.laws.specs.Pick.{pick-true, pick-false}
+use Rattle.dosing.specs.Rules.{readyToFill}
 use Rattle.dosing.proofs.ready_to_fill.Tie as tie
+use Rattle.dosing.proofs.ready_to_fill.Statement.{statement}
 
 zeroed-requires : tie.Need-zeroed-requires
 zeroed-requires c κs = search needs

@@ -1,6 +1,6 @@
 use borrow.Author.Needs.{needs}
-use Rattle.dosing.proofs.rests.Statement.{statement}
 use Rattle.dosing.proofs.rests.Tie as tie
+use Rattle.dosing.proofs.rests.Statement.{statement}
 
 outputs-requires : tie.Need-outputs-requires
 outputs-requires c κs = search needs

@@ -1,11 +1,10 @@
 use Prim.Native.Nat.{_+_, _*_}
 use native.Mathlib.Omega.{arith}
 use borrow.Author.Tests.{le-leb}
-use Rattle.laws.specs.Pick.{picks}
-use Rattle.dosing.specs.Rules.{settleEnds}
 use borrow.Author.Needs.{needs}
-use Rattle.dosing.proofs.settle_ends.Statement.{statement}
+use Rattle.dosing.specs.Rules.{settleEnds}
 use Rattle.dosing.proofs.settle_ends.Tie as tie
+use Rattle.dosing.proofs.settle_ends.Statement.{statement}
 
 cast-last : tie.Need-cast-last
 cast-last c = search needs

@@ -1,7 +1,7 @@
-use Rattle.dosing.specs.Rules.{stepOf}
 use borrow.Author.Needs.{needs}
-use Rattle.dosing.proofs.step.Statement.{statement}
+use Rattle.dosing.specs.Rules.{stepOf}
 use Rattle.dosing.proofs.step.Tie as tie
+use Rattle.dosing.proofs.step.Statement.{statement}
 
 enum-told : tie.Need-enum-told
 enum-told c = search needs

@@ -1,7 +1,7 @@
 use Rattle.laws.specs.Pick.{picks}
 use Rattle.dosing.specs.Rules.{waits}
-use Rattle.dosing.proofs.waits.Statement.{statement}
 use Rattle.dosing.proofs.waits.Tie as tie
+use Rattle.dosing.proofs.waits.Statement.{statement}
 
 returns : tie.Need-returns
 unfolding waits

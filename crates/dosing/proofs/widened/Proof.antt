@@ -1,9 +1,9 @@
-use borrow.Author.Needs.{needs}
 use mir.Syntax.{w32}
 use mir.Val.{SFits}
+use borrow.Author.Needs.{needs}
 use Rattle.dosing.proofs.Laws.{wide-fits, wide-is}
-use Rattle.dosing.proofs.widened.Statement.{statement}
 use Rattle.dosing.proofs.widened.Tie as tie
+use Rattle.dosing.proofs.widened.Statement.{statement}
 
 told : (c : tie.After-struct-told) → SFits w32 (c .before .before .args .a .v)
 told c = search needs

@@ -4,6 +4,7 @@ use mathlib.Core.Bool.{Bool, true, false}
 use mathlib.Core.List.{List, [], _∷_}
 use Prim.Native.Nat.{ℕ, _≤_}
 use native.Mathlib.Omega.{arith}
+use lib.Dec.{lit≤}
 use lib.ListN.{length, take}
 use lib.Seq.{take-at, length-take-le}
 use borrow.Author.Needs.{needs}
@@ -28,7 +29,7 @@ record Written (l : Line) (n : ℕ) (new : List ℕ) : Type 0 where
   text : take n new ≡ textOf l
   room : n ≤ length new
 
-written : (l : Line) {w : Wrote} (n : ℕ) {old new : List ℕ} → Fills (saysWrote w) (writeOf l (length old)) old new → length old ≡ 27 → length new ≡ 27 → w ≡ W.Line n → Written l n new
+written : (l : Line) {w : Wrote} (n : ℕ) {old new : List ℕ} → Fills (saysWrote w) (writeOf l (length old)) old new → 27 ≤ length old → length new ≡ length old → w ≡ W.Line n → Written l n new
 unfolding told leaves over
 written l {w} n {old} {new} f h k q = go (inRange l) refl
   where
@@ -46,7 +47,7 @@ written l {w} n {old} {new} f h k q = go (inRange l) refl
     go false e = refused-done (sym (ap saysWrote (sym q) ∙ f .says ∙ ap (told length) (write-range l (length old) e)))
 
 -- a writer that did not answer a length
-unwritten : (l : Line) (w : Wrote) (m : ℕ) (vs : List ℕ) {old new : List ℕ} → Fills (saysWrote w) (writeOf l (length old)) old new → length old ≡ 27 → saysWrote w ≡ refused m vs → refused R10 (0 ∷ []) ≡ echoOf l
+unwritten : (l : Line) (w : Wrote) (m : ℕ) (vs : List ℕ) {old new : List ℕ} → Fills (saysWrote w) (writeOf l (length old)) old new → 27 ≤ length old → saysWrote w ≡ refused m vs → refused R10 (0 ∷ []) ≡ echoOf l
 unfolding told echoOf
 unwritten l w m vs {old} f h q = go (inRange l) refl
   where
@@ -60,7 +61,7 @@ echoed (O.Line m) l e = e
 echoed O.R10 l e = refused-done e
 
 filled : (c : tie.After-known-told) → Written (c .before .before .before .before .before .before .args .line) (c .before .len .given .0 .0) (c .before .before .before .before .write .last .1 .0)
-filled c = let w = c .before .before .before .before .write in written (c .before .before .before .before .before .before .args .line) (c .before .len .given .0 .0) (w .ensures) refl (w .kept .1 .0) (c .before .len .given .1)
+filled c = let w = c .before .before .before .before .write in written (c .before .before .before .before .before .before .args .line) (c .before .len .given .0 .0) (w .ensures) (lit≤ tt) (w .kept .1 .0) (c .before .len .given .1)
 
 slice-aggregate-write : tie.Need-slice-aggregate-write
 slice-aggregate-write c = search needs
@@ -94,10 +95,10 @@ returns c =
     echoed (c .read-line .result) l (c .read-line .ensures ∙ ap oneLine (w .text) ∙ one-text l (w .range)) ∙ sym (pick-t _ _ _ (w .range))
 
 returns-2 : tie.Need-returns-2
-returns-2 c = unwritten (c .before .before .before .before .before .args .line) (c .before .before .before .write .result) R10 (0 ∷ []) (c .before .before .before .write .ensures) refl (ap saysWrote (c .enum-told .given .1))
+returns-2 c = unwritten (c .before .before .before .before .before .args .line) (c .before .before .before .write .result) R10 (0 ∷ []) (c .before .before .before .write .ensures) (lit≤ tt) (ap saysWrote (c .enum-told .given .1))
 
 returns-3 : tie.Need-returns-3
-returns-3 c = unwritten (c .before .before .before .before .before .args .line) (c .before .before .before .write .result) R8 [] (c .before .before .before .write .ensures) refl (ap saysWrote (c .enum-told2 .given .1))
+returns-3 c = unwritten (c .before .before .before .before .before .args .line) (c .before .before .before .write .result) R8 [] (c .before .before .before .write .ensures) (lit≤ tt) (ap saysWrote (c .enum-told2 .given .1))
 
 pub echo-spec : {M : Type 1} → statement M
 echo-spec =

@@ -120,7 +120,7 @@ far-is c b e =
 
 returns : tie.Need-returns Inv-fields μ-fields Inv-lines μ-lines
 unfolding told
-returns c = sym (ap (told summaryOf) (journal-long (now (c .before .before .args .bytes)) (c .if1 .taken)))
+returns c = sym (ap (told summaryOf) (journal-long (now (c .before .before .args .bytes)) (omega (arith, c .if1 .taken))))
 
 no-past-requires : tie.Need-no-past-requires Inv-fields μ-fields Inv-lines μ-lines
 no-past-requires c κs = search needs
@@ -128,7 +128,7 @@ no-past-requires c κs = search needs
 lines-holds : tie.Need-lines-holds Inv-fields μ-fields Inv-lines μ-lines
 lines-holds c =
     let s = now (c .before .before .before .args .bytes) in
-    (search needs, search needs, sum-all s (c .before .if1 .left) ∙ ap (λ (p : Past). sumFrom p 0 s) (sym (c .no-past .ensures)))
+    (search needs, search needs, sum-all s (omega (arith, c .before .if1 .left)) ∙ ap (λ (p : Past). sumFrom p 0 s) (sym (c .no-past .ensures)))
 
 add-line : tie.Need-add-line Inv-fields μ-fields Inv-lines μ-lines
 add-line c = omega (arith, c .before .lines .inv .1, c .if2 .left, c .before .before .before .if1 .left)

@@ -1,0 +1,1 @@
+// The boundary table of document 01. The cases marked P are one statement: see specs/.

@@ -1,0 +1,30 @@
+use borrow.Author.Needs.{needs}
+use Rattle.laws.specs.Pick.{picks, so}
+use Rattle.controller.specs.Parts.{calmBy}
+use Rattle.controller.proofs.tick.calm_run.Statement.{statement}
+use Rattle.controller.proofs.tick.calm_run.Tie as tie
+
+equal-requires : tie.Need-equal-requires
+equal-requires c κs = search needs
+
+add-result : tie.Need-add-result
+add-result c = search needs
+
+returns : tie.Need-returns
+unfolding calmBy
+returns c = search picks
+
+returns-2 : tie.Need-returns-2
+unfolding calmBy
+returns-2 c = search (picks, so (c .before .before .equal .ensures) (c .before .if2 .taken))
+
+returns-3 : tie.Need-returns-3
+unfolding calmBy
+returns-3 c = search (picks, so (c .before .before .equal .ensures) (c .before .if2 .taken))
+
+returns-4 : tie.Need-returns-4
+unfolding calmBy
+returns-4 c = search (picks, so (c .before .equal .ensures) (c .if2 .left))
+
+pub calm-run-spec : {M : Type 1} → statement M
+calm-run-spec = tie.close (tie.spec equal-requires add-result returns returns-2 returns-3 returns-4)

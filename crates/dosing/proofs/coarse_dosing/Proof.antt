@@ -1,0 +1,15 @@
+use borrow.Author.Needs.{needs}
+use Rattle.dosing.proofs.coarse_dosing.Tie as tie
+use Rattle.dosing.proofs.coarse_dosing.Statement.{statement}
+
+outputs-requires : tie.Need-outputs-requires
+outputs-requires c κs = search needs
+
+to-requires : tie.Need-to-requires
+to-requires c κs = search needs
+
+returns : tie.Need-returns
+returns c = simp (c .to .ensures, c .before .outputs .ensures)
+
+pub coarse-dosing-spec : {M : Type 1} → statement M
+coarse-dosing-spec = tie.close (tie.spec outputs-requires to-requires returns)

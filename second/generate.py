@@ -1,0 +1,138 @@
+"""Makes input for `replay` and `hours` from a seed.
+
+python3 -m second.generate replay SEED [LINES]
+python3 -m second.generate journal SEED [KIND]
+python3 -m second.generate kinds
+"""
+
+import random
+import sys
+
+from second import box, calls, hopper, journals
+from second.replay import Replay
+
+
+class Maker:
+    """Runs the box beside the lines it makes, so that the weight follows
+    the gates."""
+
+    def __init__(self, seed):
+        self.rng = random.Random(seed)
+        self.replay = Replay()
+        self.out = []
+
+    def say(self, line):
+        self.out.append(line)
+        if len(line) < 4096:
+            return self.replay.answer(line)
+
+    @property
+    def box(self):
+        return self.replay.box
+
+    def chance(self, one_in):
+        return self.rng.randrange(one_in) == 0
+
+    def renew(self):
+        """New settings where they are taken, else a restart."""
+        rng = self.rng
+        s = calls.good_settings(rng)
+        if self.box.phase == box.READY and self.chance(2):
+            self.say(calls.set_line(s))
+        else:
+            self.say(calls.restart_line(s, *calls.counters(rng)))
+
+    def other(self):
+        """Any call but the tick."""
+        rng, pick = self.rng, self.rng.randrange(20)
+        if pick == 0:
+            self.say(calls.set_line(calls.bad_settings(rng)))
+        elif pick == 1:
+            self.say(calls.restart_line(calls.bad_settings(rng),
+                                        *calls.counters(rng)))
+        elif pick == 2:
+            self.say(calls.restart_line(calls.any_settings(rng),
+                                        *calls.bad_counters(rng)))
+        elif pick == 3:
+            self.say(b'C')
+        elif pick == 4:
+            self.say(b'Q')
+        elif pick == 5:
+            self.say(calls.line('L', rng.randint(0, 1)))
+        else:
+            self.say(rng.choice(calls.OTHER)(rng, self.box.s))
+
+    def zeroing(self):
+        """C0 and the weight before and after it."""
+        s = self.box.s
+        for code in (0xC3, 0xC0, 0xC3, 0xC2):
+            frame = calls.framed(calls.checked(bytes([s.address, code])))
+            self.say(calls.line('B', frame, self.rng.choice([64, 64, 64, 13, 5])))
+
+    def scene(self):
+        """One set of settings and some hundred ticks under it."""
+        rng = self.rng
+        self.renew()
+        self.hopper = hopper.for_settings(self.box.s, rng)
+        self.stuck = 0              # a mask of inputs that lie
+        self.starting = rng.choice([0, 8])
+        self.say(calls.line('L', rng.choice([0, 1, 1])))
+        left = rng.choice([50, 400, 1500]) if self.box.s.p9 < 63 else 6000
+        while left > 0:
+            self.mood()
+            self.tick()
+            if self.chance(25):
+                self.other()
+            if self.chance(150):
+                self.zeroing()
+            left -= 50 if self.box.phase == box.FAULT else 1
+
+    def mood(self):
+        """Quiet or shaking, start on or off, an input stuck."""
+        rng, s = self.rng, self.box.s
+        if self.chance(60):
+            self.hopper.shake = rng.choice([0] * 8 + [1, 2 * s.p8, 20 * s.p8])
+        if self.chance(120):
+            self.starting ^= 8
+        if self.chance(30 if self.stuck else 600):
+            self.stuck = rng.choice([0, 1, 2, 4, 6, 7])
+        if self.chance(300):
+            self.hopper.weight = rng.choice([0, s.D, s.C + 9, s.C + 10, -s.M,
+                                             s.M - 1, -20])
+
+    def tick(self):
+        rng, outputs = self.rng, self.box.outputs
+        sample = self.hopper.sample(outputs, rng)
+        inputs = hopper.matching_inputs(outputs, self.box.s) ^ self.stuck
+        inputs |= self.starting
+        if self.chance(400):
+            inputs = rng.choice([16, 255, rng.randrange(256)])
+        if self.chance(4000):
+            sample = rng.choice([900000, 900001, -900000, -900001, 2147483647])
+        self.say(calls.line('T', sample, inputs))
+
+    def make(self, lines):
+        while len(self.out) < lines:
+            self.scene()
+            yield from self.out[:lines]
+            lines -= len(self.out)
+            self.out = []
+
+
+def main(words):
+    write = sys.stdout.buffer.write
+    if words[:1] == ['kinds']:
+        write(''.join(kind + '\n' for kind in journals.KINDS).encode())
+    elif words[:1] == ['replay']:
+        lines = int(words[2]) if len(words) > 2 else 10000
+        for line in Maker(int(words[1])).make(lines):
+            write(line + b'\n')
+    elif words[:1] == ['journal']:
+        rng = random.Random(int(words[1]))
+        write(journals.make(rng, *words[2:3]))
+    else:
+        sys.exit(__doc__)
+
+
+if __name__ == '__main__':
+    main(sys.argv[1:])

@@ -1,0 +1,80 @@
+"""The hours of a journal, and the hour program.
+
+python3 -m second.hours < JOURNAL
+"""
+
+import struct
+import sys
+
+from second import journal
+from second.refusal import Refused
+
+
+def bits(number):
+    """An f64's bits in 16 hex digits."""
+    return struct.pack('>d', number).hex().upper()
+
+
+def of(lines):
+    """hour -> [amounts, has an H], for every hour first to last."""
+    if not lines:
+        return {}
+    hours = {h: [[], False] for h in range(lines[0][1], lines[-1][1] + 1)}
+    for line in lines:
+        if line[0] == 'D':
+            hours[line[1]][0].append(line[3])
+        else:
+            hours[line[1]][1] = True
+    return hours
+
+
+def kind(amounts, has_h):
+    """M: measured if it has a D, else I: idle; without an H it is X:
+    missing, whatever D lines it has."""
+    if not has_h:
+        return 'X'
+    return 'M' if amounts else 'I'
+
+
+def mean(amounts):
+    """One division of the sum by the number of doses."""
+    return float(sum(amounts)) / float(len(amounts))
+
+
+def one(data, hour):
+    """('M', sum, largest, mean), ('I',) or ('X',) for one hour."""
+    amounts, has_h = of(journal.read_all(data)).get(hour, ([], False))
+    answer = kind(amounts, has_h)
+    if answer != 'M':
+        return (answer,)
+    return 'M', float(sum(amounts)), float(max(amounts)), mean(amounts)
+
+
+def row(hour, amounts, has_h):
+    cells = [hour, kind(amounts, has_h)]
+    if cells[1] == 'M':
+        cells += [len(amounts), sum(amounts), bits(mean(amounts))]
+    return '\t'.join(map(str, cells)) + '\n'
+
+
+def text(data):
+    """What the hour program prints of a good journal."""
+    hours = of(journal.read_all(data))
+    return ''.join(row(h, *hours[h]) for h in sorted(hours)).encode()
+
+
+def printed(data):
+    """On a refusal one line only: R, number, line."""
+    try:
+        return text(data)
+    except Refused as refused:
+        return b'R\t%d\t%d\n' % (refused.number, refused.detail[0])
+
+
+def main():
+    data = sys.stdin.buffer.read(journal.LONGEST + 1)
+    sys.stdout.buffer.write(printed(data))
+
+
+if __name__ == '__main__':
+    main()

@@ -1,0 +1,190 @@
+"""Journals good and malformed, made from a random generator."""
+
+from second import journal
+
+
+def d(hour, count, amount, settled=1):
+    return b'D\t%d\t%d\t%d\t%d\n' % (hour, count, amount, settled)
+
+
+def h(hour):
+    return b'H\t%d\n' % hour
+
+
+def of_hours(rng, first, hours, doses):
+    """So many hours, each with some of the doses, most with an H."""
+    lines, count = [], rng.choice([0, 1, 999990])
+    for hour in range(first, first + hours):
+        for _ in range(rng.choice([0, rng.randint(0, doses)])):
+            amount = rng.choice([rng.randint(0, 999), rng.randint(0, 1800000)])
+            lines.append(d(hour, count, amount, rng.randint(0, 1)))
+            count = (count + 1) % 1000000
+        if rng.random() < 0.7:
+            lines.append(h(hour))
+    return lines
+
+
+def cut(lines, most=journal.LONGEST):
+    """As many whole lines as fit."""
+    text = b''
+    for line in lines:
+        if len(text) + len(line) > most:
+            break
+        text += line
+    return text
+
+
+def small(rng):
+    first = rng.choice([0, 10, 9999980, rng.randint(0, 9999000)])
+    return b''.join(of_hours(rng, first, rng.randint(1, 12), 4))
+
+
+def empty(rng):
+    return b''
+
+
+def one(rng):
+    return rng.choice([h(0), h(9999999), d(0, 0, 0, 0),
+                       d(9999999, 999999, 1800000)])
+
+
+def large(rng):
+    return cut(of_hours(rng, rng.randint(0, 9999000), 744, rng.choice([9, 18])))
+
+
+def month(rng):
+    """744 hours, the first and the last with a line."""
+    first = rng.randint(0, 9999256)
+    inner = cut(of_hours(rng, first + 1, 742, 3), 60000)
+    return h(first) + inner + h(first + 743)
+
+
+def dense(rng):
+    """Thousands of doses in one hour."""
+    hour = rng.randint(0, 99)
+    lines = [d(hour, n, rng.randint(0, 1800000)) for n in range(4000)]
+    return cut(lines, 65000) + h(hour)
+
+
+def exact(rng, size=journal.LONGEST):
+    """A good journal of exactly so many bytes, in one hour."""
+    hour = rng.randint(100, 999)
+    text, longest, left = b'', 23, size - len(h(hour))
+    while left > 3 * longest:
+        text += d(hour, rng.randint(0, 999999), rng.randint(0, 1800000))
+        left = size - len(h(hour)) - len(text)
+    for part in (left // 3, left // 3, left - 2 * (left // 3)):
+        digits = part - 10          # of count and amount together
+        count = min(6, digits - 1)
+        text += d(hour, 10 ** count - 1, 10 ** (digits - count - 1))
+    return text + h(hour)
+
+
+def over(rng):
+    """R13."""
+    return exact(rng, journal.LONGEST + 1)
+
+
+GOOD = {'small': small, 'empty': empty, 'one': one, 'large': large,
+        'month': month, 'dense': dense, 'exact': exact}
+
+# What is wrong with a line; %d is an hour that fits its place.
+BAD_LINES = {
+    'empty-line': ['\n'],
+    'two-tabs': ['D\t\t%d\t1\t2\t1\n', 'D\t%d\t1\t2\t\t1\n', 'H\t\t%d\n'],
+    'tab-at-end': ['D\t%d\t1\t2\t1\t\n', 'H\t%d\t\n'],
+    'tab-at-start': ['\tH\t%d\n', '\tD\t%d\t1\t2\t1\n'],
+    'cr': ['H\t%d\r\n', 'D\t%d\t1\t2\t1\r\n', '\rH\t%d\n'],
+    'space': ['H %d\n', 'H\t%d \n', 'D\t%d\t 1\t2\t1\n', ' H\t%d\n', ' \n'],
+    'nul': ['H\t%d\0\n', '\0H\t%d\n', 'D\t%d\t1\0\t2\t1\n', '\0\n'],
+    'sign': ['H\t+%d\n', 'H\t-%d\n', 'D\t%d\t+1\t2\t1\n', 'D\t%d\t1\t-2\t1\n',
+             'D\t%d\t1\t-0\t1\n', 'D\t%d\t1\t2\t+1\n'],
+    'leading-zero': ['H\t0%d\n', 'H\t00\n', 'D\t%d\t01\t2\t1\n',
+                     'D\t%d\t1\t02\t1\n', 'D\t%d\t1\t2\t01\n',
+                     'D\t%d\t00\t2\t1\n'],
+    'long-number': ['H\t' + '9' * 40 + '\n', 'H\t' + '0' * 40 + '\n',
+                    'D\t%d\t18446744073709551617\t2\t1\n',
+                    'D\t%d\t1\t4294967297\t1\n', 'D\t%d\t1\t2\t4294967297\n'],
+    'out-of-range': ['H\t10000000\n', 'D\t10000000\t1\t2\t1\n',
+                     'D\t%d\t1000000\t2\t1\n', 'D\t%d\t1\t1800001\t1\n',
+                     'D\t%d\t1\t2\t2\n'],
+    'no-number': ['H\t\n', 'D\t%d\t\t2\t1\n', 'D\t%d\t1\t\t1\n',
+                  'D\t%d\t1\t2\t\n', 'H\t%dx\n', 'H\tA\n', 'D\t%d\t1\t2.0\t1\n',
+                  'D\t%d\t0x1\t2\t1\n'],
+    'too-few': ['H\n', 'D\n', 'D\t%d\n', 'D\t%d\t1\n', 'D\t%d\t1\t2\n'],
+    'too-many': ['H\t%d\t1\n', 'D\t%d\t1\t2\t1\t0\n', 'H\t%d\t1\t2\t1\n'],
+    'other-letter': ['d\t%d\t1\t2\t1\n', 'h\t%d\n', 'X\t%d\n', 'HH\t%d\n',
+                     'DH\t%d\t1\t2\t1\n', '%d\n', '\t%d\n', '\xFF\t%d\n'],
+}
+
+
+def with_bad_line(kind):
+    def make(rng):
+        lines = of_hours(rng, rng.randint(0, 99), 5, 3)
+        at = rng.randint(0, len(lines))
+        bad = rng.choice(BAD_LINES[kind])
+        if '%' in bad:
+            bad = bad % rng.choice([200, 999])
+        rest = lines[at:] if rng.random() < 0.5 else []
+        return b''.join(lines[:at]) + bad.encode('latin-1') + b''.join(rest)
+    return make
+
+
+def no_lf(rng):
+    """A last line without LF."""
+    return rng.choice([small(rng), b'']) + rng.choice(
+        [b'H\t9999999', b'D\t9999999\t1\t2\t1', b'H', b'\t', b'x'])
+
+
+def order(rng):
+    """R11: an hour goes back."""
+    first = rng.randint(1, 99)
+    back = first - rng.choice([1, first])
+    return b''.join(of_hours(rng, first, 3, 2)) + d(first + 3, 1, 2) + rng.choice(
+        [h(back), d(back, 1, 2), h(first + 2), d(first + 2, 1, 2)])
+
+
+def after_h(rng):
+    """R11: the hour of an H comes again."""
+    first = rng.randint(0, 99)
+    return b''.join(of_hours(rng, first, 3, 2)) + h(first + 3) + rng.choice(
+        [h(first + 3), d(first + 3, 1, 2), h(first)])
+
+
+def span(rng):
+    """R12, or just not."""
+    first = rng.randint(0, 9999999 - 746)
+    return h(first) + h(first + 1) + rng.choice([h, lambda n: d(n, 1, 2)])(
+        first + rng.choice([743, 744, 745, 746]))
+
+
+def two(rng):
+    """Two refusals: the earlier line's is given, on one line R10, R11, R12."""
+    faults = [b'H\t00\n', h(5), h(10 + 744), d(10 + 745, 1, 2), b'\n',
+              d(4, 1000000, 2), d(800, 1, 1800001), h(9), h(10)]
+    return h(10) + h(11) + b''.join(rng.sample(faults, rng.randint(2, 5)))
+
+
+def one_byte(rng):
+    """A good journal with one byte changed, put in or left out."""
+    text = small(rng) or h(7)
+    at = rng.randrange(len(text))
+    byte = bytes([rng.choice([0, 9, 10, 13, 32, 48, 49, 57, 68, 72,
+                              rng.randrange(256)])])
+    return text[:at] + rng.choice([byte, byte + text[at:at + 1], b'']) + \
+        text[at + 1:]
+
+
+BAD = {'over': over, 'one-byte': one_byte, 'no-lf': no_lf, 'order': order, 'after-h': after_h,
+       'span': span, 'two': two}
+for _kind in BAD_LINES:
+    BAD[_kind] = with_bad_line(_kind)
+
+KINDS = dict(GOOD, **BAD)
+# Those that fit a line of `replay`.
+SHORT = [kind for kind in KINDS
+         if kind not in ('large', 'month', 'dense', 'exact', 'over')]
+
+
+def make(rng, kind=None):
+    return KINDS[kind or rng.choice(sorted(KINDS))](rng)

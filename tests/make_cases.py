@@ -1,0 +1,981 @@
+"""Writes the stored cases: python3 tests/make_cases.py
+
+A line that begins with # is a heading; `replay` answers it with ?.
+"""
+
+import os
+import random
+import sys
+
+ROOT = os.path.dirname(os.path.dirname(os.path.abspath(__file__)))
+CASES = os.path.join(ROOT, 'tests', 'cases')
+sys.path.insert(0, ROOT)
+
+from second import frames, generate, hopper, journals  # noqa: E402
+from second.calls import checked, framed, line  # noqa: E402
+from second.replay import Replay  # noqa: E402
+from second.settings import DEFAULT, Settings  # noqa: E402
+
+# The boundary table's set, inputs at level 1.
+AL1 = Settings(1, 1000, 500, 100, 20, 50, 4, 4, 1, 0, 0, 1, 1, 1, 1, 0, 0)
+AL0 = AL1._replace(algorithm=0)
+AL2 = AL1._replace(algorithm=2, M=700)
+AL3 = AL2._replace(algorithm=3)
+CODES = (0xC0, 0xC2, 0xC3, 0xC4, 0xC5)
+START = 8
+
+
+class Case:
+    """Lines, with the box run beside them so that ticks can follow it."""
+
+    def __init__(self, seed=1):
+        self.rng = random.Random(seed)
+        self.replay = Replay()
+        self.lines = []
+
+    @property
+    def box(self):
+        return self.replay.box
+
+    def raw(self, text):
+        self.lines.append(text)
+        if len(text) < 4096:
+            return self.replay.answer(text)
+        return '?'
+
+    def say(self, *cells):
+        return self.raw(line(*cells))
+
+    def head(self, text):
+        self.raw(b'# ' + text.encode())
+
+    def new(self, s, count=0, total=0):
+        return self.say('N', *s, count, total)
+
+    def settings(self, s):
+        return self.say('S', *s)
+
+    def tick(self, sample, start=0, lie=0):
+        """One tick with inputs that match, but for the channels of `lie`."""
+        inputs = hopper.matching_inputs(self.box.outputs, self.box.s) ^ lie
+        return self.say('T', sample, inputs | start)
+
+    def ticks(self, number, sample, start=0, lie=0):
+        for _ in range(number):
+            self.tick(sample, start, lie)
+
+    def ask(self, *codes, room=12):
+        for code in codes:
+            frame = framed(checked(bytes([self.box.s.address, code])))
+            self.say('B', frame, room)
+
+    def run(self, tank, start=START, most=1500):
+        """Ticks of a hopper until a dose completes."""
+        for _ in range(most):
+            answer = self.tick(tank.sample(self.box.outputs, self.rng), start)
+            if answer.startswith('D'):
+                return
+
+    def save(self, name):
+        write(name, b''.join(text + b'\n' for text in self.lines))
+
+
+def write(name, data):
+    with open(os.path.join(CASES, name), 'wb') as file:
+        file.write(data)
+
+
+def tank(s, weight=0, shake=0, delay=1):
+    """Doses of 500 in some twenty ticks."""
+    fills = 3 if s.algorithm < 2 else 4
+    made = hopper.Hopper(fills, 40, 7, 90, delay, weight)
+    made.shake = shake
+    return made
+
+
+# Settings, restart, counters.
+
+def settings_case():
+    case = Case()
+    case.head('fresh: counters, inputs, outputs, weight')
+    case.say('Q')
+    case.ask(*CODES)
+    case.head('each setting at and beside its least and greatest value')
+    for base in (AL0, AL1, AL2, AL3):
+        for row in range(17):
+            for number in (0, 1, 2, 3, 4, 5, 19, 20, 21, 49, 63, 64, 99, 100,
+                           101, 127, 128, 129, 250, 251, 499, 500, 501, 699,
+                           1000, 1001, 99999, 100000, 16777215, 16777216,
+                           4294967295):
+                if base is AL1 or row in (0, 1, 2, 5):
+                    values = list(base)
+                    values[row] = number
+                    case.settings(Settings(*values))
+    case.head('no M is good with C under 4 in AL0 and AL1')
+    for algorithm in (0, 1, 2):
+        for C in (3, 4):
+            for M in (0, 1, 2):
+                case.settings(DEFAULT._replace(algorithm=algorithm, C=C, D=1,
+                                               M=M))
+    case.head('two bad ones: the first is named')
+    case.settings(AL1._replace(D=0, p9=0))
+    case.settings(AL1._replace(p7=3, p8=2))
+    case.settings(AL1._replace(in2=2, point=4))
+    case.settings(Settings(*[4294967295] * 17))
+    case.settings(Settings(*[0] * 17))
+
+    case.head('a set keeps link start, counters, inputs, output 4; not Z')
+    case.new(AL1, 7, 700)
+    case.ticks(5, 30)
+    case.ask(0xC0, 0xC3)
+    case.ticks(5, 1040)
+    case.say('T', 1040, 5)
+    case.say('L', 1)
+    case.settings(AL1._replace(point=2))
+    case.say('Q')
+    case.ask(*CODES)
+    case.tick(30)
+    case.ask(0xC3, 0xC4, 0xC5)
+    case.head('a set puts Z to 0')
+    case.new(AL1)
+    case.ticks(5, 30)
+    case.ask(0xC0, 0xC3)
+    case.settings(AL1)
+    case.tick(33)
+    case.ask(0xC3)
+    case.head('R3 before R2, and for the counter reset')
+    case.say('L', 1)
+    case.tick(0)
+    case.ticks(4, 300)
+    case.settings(AL1)
+    case.settings(AL1._replace(D=0))
+    case.say('C')
+    case.say('Q')
+    case.head('a restart from any phase; it clears link start')
+    case.new(AL1._replace(D=0), 1, 1)
+    case.say('Q')
+    case.tick(481)
+    case.new(AL1, 12, 34)
+    case.say('Q')
+    case.ask(*CODES)
+    case.ticks(3, 0)
+    case.say('C')
+    case.say('Q')
+    case.head('R2 before R15; R15 at its bounds')
+    case.new(AL1._replace(C=0), 1000000, 0)
+    case.new(AL1, 1000000, 0)
+    case.new(AL1, 0, 1000000000)
+    case.new(AL1, 4294967295, 4294967295)
+    case.say('Q')
+    case.new(AL1, 999999, 999999999)
+    case.say('Q')
+    case.head('a refused restart leaves the old controller')
+    case.tick(0, START)
+    case.tick(300, START)
+    case.new(AL1, 1000000, 1)
+    case.tick(300, START)
+    case.ask(*CODES)
+    case.save('settings.replay')
+
+
+# The algorithms.
+
+def al0_case():
+    case = Case(10)
+    case.head('boundary table: coarse at 399, fine at 400 and 479, shut at 480')
+    case.new(AL0)
+    for sample in (0, 399, 400, 479, 480):
+        case.ticks(5, sample, START)
+    case.head('hold until start goes off')
+    case.ticks(3, 200, START)
+    case.settings(AL0)
+    case.tick(200)
+    case.head('start off in the coarse stage, the fine stage, and with Wf reached')
+    for sample in (100, 420, 2000):
+        case.ticks(5, 0)
+        case.tick(0, START)
+        case.ticks(3, min(sample, 420), START)
+        case.tick(sample)
+        case.tick(-sample, START)
+        case.tick(0)
+    case.head('start again on the next tick after Ready')
+    case.tick(490, START)
+    case.tick(490, START)
+    case.tick(490)
+    case.tick(490, START)
+    case.head('AL0 does not look at inputs 1 to 3')
+    for inputs in range(16):
+        case.ticks(5, 0)
+        for _ in range(5):
+            case.say('T', 0, inputs)
+    case.head('both gates at once; zeroing on start; link start')
+    case.new(AL0._replace(o=1, p7=5, p8=9))
+    case.ticks(10, -49)
+    case.say('L', 1)
+    for sample in range(-49, 500, 9):
+        case.tick(sample)
+    case.say('L', 0)
+    case.ticks(2, 500)
+    case.head('w drops under Wc in the fine stage: coarse stays shut')
+    case.new(AL0)
+    for sample in (0, 450, 300, 500):
+        case.ticks(5, sample, START)
+    case.say('Q')
+    case.head('the alarm: C+9 and C+10, after zeroing')
+    case.new(AL0)
+    for sample in (1009, 1010, 1009):
+        case.ticks(5, sample)
+    case.ticks(5, -10)
+    case.ask(0xC0)
+    case.ticks(5, 999)
+    case.ticks(5, 1000)
+    case.ask(0xC3, 0xC2, 0xC5)
+    case.save('al0.replay')
+
+
+def to_settle(case, s, last=480, start=START):
+    """Settle is entered by shutting gate 2 with F at `last`."""
+    case.new(s)
+    case.tick(0, start)
+    case.ticks(8, last - 1, start)
+    case.tick(last + 1, start)
+
+
+def al1_case():
+    case = Case(20)
+    case.head('boundary table: coarse at 399, fine at 400 and 479, shut at 480')
+    case.new(AL1)
+    for sample in (0, 399, 400, 479):
+        case.ticks(5, sample, START)
+    case.tick(481, START)
+    case.head('F constant: output 3 opens on tick 64; not under M at 50')
+    case.ticks(66, 480)
+    case.ticks(6, 50)
+    case.ticks(3, 49)
+    case.say('Q')
+    case.head('F changing every tick: on tick 256')
+    to_settle(case, AL1)
+    for tick in range(1, 258):
+        case.tick(481 + tick)
+    case.ticks(6, 0)
+    case.head('stable on the last tick itself: settled 1')
+    to_settle(case, AL1)
+    for tick in range(1, 189):
+        case.tick(481 + tick)
+    case.ticks(70, 672)
+    case.ticks(6, 0)
+    case.head('stable one tick too late: settled 0')
+    to_settle(case, AL1)
+    for tick in range(1, 191):
+        case.tick(481 + tick)
+    case.ticks(70, 672)
+    case.ticks(6, 0)
+    case.head('p9 2: 128 ticks of calm')
+    to_settle(case, AL1._replace(p9=2))
+    case.ticks(130, 480)
+    case.ticks(6, 0)
+
+    case.head('doses of a hopper, p11 0 and 1, start held on')
+    for p11 in (0, 1):
+        s = AL1._replace(p11=p11, o=p11, p7=4, p8=10, point=p11)
+        case.new(s, 999998, 999999000)
+        hold = tank(s, 12)
+        for _ in range(2):
+            case.run(hold)
+            case.ask(0xC2, 0xC3, 0xC5)
+            case.say('Q')
+    case.head('p7 while output 1 is open, p8 else')
+    s = AL1._replace(p7=4, p8=128)
+    case.new(s)
+    hold = tank(s)
+    for _ in range(60):
+        case.tick(hold.sample(case.box.outputs, case.rng), START)
+        if case.rng.random() < 0.2:
+            case.ask(0xC2, 0xC3)
+    case.head('shaking: an unsettled dose')
+    case.new(AL1)
+    hold = tank(AL1, 0, 40)
+    case.run(hold)
+    case.head('the link start; cleared in the fill it changes nothing')
+    case.new(AL1)
+    case.say('L', 1)
+    hold = tank(AL1)
+    for _ in range(5):
+        case.tick(hold.sample(case.box.outputs, case.rng))
+    case.say('L', 0)
+    case.run(hold, 0)
+    case.ticks(3, 0)
+
+    case.head('w drops under Wc in the fine stage: coarse stays shut')
+    case.new(AL1)
+    for sample in (0, 450, 300, 100, 500):
+        case.ticks(5, sample, START)
+    case.head('F at M, -M: no zeroing; M-1, 1-M: zeroing')
+    for sample in (50, -50, 49, -49):
+        case.new(AL1)
+        case.ticks(3, sample)
+        case.tick(sample, START)
+        case.ask(0xC3)
+        case.ticks(5, 480 + sample)
+        case.ticks(5, 479 + sample)
+    case.head('the zeroing test is on F, not on w')
+    case.new(AL1)
+    case.ticks(5, 40)
+    case.ask(0xC0)
+    case.ticks(5, 70)
+    case.tick(70, START)
+    case.ask(0xC3)
+    case.ticks(70, 560)
+    case.ticks(6, 60)
+    case.head('Settle without a gate: it may end on its tick 1')
+    case.new(AL1._replace(M=250))
+    case.ticks(80, 600)
+    case.tick(600, START)
+    case.ticks(2, 600)
+    case.ticks(6, 249)
+    case.head('the same, not yet stable')
+    case.new(AL1._replace(M=250))
+    case.ticks(60, 600)
+    case.tick(600, START)
+    case.ticks(6, 600)
+    case.head('Wf 0: a start ends at once in Settle')
+    case.new(AL1._replace(Pc=500, Pf=500))
+    case.tick(0, START)
+    case.ticks(66, 0)
+    case.head('amounts below 0: p11 1 with w0 above wS, p11 0 with wE above wS')
+    case.new(AL1._replace(p11=1, M=250, Pc=500, Pf=500), 3, 100)
+    case.ticks(5, 300)
+    case.tick(300, START)
+    case.ticks(70, 200)
+    case.say('Q')
+    case.new(AL1._replace(Pc=500, Pf=500), 3, 100)
+    case.tick(0, START)
+    case.ticks(68, -20)
+    case.ticks(2, 10)
+    case.say('Q')
+    case.head('w0 and wE differ')
+    for p11 in (0, 1):
+        case.new(AL1._replace(p11=p11))
+        case.tick(-49, START)
+        case.ticks(75, 440)
+        case.ticks(6, -30)
+    case.head('count and total wrap')
+    for total in (999999999, 999999500, 999999519, 999999520, 999999521):
+        case.new(AL1, 999999, total)
+        case.tick(0, START)
+        case.ticks(70, 480)
+        case.ticks(6, 0)
+        case.say('Q')
+    case.head('means about a half, either sign; R1 between changes nothing')
+    case.new(AL1)
+    for sample in (1, 2, -1, -2, 0, -1, -2, -2, -3, 5, 8, 5, 8, 7, 7, 900000,
+                   -900000, 900000, 900000, 900000, 900000, -900000):
+        case.say('T', sample, 16)
+        case.tick(sample)
+        case.ask(0xC3)
+    case.say('T', 900001, 255)
+    case.save('al1.replay')
+
+
+def al2_case():
+    case = Case(30)
+    case.head('under D it loads without start; at M shut; calm; Ready')
+    case.new(AL2)
+    case.tick(499)
+    case.ticks(5, 699)
+    case.ticks(5, 700)
+    case.ticks(64, 700)
+    case.head('at D a start doses on the same tick: 1 and 2 open')
+    case.ticks(3, 700)
+    case.tick(700, START)
+    case.head('coarse to 399, fine from 400 to 479, shut at 480')
+    case.ticks(5, 301)
+    case.ticks(5, 300)
+    case.ticks(5, 221)
+    case.ticks(5, 220)
+    case.ticks(66, 220)
+    case.say('Q')
+    case.head('start on while it loads is not kept')
+    case.tick(220, START)
+    case.ticks(6, 700, START)
+    case.ticks(70, 700)
+    case.ask(0xC0, 0xC3, 0xC5)
+    case.settings(AL2)
+    case.head('w = D doses, D-1 loads')
+    for sample in (500, 499):
+        case.new(AL2)
+        case.tick(sample, START)
+        case.tick(sample)
+    case.head('start off in the dose changes nothing; coarse stays shut')
+    case.new(AL2._replace(o=1))
+    case.tick(900, START)
+    for sample in (450, 600, 800, 400):
+        case.ticks(5, sample)
+    case.head('weight rising: amount below 0 counts as 0')
+    case.new(AL2._replace(Pc=500, Pf=500), 999999, 999999999)
+    case.tick(600, START)
+    case.ticks(69, 700)
+    case.say('Q')
+    case.head('Wf 0 and long calm: ends on tick 1')
+    case.new(AL2._replace(Pc=500, Pf=500))
+    case.ticks(70, 600)
+    case.tick(600, START)
+    case.tick(600)
+    case.tick(600)
+    case.head('doses of a hopper, calm and shaking; wrap')
+    case.new(AL2, 999998, 999999200)
+    hold = tank(AL2)
+    for shake in (0, 0, 30):
+        hold.shake = shake
+        case.run(hold)
+        case.say('Q')
+        case.ask(0xC2, 0xC3, 0xC4, 0xC5)
+    case.head('calm of the load ends on its last tick, 256')
+    case.new(AL2)
+    case.tick(0)
+    for tick in range(262):
+        case.tick(700 + tick)
+    case.ticks(2, 962)
+    case.tick(962, START)
+    case.save('al2.replay')
+
+
+def al3_case():
+    case = Case(40)
+    case.head('nothing without start; input 4 does nothing')
+    case.new(AL3)
+    case.ticks(5, 100)
+    case.ticks(5, 100, START)
+    case.ticks(5, 800, START)
+    case.head('the link start loads, then doses')
+    case.say('L', 1)
+    hold = tank(AL3)
+    case.ticks(4, 0)
+    case.run(hold, 0)
+    case.say('Q')
+    case.head('cleared after the load: Ready waits')
+    case.new(AL3)
+    case.say('L', 1)
+    case.tick(0)
+    case.say('L', 0)
+    case.ticks(6, 700)
+    case.ticks(70, 700)
+    case.ticks(3, 700, START)
+    case.say('L', 1)
+    case.tick(700)
+    case.ask(0xC0, 0xC5)
+    case.ticks(80, 210)
+    case.say('L', 0)
+    case.ticks(3, 210)
+    case.ask(0xC0)
+    case.head('shaking: an unsettled dose')
+    case.new(AL3)
+    case.say('L', 1)
+    hold = tank(AL3, 800, 30)
+    case.run(hold, 0)
+    case.say('Q')
+    case.save('al3.replay')
+
+
+# Faults.
+
+def in_fault(case):
+    """What a fault answers and refuses."""
+    case.say('T', 0, 9)
+    case.say('T', 0, 16)
+    case.say('T', 2147483647, 0)
+    case.ask(*CODES)
+    case.settings(AL1)
+    case.settings(AL1._replace(D=0))
+    case.say('C')
+    case.say('Q')
+    case.say('L', 0)
+
+
+def faults_case():
+    case = Case(50)
+    case.head('63 mismatches go on, 64 are F14; each channel, either level')
+    for level in (1, 0):
+        for channel in (1, 2, 4):
+            case.new(AL1._replace(in1=level, in2=level, in3=level))
+            case.ticks(63, 0, 0, channel)
+            case.tick(0)
+            case.ticks(64, 0, 0, channel)
+            in_fault(case)
+    case.head('two channels at once: the lowest is named')
+    case.new(AL2)
+    case.ticks(64, 600, 0, 6)
+    in_fault(case)
+    case.head('a higher channel that began earlier')
+    case.new(AL3)
+    case.ticks(5, 600, 0, 4)
+    case.ticks(59, 600, 0, 7)
+    case.tick(600)
+    case.head('AL0 looks at no input')
+    case.new(AL0)
+    case.ticks(66, 0, 0, 7)
+    case.head('a run goes on over line requests, reset and link start')
+    case.new(AL1)
+    case.ticks(60, 0, 0, 2)
+    case.ask(*CODES)
+    case.say('C')
+    case.say('L', 0)
+    case.say('T', 0, 99)
+    case.settings(AL1._replace(D=0))
+    case.ticks(4, 0, 0, 2)
+    case.head('new settings clear the runs')
+    case.new(AL1)
+    case.ticks(60, 0, 0, 2)
+    case.settings(AL1)
+    case.ticks(63, 0, 0, 2)
+    case.tick(0)
+    case.head('F14 with gates open; S stays and stable is told')
+    case.new(AL1)
+    case.tick(0, START)
+    case.ticks(40, 300, START)
+    case.ticks(66, 300, START, 1)
+    case.ask(0xC3, 0xC5)
+    case.head('F14 on the tick that would complete a dose')
+    case.new(AL1, 5, 55)
+    case.tick(0, START)
+    case.ticks(5, 480)
+    case.ticks(3, 480)
+    case.ticks(61, 480, 0, 2)
+    case.ticks(2, 480, 0, 2)
+    case.tick(-900000, 0, 2)
+    case.say('Q')
+    case.ask(0xC3, 0xC5)
+    case.head('F21: the sample is not kept, the inputs are')
+    for sample in (900000, 900001, -900000, -900001, 2147483647, -2147483648):
+        case.new(AL1._replace(M=250))
+        case.ticks(3, 20)
+        case.say('T', sample, 5)
+        in_fault(case)
+    case.head('F21 on the first tick: no sample held')
+    case.new(AL2._replace(point=3))
+    case.say('T', 900001, 7)
+    in_fault(case)
+    case.head('F21 with gates open and calm; the link start outlives the fault')
+    case.new(AL1)
+    case.say('L', 1)
+    case.tick(0)
+    case.ticks(70, 300)
+    case.say('T', -900001, 1)
+    case.ask(*CODES)
+    case.say('L', 1)
+    case.head('a restart clears the fault and the link start')
+    case.new(AL1, 1, 2)
+    case.ticks(3, 0)
+    case.ask(*CODES)
+    case.say('Q')
+    case.save('faults.replay')
+
+
+# The line.
+
+def line_case():
+    case = Case(60)
+    s = AL1._replace(address=5, serial=0xFFFE01, point=3, M=250)
+    serial = s.serial.to_bytes(3, 'little')
+    case.new(s)
+    case.ticks(5, -17)
+
+    def body(data, room=20):
+        case.say('B', framed(checked(data)), room)
+
+    case.head('both address forms')
+    for code in CODES:
+        body(bytes([5, code]))
+        body(b'\0' + serial + bytes([code]))
+    case.head('R5: not ours')
+    body(b'\x04\xC3')
+    body(b'\x7F\xC3')
+    body(b'\0\x01\xFE\xFE\xC3')
+    body(b'\0\xFF\xFE\x01\xC3')
+    body(b'\0\x05\0\0\xC3')
+    case.head('R7: another code, or data')
+    for code in (0x00, 0xBF, 0xC1, 0xC6, 0xCA, 0xFF, 0xFE):
+        body(bytes([5, code]))
+    body(b'\x05\xC3\x00')
+    body(b'\x05\xC0\xFF')
+    body(b'\0' + serial + b'\xC3\x01')
+    body(b'\x05' + b'\xFF' * 253)
+    case.head('R6: too short, or check not 0')
+    for whole in (b'\x05', b'\x05\xC3', checked(b'\x05'), b'\x05\xC3\x00',
+                  b'\0' + serial + b'\xC3', checked(b'\0' + serial),
+                  b'\x00', b'\0\0\0', b'\0\0\0\0\0', b'\0\0\0\0\0\0', b'\x01\0\0'):
+        case.say('B', framed(whole), 64)
+    case.head('order: R6, R5, R7, R3, R4, R8')
+    case.say('B', framed(b'\x04\xC1\x00'), 0)
+    body(b'\x04\xC1', 0)
+    body(b'\x05\xC1', 0)
+    body(b'\x05\xC3', 0)
+    case.head('room that fits and one byte less')
+    for code in CODES:
+        for room in (0, 1, 5, 6, 7, 8, 9, 10, 11, 12, 13, 14, 15):
+            body(bytes([5, code]), room)
+            body(b'\0' + serial + bytes([code]), room)
+
+    case.head('C0: Z becomes F by p8; refused with R8 it does not zero')
+    s = s._replace(p7=4, p8=16)
+    case.new(s)
+    for sample in (100, 0, 0, 0, 20, 20, 20, 21):
+        case.tick(sample)
+    case.ask(0xC2, 0xC3)
+    case.ask(0xC0, room=5)
+    case.ask(0xC2, 0xC3)
+    case.ask(0xC0, room=6)
+    case.ask(0xC2, 0xC3)
+    case.tick(21)
+    case.ask(0xC2, 0xC3)
+    case.head('C0: R4 at M and -M, not within')
+    for sample in (250, -250, 249, -249, 899999):
+        case.new(s)
+        case.ask(0xC0)
+        case.tick(sample)
+        case.ask(0xC0, 0xC3)
+        case.ask(0xC0, room=0)
+    case.head('C0 twice: the test is on F')
+    case.new(s)
+    case.tick(200)
+    case.ask(0xC0)
+    case.ticks(40, -100)
+    case.ask(0xC3, 0xC0, 0xC3)
+    case.head('C0: R3 outside Ready in every algorithm, R4 in AL2 and AL3')
+    for base in (AL0, AL1, AL2, AL3):
+        case.new(base)
+        case.tick(600)
+        case.ask(0xC0)
+        case.new(base)
+        case.tick(0)
+        case.ask(0xC0)
+        case.say('L', 1)
+        case.tick(0)
+        case.ask(0xC0)
+        case.ask(0xC0, room=0)
+        case.ask(0xC5)
+    case.head('CON: stable, over, sign; p7 and p8 differ')
+    case.new(AL1._replace(p7=4, p8=128, point=1))
+    case.ticks(64, 1009)
+    case.ask(0xC2, 0xC3)
+    case.ticks(2, 1009)
+    case.ask(0xC2, 0xC3)
+    case.ticks(4, 1010)
+    case.ask(0xC2, 0xC3)
+    case.ticks(10, -5)
+    case.ask(0xC2, 0xC3)
+    case.ticks(140, -5)
+    case.ask(0xC2, 0xC3)
+    case.ticks(4, 0)
+    case.ask(0xC2, 0xC3)
+    case.head('a weight beyond a sample: Z is taken from it')
+    case.new(AL1._replace(C=99999, M=24999))
+    case.ticks(4, -24998)
+    case.ask(0xC0)
+    case.ticks(4, 900000)
+    case.ask(0xC2, 0xC3)
+    case.head('the first finished body is judged; what follows is not')
+    good = framed(checked(b'\x01\xC3'))
+    zero = framed(checked(b'\x01\xC4'))
+    for data in (good + zero, zero + good, good[:-1] + zero, good[:-2] + zero,
+                 framed(b'\x01\x02\x03') + good, framed(b'\x01') + good,
+                 b'\xFF' * 5 + good, b'\x01\xC3' + good, good[1:], good[:-1],
+                 b'\xFF\xFE\xFE' + good[1:], b'\xFE' + good, b'', b'\xFF'):
+        case.say('B', data, 64)
+    case.save('line.replay')
+
+
+def frames_case():
+    case = Case(70)
+    case.head('the writer: check bytes of the table')
+    for given in (b'\x01\xC3', b'\x01\xC2', b'\x01\xC0', b'\x01'):
+        case.say('W', given, 20)
+    case.head('R14 before R8')
+    for given in (b'', b'\x01', b'\xFF', b'\xFF\xC3', b'\xFE\xC3', b'\0',
+                  b'\0\x01\x02\x03', b'\0\x01\x02\x03\x04', b'\xFD\xC3'):
+        case.say('W', given, 12)
+        case.say('W', given, 0)
+    case.head('stuffing, also of the check byte; room that fits and one less')
+    ff = [bytes([1, code]) for code in range(256)
+          if frames.check_byte(bytes([1, code])) == 0xFF]
+    for given in ff + [b'\x01\xFF', b'\x01\xFE', b'\x01\xFF\xFE', b'\x01\xFF\xFF',
+                       b'\0\xFF\xFF\xFF\xC3', b'\0\xFE\xFF\xFE\xFF\xFF']:
+        fits = len(framed(checked(given)))
+        for room in (fits - 1, fits, fits + 2, 600):
+            case.say('W', given, room)
+        case.say('X', framed(checked(given)))
+    case.head('253 to 255 bytes, plain and all FF')
+    for length in (253, 254, 255):
+        for fill in (b'\x07', b'\xFF'):
+            given = b'\x02' + fill * (length - 1)
+            fits = len(framed(checked(given)))
+            for room in (min(600, fits), fits - 1):
+                case.say('W', given, room)
+            case.say('X', framed(checked(given)))
+    case.head('a body that is zero throughout has check 0')
+    for length in (2, 4, 5, 6):
+        case.say('W', b'\0' * length, 20)
+        case.say('X', framed(b'\0' * (length + 1)))
+
+    case.head('the reader: places of R9')
+    for text in ('', '01', 'FF', 'FFFF', '01FF', '01FF02', 'FF01', 'FF01FF',
+                 'FFFFFF', 'FFFE', 'FFFFFE', 'FEFF', 'FFFEFF', 'FFFE01',
+                 'FF01FE', 'FF01FFFE', 'FF01FF02', 'FF01FF02FF', 'FF01FF02FF03',
+                 'FFFFFE0102', '0102FFFE', '0102', 'FE', 'FF00', 'FF01FFFEFF'):
+        case.say('X', bytes.fromhex(text))
+    case.head('finished: R6 and good, with bytes after')
+    for text in ('FF01C3E3FFFF', 'FF01C3E4FFFF', 'FF01FFFF', 'FF0169FFFF',
+                 'FF01C3E3FFFFFF', 'FFFF01C3E3FFFF01C2', '05FFFE01C3E3FFFF',
+                 'FF01FF01C3E3FFFF', 'FF07FF08FF01C3E3FFFF', 'FF000000FFFF',
+                 'FF0000000000FFFF', 'FF000000000000FFFF', 'FF01C3E3FFFEFFFF',
+                 'FF01C3FFE3FFFF', 'FF01FEFFFF', 'FF01FFFEFEFFFF'):
+        case.say('X', bytes.fromhex(text))
+    case.head('over-long bodies')
+    good = framed(checked(b'\x01\xC3'))
+    for length in (254, 255, 256, 257):
+        for fill in (b'\x07', b'\xFE'):
+            whole = checked(b'\x03' + fill * (length - 2))
+            case.say('X', framed(whole))
+            case.say('X', framed(whole) + good)
+            case.say('X', framed(whole)[:-2] + good)
+            case.say('X', framed(whole)[:-1])
+            case.say('X', framed(whole)[:-2])
+    case.head('FF about the 256th byte')
+    for inner in (253, 254, 255):
+        for tail in ('', 'FF', 'FFFE', 'FFFEFF', 'FFFF', 'FF02', 'FF02C3',
+                     'FFFE01C3', 'FFFEFF01C3E3FFFF', 'FF01C3E3FFFF',
+                     'FFFE01C3E3FFFF', 'FFFEFFFE01C3E3FFFF', 'FFFEFFFF'):
+            case.say('X', b'\xFF\x03' + b'\x07' * (inner - 1) +
+                     bytes.fromhex(tail))
+    case.save('frames.replay')
+
+
+def fields_case():
+    case = Case(80)
+    case.head('the writer')
+    for weight in (0, 5, -5, 12, 345, -6789, 123456, 999999, -999999, 1000000,
+                   -1000000, 2147483647, -2147483648):
+        for flags in ((0, 0), (1, 0), (0, 1), (1, 1)):
+            for point in (0, 1, 3, 7, 8, 255):
+                if flags == (1, 0) or point == 1:
+                    case.say('G', weight, *flags, point)
+    case.head('the reader')
+    for text in ('05000091', '00000080', '00000000', '000000FF', '56341291',
+                 '99999919', '0A000000', 'A0000000', '000A0000', '00A00000',
+                 '00000A00', '0000A000', 'FFFFFFFF', '01000060', '01000068',
+                 '010000E7', '9A000000', '09000000', '90000008'):
+        case.say('K', bytes.fromhex(text))
+    case.save('fields.replay')
+
+
+# The journal.
+
+def journal_case():
+    case = Case(90)
+    case.head('writers: values at their bounds, R10 before R8')
+    for values in ((0, 0, 0, 0), (9999999, 999999, 1800000, 1),
+                   (10000000, 0, 0, 0), (0, 1000000, 0, 0), (0, 0, 1800001, 0),
+                   (0, 0, 0, 2), (4294967295,) * 4, (10, 1, 500, 1)):
+        length = 4 + sum(len(str(value)) + 1 for value in values) - 2
+        for room in (length, length - 1, 0, 64):
+            case.say('D', *values, min(room, 64))
+    for hour in (0, 9, 10, 9999999, 10000000, 4294967295):
+        length = 3 + len(str(hour))
+        for room in (length, length - 1, 0, 64):
+            case.say('H', hour, room)
+    case.head('reader of one line')
+    for text in ('H\t0\n', 'H\t9999999\n', 'D\t0\t0\t0\t0\n',
+                 'D\t9999999\t999999\t1800000\t1\n', '', '\n', 'H\t5',
+                 'H\t5\n\n', 'H\t5\nH\t6\n', '\nH\t5\n', 'H\t5\n ', 'D\n\t1\t2\t3\t1\n'):
+        case.say('l', text.encode())
+    for kind in sorted(journals.BAD_LINES):
+        for text in journals.BAD_LINES[kind]:
+            text = text % 200 if '%' in text else text
+            case.say('l', text.encode('latin-1'))
+    case.head('every malformed line in a journal: at its start, middle, end')
+    for kind in sorted(journals.BAD_LINES):
+        for text in journals.BAD_LINES[kind]:
+            bad = (text % 20 if '%' in text else text).encode('latin-1')
+            case.say('j', bad, 4)
+            case.say('j', journals.h(10) + bad + journals.h(30), 4)
+            case.say('j', journals.h(10) + journals.h(11) + bad, 0)
+    case.head('a last line without LF')
+    for text in (b'H\t5', b'H\t5\nH\t6', b'H', b'\t', b'H\t5\nD\t6\t1\t2\t1'):
+        case.say('j', text, 2)
+
+    example = read('mill.journal')
+    case.head('the example: its text, room that fits and one less; its hours')
+    for room in (0, 47, 48, 49, 50, 60, 2000):
+        case.say('j', example, room)
+    for hour in (0, 9, 10, 11, 12, 13, 14, 4294967295):
+        case.say('u', example, hour)
+    case.head('an empty journal')
+    case.say('j', b'', 0)
+    case.say('j', b'', 3)
+    case.say('u', b'', 0)
+    case.head('order: R11')
+    h, d = journals.h, journals.d
+    for text in (h(5) + h(5), h(5) + h(4), h(5) + d(5, 1, 2), h(5) + d(4, 1, 2),
+                 d(5, 1, 2) + d(5, 2, 2) + h(5) + h(6), d(5, 1, 2) + d(4, 2, 2),
+                 d(5, 1, 2) + h(4), d(5, 1, 2) + h(5) + d(6, 2, 2),
+                 d(5, 1, 2) + h(7) + h(7), h(0) + d(0, 0, 0),
+                 h(9999999) + h(9999999)):
+        case.say('j', text, 200)
+        case.say('u', text, 5)
+    case.head('span: R12 from 744 on')
+    for far in (743, 744, 745, 1000, 9999989):
+        case.say('u', h(10) + h(10 + far), 10 + far)
+        case.say('u', d(10, 1, 2) + d(10 + far, 2, 7), 10)
+        case.say('j', h(9) + h(10) + d(10 + far - 1, 2, 7), 7)
+    case.head('the earlier line wins; on one line R10, R11, R12')
+    for text in (h(10) + h(9) + b'x\n', h(10) + b'x\n' + h(9),
+                 h(10) + h(800) + b'x\n', h(10) + b'x\n' + h(800),
+                 h(10) + h(800) + h(9), h(10) + h(9) + h(800),
+                 h(10) + d(9, 1, 1800001), h(10) + b'H\t0900\n',
+                 h(10) + h(753) + h(754), h(10) + h(753) + h(752)):
+        case.say('j', text, 1)
+    case.head('means: halves, thirds, sevenths, large and small; largest, sum')
+    rng = case.rng
+    for number in (1, 2, 3, 7, 9, 11, 60):
+        for top in (1, 1000, 1800000):
+            amounts = [rng.randint(0, top) for _ in range(number)]
+            text = b''.join(d(7, n, amount) for n, amount in enumerate(amounts))
+            case.say('u', text + h(7), 7)
+            case.say('j', text + h(7) + h(9), 90)
+    case.save('journal.replay')
+
+
+def long_settle_case():
+    case = Case(110)
+    case.head('p9 63: stable after 4,032 ticks of calm')
+    to_settle(case, AL1._replace(p9=63))
+    case.ticks(4031, 480)
+    case.ask(0xC3)
+    case.tick(480)
+    case.ask(0xC3)
+    case.ticks(5, 0)
+    case.save('long-settle.replay')
+
+
+# Lines that are no call.
+
+def malformed_case():
+    case = Case(100)
+    case.head('letters and numbers of fields')
+    for text in ('', '\t', 'T', 't\t0\t0', 'Z', 'T\t0', 'T\t0\t0\t0', 'T\t\t0\t0',
+                 '\tT\t0\t0', 'T\t0\t0\t', 'TT\t0\t0', 'C\t', 'C\t0', 'CC', 'c',
+                 'Q\t', 'Q\t0', 'q', 'QC', 'L', 'L\t', 'L\t0\t0', 'l', 'u\t',
+                 'u\t\t0\t0', 'j\t', 'X', 'X\t\t', 'K', 'K\t', 'B\t', 'W\t',
+                 'G\t0\t0\t0', 'D\t0\t0\t0\t0', 'H\t0', 'h\t0\t9', 'U\t\t0',
+                 'J\t\t9', 'x\t', 'A', 'O\t0', '?', 'T 0 0', 'T\t0 0'):
+        case.raw(text.encode())
+    case.head('numbers')
+    for text in ('-0', '+1', '01', '-01', '00', '', '-', '--1', '1-', ' 1', '1 ',
+                 '1.0', '1e3', '0x1', 'A', '1,000', '1_0', '2147483648',
+                 '-2147483649', '99999999999999999999', '-2147483648',
+                 '2147483647', '-1', '1\r', '1\0'):
+        case.raw(b'T\t' + text.encode() + b'\t0')
+        case.raw(b'G\t' + text.encode() + b'\t0\t0\t0')
+    for text in ('256', '-1', '00', '015', '+8', '', '1 ', '255', '4294967296'):
+        case.raw(b'T\t0\t' + text.encode())
+    case.raw('T\t\u0661\t0'.encode())
+    for text in ('2', '-1', '01', '', '1\r'):
+        case.raw(b'L\t' + text.encode())
+        case.raw(b'G\t5\t%s\t0\t1' % text.encode())
+        case.raw(b'G\t5\t0\t%s\t1' % text.encode())
+    case.raw(b'G\t5\t0\t0\t256')
+    case.head('settings and restarts')
+    for cells in (16, 18, 19):
+        case.say('S', *[1] * cells)
+    for cells in (17, 18, 20):
+        case.say('N', *[1] * cells)
+    for row in range(19):
+        cells = list(AL1) + [0, 0]
+        cells[row] = 4294967296
+        case.say('N', *cells)
+        cells[row] = -1
+        case.say('N', *cells)
+        case.say('S', *cells[:17])
+    case.head('hex')
+    for text in ('0', 'F', 'ff', 'fF', '0g', 'GG', '0 ', ' 00', '0x00', '000',
+                 '00\r', '-1', '00 00'):
+        for form in ('B\t%s\t9', 'W\t%s\t9', 'X\t%s', 'l\t%s', 'u\t%s\t0',
+                     'j\t%s\t9'):
+            case.raw((form % text).encode())
+    for text in ('', '05', '0500', '050000', '0500009', '0500009100', '0500009g',
+                 '0500009a'):
+        case.raw(b'K\t' + text.encode())
+    case.head('rooms at their bounds')
+    for form, most in (('B\t%s\t%d', 64), ('W\t%s\t%d', 600)):
+        for room in (0, most, most + 1, -1):
+            case.raw((form % ('FF01C3E3FFFF', room)).encode())
+            case.raw((form % ('', room)).encode())
+            case.raw((form % ('01C3', room)).encode())
+    for room in (0, 2000, 2001, -1):
+        case.raw(b'j\t\t%d' % room)
+    for room in (0, 64, 65, -1):
+        case.raw(b'D\t1\t2\t3\t1\t%d' % room)
+        case.raw(b'H\t1\t%d' % room)
+    for number in (4294967295, 4294967296, -1):
+        case.raw(b'H\t%d\t9' % number)
+        case.raw(b'u\t\t%d' % number)
+        for at in range(4):
+            cells = [1, 1, 1, 1]
+            cells[at] = number
+            case.say('D', *cells, 20)
+    case.head('4,096 bytes with the LF are a line, more are not')
+    for length in (4094, 4095, 4096, 8193):
+        case.raw(b'X\t'.ljust(length, b'0'))
+        case.raw(b''.ljust(length, b'C'))
+        case.raw(b'Q')
+    case.raw(b'X\t' + b'F' * 4092)
+    case.head('a foreign byte anywhere; nothing was called')
+    for byte in (0, 13, 32, 127, 128, 255):
+        case.raw(b'T\t0\t0' + bytes([byte]))
+        case.raw(bytes([byte]) + b'T\t0\t0')
+        case.raw(b'Q' + bytes([byte]))
+    case.raw(b'Q')
+    case.ask(*CODES)
+    case.save('malformed.replay')
+    # A last line without LF is not a call.
+    with open(os.path.join(CASES, 'malformed.replay'), 'ab') as file:
+        file.write(b'Q')
+
+
+def mixed_case():
+    """From the generator; the doses of every algorithm among other calls."""
+    text = b''.join(made + b'\n' for made in generate.Maker(4).make(6000)
+                    if len(made) < 400)
+    write('mixed.replay', text)
+
+
+def read(name):
+    with open(os.path.join(CASES, name), 'rb') as file:
+        return file.read()
+
+
+def journals_cases():
+    d, h = journals.d, journals.h
+    write('mill.journal', d(10, 1, 500) + d(10, 2, 498) + h(10) + h(11) +
+          d(12, 3, 250, 0) + h(13))
+    rng = random.Random(7)
+    write('month.journal', b''.join(journals.of_hours(rng, 4000, 40, 6)) +
+          d(4743, 7, 1800000) + d(4743, 8, 0, 0) + h(4743))
+    write('refused-10.journal', d(10, 1, 500) + h(10) + b'H\t011\n' + h(3))
+    write('refused-11.journal', d(10, 1, 500) + h(10) + d(10, 2, 500) + b'x\n')
+    write('refused-12.journal', d(10, 1, 500) + h(753) + d(754, 2, 5) + h(3))
+    write('no-lf.journal', d(10, 1, 500) + b'H\t10')
+    write('empty.journal', b'')
+
+
+def main():
+    os.makedirs(CASES, exist_ok=True)
+    journals_cases()
+    for case in (settings_case, al0_case, al1_case, al2_case, al3_case,
+                 faults_case, line_case, frames_case, fields_case,
+                 journal_case, malformed_case, long_settle_case, mixed_case):
+        case()
+
+
+if __name__ == '__main__':
+    main()

@@ -1,0 +1,370 @@
+"""Changes one rule of the second implementation at a time and demands that
+the stored cases notice it: python3 tests/mutants.py"""
+
+import os
+import shutil
+import subprocess
+import sys
+import tempfile
+
+ROOT = os.path.dirname(os.path.dirname(os.path.abspath(__file__)))
+CASES = os.path.join(ROOT, 'tests', 'cases')
+
+# The changed rule, the file, its text, the text put in its place.
+MUTANTS = [
+    # Settings, restart, counters.
+    ('M up to C/4 rounded up', 'settings.py',
+     's.C // 4', '-(-s.C // 4)'),
+    ('M from 0 in AL0 and AL1', 'settings.py',
+     'return (1, s.C', 'return (0, s.C'),
+    ('M of AL2 not under D', 'settings.py',
+     'else (s.D, s.C)', 'else (1, s.C)'),
+    ('the last bad setting named', 'settings.py',
+     'enumerate(zip(s, ranges(s)), 1)',
+     'reversed(list(enumerate(zip(s, ranges(s)), 1)))'),
+    ('settings R2 before R3', 'box.py',
+     'self.need_ready()\n        settings.check(s)',
+     'settings.check(s)\n        self.need_ready()'),
+    ('a set keeps Z', 'box.py',
+     '        self.Z = 0\n', "        self.Z = getattr(self, 'Z', 0)\n"),
+    ('a set keeps the samples', 'box.py',
+     '        self.samples = []\n',
+     "        self.samples = getattr(self, 'samples', [])\n"),
+    ('a set clears the link start', 'box.py',
+     '        self.s = s\n', '        self.s = s\n        self.link = 0\n'),
+    ('a set clears the inputs', 'box.py',
+     '        self.s = s\n', '        self.s = s\n        self.inputs = 0\n'),
+    ('a set clears output 4', 'box.py',
+     '        self.s = s\n', '        self.s = s\n        self.outputs = 0\n'),
+    ('a set keeps the runs', 'box.py',
+     '        self.runs = [0, 0, 0]\n',
+     "        self.runs = getattr(self, 'runs', [0, 0, 0])\n"),
+    ('R15 before R2', 'box.py',
+     '        settings.check(s)\n        # R15',
+     '        if count > 999999: raise Refused(15)\n'
+     '        settings.check(s)\n        # R15'),
+    ('a stored count of 1,000,000 taken', 'box.py',
+     'count > 999999 or', 'count > 1000000 or'),
+    ('a counter reset in any phase', 'box.py',
+     'self.need_ready()\n        self.count = self.total',
+     'self.count = self.total'),
+    ('the count goes to 1,000,000', 'box.py',
+     '(self.count + 1) % 1000000\n', '(self.count + 1) % 1000001\n'),
+    ('the total goes to 1,000,000,000', 'box.py',
+     '(self.total + amount) % 1000000000', '(self.total + amount) % 1000000001'),
+    ('an amount below 0 kept', 'box.py',
+     'amount = max(amount, 0)', 'amount = amount'),
+
+    # The tick.
+    ('negative means rounded toward zero', 'box.py',
+     'nearest if total >= 0 else -nearest',
+     'nearest if total >= 0 else -(abs(total) // number)'),
+    ('a half rounded up', 'box.py',
+     'nearest if total >= 0 else -nearest',
+     '(2 * total + number) // (2 * number)'),
+    ('p8 used while output 1 is open', 'box.py',
+     'n = self.s.p7 if self.is_open(1) else self.s.p8', 'n = self.s.p8'),
+    ('R1 after the fault', 'box.py',
+     'if inputs > 15:', 'if inputs > 15 and self.phase != FAULT:'),
+    ('the inputs of F21 not kept', 'box.py',
+     '        self.inputs = inputs\n        if not -900000 <= sample <= 900000:\n'
+     '            return self.fail(21, 0)\n',
+     '        if not -900000 <= sample <= 900000:\n'
+     '            return self.fail(21, 0)\n        self.inputs = inputs\n'),
+    ('F21 at 900,000', 'box.py',
+     '-900000 <= sample <= 900000', '-900000 < sample < 900000'),
+    ('F14 at 63', 'box.py',
+     'self.runs.index(64) + 1 if 64 in self.runs',
+     'self.runs.index(63) + 1 if 63 in self.runs'),
+    ('F14 names the highest channel', 'box.py',
+     'self.runs.index(64) + 1', '3 - self.runs[::-1].index(64)'),
+    ('F14 in AL0', 'box.py',
+     'if self.s.algorithm == 0:\n            return 0',
+     'if False:\n            return 0'),
+    ('levels turned about', 'box.py',
+     'output if levels[i] == 1', 'output if levels[i] == 0'),
+    ('F14 after the phase rule', 'box.py',
+     '        before = self.outputs\n        dose = self.phase_rule()\n',
+     '        before = self.outputs\n        dose = self.phase_rule()\n'
+     '        if channel:\n            return self.fail(14, channel)\n'
+     '@        channel = self.mismatch()\n        if channel:\n'
+     '            return self.fail(14, channel)\n'
+     '@        channel = self.mismatch()\n'),
+    ('S kept when a gate moved', 'box.py',
+     '        if (before ^ self.outputs) & 7:\n            self.S = 0\n', ''),
+    ('S put to 0 by a fault', 'box.py',
+     '        self.phase = FAULT\n', '        self.phase = FAULT\n        self.S = 0\n'),
+    ('stable over 64*p9', 'box.py',
+     'self.S >= 64', 'self.S > 64'),
+    ('S capped at 4,031', 'box.py', '4032)', '4031)'),
+    ('the alarm at C+9', 'box.py',
+     'self.put(4, self.w > self.s.C + 9)', 'self.put(4, self.w >= self.s.C + 9)'),
+    ('a fault leaves output 4 off', 'box.py',
+     'self.outputs = 8', 'self.outputs = 0'),
+    ('AL3 started by input 4', 'box.py',
+     'if self.s.algorithm == 3:\n            return self.link\n',
+     'if self.s.algorithm == 4:\n            return self.link\n'),
+    ('zeroing tests w', 'box.py',
+     'if -self.s.M < self.F < self.s.M:', 'if -self.s.M < self.w < self.s.M:'),
+    ('zeroing at M', 'box.py',
+     'if -self.s.M < self.F < self.s.M:', 'if -self.s.M <= self.F <= self.s.M:'),
+    ('reopening coarse under Wc', 'box.py',
+     'elif self.phase == FINE or reached', 'elif reached'),
+    ('coarse open at Wc', 'box.py',
+     'reached >= s.D - s.Pc', 'reached > s.D - s.Pc'),
+    ('fine open at Wf', 'box.py',
+     'reached >= s.D - s.Pf', 'reached > s.D - s.Pf'),
+    ('start looked at after the weight in AL0', 'box.py',
+     'if s.algorithm == 0 and not self.start:',
+     'if s.algorithm == 0 and not self.start and self.w < s.D - s.Pf:'),
+    ('o ignored', 'box.py',
+     's.o if s.algorithm in (0, 1) else 1', '0 if s.algorithm in (0, 1) else 1'),
+    ('o looked at in AL2', 'box.py',
+     's.o if s.algorithm in (0, 1) else 1', 's.o'),
+    ('the last tick of Settle is 255*p9', 'box.py',
+     'self.number == 256', 'self.number == 255'),
+    ('Settle may end on tick 0', 'box.py',
+     'self.enter(HOLD if s.algorithm == 0 else SETTLE)',
+     'self.enter(HOLD if s.algorithm == 0 else SETTLE)\n'
+     '            if s.algorithm == 1 and self.stable: self.settle_1()'),
+    ('settled 0 on the last tick', 'box.py',
+     'self.settled = int(self.stable)',
+     'self.settled = int(self.number < 256 * self.s.p9)'),
+    ('settled looked at when the dose completes', 'box.py',
+     'wE),\n                                 self.settled)',
+     'wE),\n                                 int(self.stable))'),
+    ('the dose counted when discharge opens', 'box.py',
+     '            self.phase = DISCHARGE\n',
+     '            self.phase = DISCHARGE\n            self.count += 1\n'),
+    ('discharge shut at w <= M', 'box.py',
+     'if self.w < self.s.M:', 'if self.w <= self.s.M:'),
+    ('w0 for wE', 'box.py',
+     'self.w0 if self.s.p11 else wE', 'self.w0 if self.s.p11 else self.w0'),
+    ('p11 turned about', 'box.py',
+     'self.w0 if self.s.p11 else wE', 'wE if self.s.p11 else self.w0'),
+    ('AL2 loads on start only', 'box.py',
+     'if self.s.algorithm == 3 and not', 'if self.s.algorithm >= 2 and not'),
+    ('AL3 loads without start', 'box.py',
+     'if self.s.algorithm == 3 and not', 'if self.s.algorithm == 4 and not'),
+    ('load at w = D', 'box.py',
+     'if self.w < self.s.D:', 'if self.w <= self.s.D:'),
+    ('load shut over M', 'box.py',
+     'if self.w >= self.s.M:', 'if self.w > self.s.M:'),
+    ('load goes to Ready without calm', 'box.py',
+     'self.enter(CALM)', 'self.phase = READY'),
+
+    # On the line.
+    ('a check without the closing zero byte', 'frames.py',
+     "return run(body + b'\\0')", 'return run(body)'),
+    ('a check over inserted FE', 'frames.py',
+     "return run(body + b'\\0')", "return run(stuffed(body) + b'\\0')"),
+    ('bits enter lowest first', 'frames.py',
+     'range(7, -1, -1)', 'range(8)'),
+    ('R8 before R14', 'frames.py',
+     '    least = address_length(body) + 1\n',
+     '    least = address_length(body) + 1\n'
+     '    if len(body) + 4 > room: raise Refused(8)\n'),
+    ('a body of 255 bytes framed', 'frames.py',
+     '<= len(body) <= 254', '<= len(body) <= 255'),
+    ('an extended body of 4 bytes framed', 'frames.py',
+     'least = address_length(body) + 1', 'least = 2'),
+    ('a body that begins with FE framed', 'frames.py',
+     "in (b'\\xFF', b'\\xFE')", "in (b'\\xFF',)"),
+    ('the body dropped at the 257th byte', 'frames.py',
+     'if len(self.body) == 256:', 'if len(self.body) == 257:'),
+    ('after the 256th byte an FF counts as seen', 'frames.py',
+     '            self.state = self.skip\n            self.offer = None\n',
+     '            self.state = self.seek\n'),
+    ('a body may begin with FE', 'frames.py',
+     'if byte not in (FF, FE):', 'if byte != FF:'),
+    ('the byte after a dropped body lost', 'frames.py',
+     '        else:\n            self.begin(byte)\n',
+     '        else:\n            self.state = self.skip\n'
+     '            self.offer = None\n'),
+    ('R9 answers the first FF', 'frames.py',
+     '            self.offer = self.last_ff\n        self.place',
+     '            self.offer = self.last_ff if self.offer is None '
+     'else self.offer\n        self.place'),
+    ('R9 answers the last FF seen', 'frames.py',
+     'if self.state == self.seek:', 'if self.state != self.skip:'),
+    ('R6 under 2 bytes, 5 if extended', 'frames.py',
+     'len(body) < address_length(body) + 2',
+     'len(body) < address_length(body) + 1'),
+    ('serial high first', 'box.py', "to_bytes(3, 'little')", "to_bytes(3, 'big')"),
+    ('data taken', 'box.py', '0xC5) or data:', '0xC5):'),
+    ('R7 before R5', 'box.py',
+     '        self.need_address(address)\n',
+     '        if code < 0xC0: raise Refused(7)\n'
+     '        if data: raise Refused(7)\n'
+     '        if code == 0xC1: raise Refused(7)\n'
+     '        self.need_address(address)\n'),
+    ('R4 before R3', 'box.py',
+     '        self.need_ready()\n        if self.s.algorithm in (2, 3) or '
+     'not self.samples:\n            raise Refused(4)\n',
+     '        if self.s.algorithm in (2, 3) or '
+     'not self.samples:\n            raise Refused(4)\n'
+     '        self.need_ready()\n'),
+    ('C0 taken at M', 'box.py',
+     'if not -self.s.M < mean(self.samples, self.s.p8) < self.s.M:',
+     'if not -self.s.M <= mean(self.samples, self.s.p8) <= self.s.M:'),
+    ('C0 refused with R8 still zeroes', 'box.py',
+     '            self.need_zeroing()\n',
+     '            self.need_zeroing()\n'
+     '            self.Z = mean(self.samples, self.s.p8)\n'),
+    ('C0 by p7', 'box.py',
+     '            self.Z = mean(self.samples, self.s.p8)\n',
+     '            self.Z = mean(self.samples, self.s.p7)\n'),
+    ('C0 adds up', 'box.py',
+     '            self.Z = mean(self.samples, self.s.p8)\n',
+     '            self.Z = mean(self.samples, self.s.p8) - self.Z\n'),
+    ('C3 by p7', 'box.py',
+     'return self.weight_field(self.s.p8)', 'return self.weight_field(self.s.p7)'),
+    ('C2 by p8', 'box.py',
+     'return self.weight_field(self.s.p7)', 'return self.weight_field(self.s.p8)'),
+    ('the weight without Z', 'box.py',
+     'weight = mean(self.samples, n) - self.Z', 'weight = mean(self.samples, n)'),
+    ('over by output 4', 'box.py',
+     'over = weight > self.s.C + 9', 'over = self.is_open(4)'),
+    ('no point without a sample', 'box.py',
+     'return fields.write(0, 0, 0, self.s.point)',
+     'return fields.write(0, 0, 0, 0)'),
+    ('the weight high byte first', 'fields.py',
+     'digits[4:6] + digits[2:4] + digits[0:2]', 'digits'),
+    ('zero read with a sign kept negative one', 'fields.py',
+     '-weight if con >> 7 else weight', '-weight or -1 if con >> 7 else weight'),
+    ('bits 6 and 5 read as the point', 'fields.py', 'con & 7\n', 'con & 0x67\n'),
+    ('zero written with a sign', 'fields.py',
+     '(weight < 0) << 7', '(weight <= 0) << 7'),
+    ('a point of 8 written', 'fields.py', 'point > 7', 'point > 8'),
+    ('a weight of seven digits written', 'fields.py',
+     'if not -999999 <= weight <= 999999 or', 'if weight > 999999 or'),
+
+    # The journal and the hours.
+    ('R12 at 745', 'journal.py', '>= 744', '>= 745'),
+    ('R13 at 65,536 bytes', 'journal.py',
+     'len(data) > LONGEST', 'len(data) >= LONGEST'),
+    ("H's hour allowed again", 'journal.py',
+     "lines[-1][1] + (lines[-1][0] == 'H')", 'lines[-1][1]'),
+    ('R12 before R11 and R10 of later lines', 'journal.py',
+     '            if line[1] < least:\n                raise Refused(11, at)\n',
+     '            if line[1] < least and line[1] > 10:\n'
+     '                raise Refused(11, at)\n'),
+    ('leading zeros accepted', 'journal.py',
+     " or (field[:1] == b'0' and len(field) > 1)", ''),
+    ('amounts over 1,800,000 accepted', 'journal.py', '1800000', '1800001'),
+    ('a last line without LF accepted', 'journal.py',
+     'return lines + [last] if last else lines',
+     "return lines + [last + b'\\n'] if last else lines"),
+    ('R8 before R10 on writing', 'journal.py',
+     '    if not good(kind, values):\n',
+     '    if room < 4: raise Refused(8)\n    if not good(kind, values):\n'),
+    ('missing printed idle', 'hours.py', "return 'X'", "return 'I'"),
+    ('an hour with a D measured without its H', 'hours.py',
+     'if not has_h:', 'if not has_h and not amounts:'),
+    ('the mean cut to a whole number', 'hours.py',
+     'float(sum(amounts)) / float(len(amounts))',
+     'float(sum(amounts) // len(amounts))'),
+    ('the mean as a product with 1/n', 'hours.py',
+     'float(sum(amounts)) / float(len(amounts))',
+     'float(sum(amounts)) * (1.0 / float(len(amounts)))'),
+    ('the smallest amount for the largest', 'hours.py',
+     'float(max(amounts))', 'float(min(amounts))'),
+
+    # The program.
+    ('a line of 4,097 bytes taken', 'replay.py',
+     'LONGEST_LINE = 4096', 'LONGEST_LINE = 4097'),
+    ('-0 taken', 'replay.py', "rb'0|-?[1-9]", "rb'-?0|-?[1-9]"),
+    ('lower-case hex taken', 'replay.py', '[0-9A-F]{2}', '[0-9A-Fa-f]{2}'),
+]
+
+
+def changed(text, old, new):
+    """`new` may hold further pairs, parted by @: more text and its
+    replacement."""
+    new, *more = new.split('@')
+    for before, after in [(old, new)] + list(zip(more[::2], more[1::2])):
+        if text.count(before) < 1:
+            raise SystemExit('no such text: %r' % before)
+        text = text.replace(before, after, 1)
+    return text
+
+
+def run(folder):
+    """0: the outputs are the stored ones; 3: they differ."""
+    return subprocess.run(
+        [sys.executable, '-B', os.path.abspath(__file__), 'compare', folder],
+        stderr=subprocess.DEVNULL, timeout=60).returncode
+
+
+def outputs():
+    """Name and output of each case, the small ones first."""
+    import io
+    import random
+    from second import hours, journals, replay
+    for name in sorted(os.listdir(CASES), key=lambda name: os.path.getsize(
+            os.path.join(CASES, name))):
+        with open(os.path.join(CASES, name), 'rb') as file:
+            data = file.read()
+        if name.endswith('.journal'):
+            yield name, hours.printed(data)
+        else:
+            box = replay.Replay()
+            yield name, '\n'.join(
+                '?' if line is None else box.answer(line)
+                for line in replay.lines(io.BytesIO(data))).encode()
+    for size in (65536, 65537):
+        text = journals.exact(random.Random(1), size)
+        yield 'exact-%d' % size, hours.printed(text)
+
+
+def compare(folder):
+    """Runs the cases through a folder's package. The first run stores its
+    outputs, a later one ends at the first case that differs."""
+    sys.path.insert(0, folder)
+    for name, output in outputs():
+        path = os.path.join(folder, name + '.out')
+        if not os.path.exists(path):
+            with open(path, 'wb') as file:
+                file.write(output)
+        with open(path, 'rb') as file:
+            if file.read() != output:
+                return 3
+    return 0
+
+
+def mutated(folder, name, old, new):
+    path = os.path.join(folder, 'second', name)
+    with open(path) as file:
+        text = file.read()
+    with open(path, 'w') as file:
+        file.write(changed(text, old, new))
+    try:
+        return run(folder)
+    finally:
+        with open(path, 'w') as file:
+            file.write(text)
+
+
+def main():
+    folder = tempfile.mkdtemp()
+    missed = 0
+    try:
+        shutil.copytree(os.path.join(ROOT, 'second'),
+                        os.path.join(folder, 'second'))
+        if run(folder) != 0 or run(folder) != 0:
+            raise SystemExit('the unchanged one does not run')
+        for rule, name, old, new in MUTANTS:
+            code = mutated(folder, name, old, new)
+            missed += code != 3
+            print('%s\t%s' % ({3: 'noticed', 0: 'MISSED'}.get(code, 'BROKEN'),
+                              rule), flush=True)
+    finally:
+        shutil.rmtree(folder)
+    print('%d rules changed, %d not noticed' % (len(MUTANTS), missed))
+    return 1 if missed else 0
+
+
+if __name__ == '__main__':
+    if sys.argv[1:2] == ['compare']:
+        sys.exit(compare(sys.argv[2]))
+    sys.exit(main())

@@ -1,0 +1,206 @@
+"""Checks of the second implementation, straight from the paper:
+python3 tests/second_test.py"""
+
+import io
+import os
+import subprocess
+import sys
+
+ROOT = os.path.dirname(os.path.dirname(os.path.abspath(__file__)))
+CASES = os.path.join(ROOT, 'tests', 'cases')
+sys.path.insert(0, ROOT)
+
+from second import (boundary, fields, frames, hours, journal,  # noqa: E402
+                    journals, replay, settings)
+from second.box import Box, mean  # noqa: E402
+from second.refusal import Refused  # noqa: E402
+from second.settings import DEFAULT, Settings  # noqa: E402
+
+checks = failed = 0
+
+
+def same(name, seen, wanted):
+    global checks, failed
+    checks += 1
+    if seen != wanted:
+        failed += 1
+        print('%s: %r, not %r' % (name, seen, wanted))
+
+
+def refusal(call, *values):
+    """The number and detail of a refusal."""
+    try:
+        call(*values)
+    except Refused as refused:
+        return (refused.number,) + refused.detail
+    return None
+
+
+def case(name):
+    with open(os.path.join(CASES, name), 'rb') as file:
+        return file.read()
+
+
+def program(name, data=b'', *words):
+    done = subprocess.run([sys.executable, '-m', 'second.' + name, *words],
+                          input=data, stdout=subprocess.PIPE, cwd=ROOT)
+    return done.stdout
+
+
+def replayed(text):
+    return program('replay', text.encode()).decode()
+
+
+def settings_checks():
+    same('default', settings.first_bad_row(DEFAULT), 0)
+    same('C/4', settings.first_bad_row(DEFAULT._replace(C=403, M=101)), 6)
+    same('C 3', settings.first_bad_row(DEFAULT._replace(C=3, D=1, M=1)), 6)
+    same('AL2 M', settings.first_bad_row(DEFAULT._replace(algorithm=2, M=99)), 6)
+    same('first', settings.first_bad_row(DEFAULT._replace(D=0, point=4)), 3)
+    same('point', settings.first_bad_row(DEFAULT._replace(point=4)), 17)
+    same('p8', settings.first_bad_row(DEFAULT._replace(p7=9, p8=8)), 8)
+    same('R15', refusal(Box, DEFAULT, 1000000, 0), (15,))
+    same('R2, R15', refusal(Box, DEFAULT._replace(C=0), 1000000, 0), (2, 2))
+
+
+def frame_checks():
+    for body, check in (('01C3', 0xE3), ('01C2', 0x8A), ('01C0', 0x58),
+                        ('01', 0x69)):
+        same('check ' + body, frames.check_byte(bytes.fromhex(body)), check)
+    same('over all', frames.run(bytes.fromhex('01C3E3')), 0)
+    same('frame', frames.write(b'\x01\xC3', 6).hex(), 'ff01c3e3ffff')
+    same('R8', refusal(frames.write, b'\x01\xC3', 5), (8,))
+    for body in (b'', b'\1', b'\xFF\1', b'\xFE\1', b'\0\1\2\3', b'\1' * 255):
+        same('R14', refusal(frames.write, body, 0), (14,))
+    stuffed = frames.write(b'\x01\xFF', 20)
+    same('stuffed', stuffed[:4].hex(), 'ff01fffe')
+    same('unstuffed', frames.read(stuffed)[1][:2], b'\x01\xFF')
+    for text, place in (('', 0), ('0102', 2), ('FF', 0), ('FFFF', 1), ('01FF02', 1),
+                        ('FFFF01FF', 1), ('FF01FF02', 2), ('FFFFFE', 1)):
+        same('R9 ' + text, refusal(frames.read, bytes.fromhex(text)), (9, place))
+    same('R6', refusal(frames.read, bytes.fromhex('FF0169FFFF')), (6, 4))
+    same('closing FF serves the next',
+         frames.read(bytes.fromhex('FFFF01C3E3FFFF'))[0], 6)
+    long = b'\xFF' + b'\1' * 256 + b'\2\xFF\xFF'
+    same('256th', refusal(frames.read, long), (9, 259))
+
+
+def field_checks():
+    same('field', fields.read(bytes.fromhex('05000091')), (-5, 1, 0, 1))
+    same('field written', fields.write(-5, 1, 0, 1).hex(), '05000091')
+    same('zero', fields.write(0, 0, 0, 0).hex(), '00000000')
+    same('-0', fields.read(bytes.fromhex('000000E0')), (0, 0, 0, 0))
+    same('R16', refusal(fields.read, bytes.fromhex('0A000000')), (16,))
+    same('R16 weight', refusal(fields.write, 1000000, 0, 0, 0), (16,))
+    same('R16 point', refusal(fields.write, 0, 0, 0, 8), (16,))
+
+
+def tick_checks():
+    for samples, wanted in (([1, 2], 2), ([-1, -2], -2), ([0, -1], -1),
+                            ([1, 1, 2], 1), ([-1, -2, -2], -2)):
+        same('mean', mean(samples, 4), wanted)
+    same('the last n', mean([9, 1, 2], 2), 2)
+    for weight, outputs in ((399, 1), (400, 2), (479, 2), (480, 0)):
+        box = Box(boundary.AL1)
+        box.tick(0, 8)
+        for _ in range(4):
+            answer = box.tick(weight, 8)
+        same('at %d' % weight, answer, ('O', outputs))
+    wanted = ['settle, F constant\t64', 'settle, F changing\t256',
+              'mismatches 63\tgoes on', 'mismatches 64\tF14',
+              'w C+9\tno alarm', 'w C+10\talarm']
+    same('boundary', program('boundary').decode().splitlines(), wanted)
+    box = Box(DEFAULT, 999999, 999999999)
+    same('wrap', box.complete(1, 1), (0, 1, 1))
+    same('total', box.counters(), (0, 0))
+    same('R1', refusal(box.tick, 0, 16), (1,))
+    same('F21', box.tick(900001, 3), ('F', 21, 0))
+    same('the same again', box.tick(0, 0), ('F', 21, 0))
+    same('R3', refusal(box.set_settings, Settings(*[0] * 17)), (3,))
+    same('outputs', box.request(bytes.fromhex('FF01C5') + bytes(
+        [frames.check_byte(b'\x01\xC5')]) + b'\xFF\xFF', 9)[1][3], 8)
+
+
+def journal_checks():
+    example = case('mill.journal')
+    text = (b'10\tM\t2\t998\t407F300000000000\n11\tI\n12\tX\n13\tI\n')
+    same('example', program('hours', example), text)
+    same('empty', program('hours', b''), b'')
+    same('no LF', program('hours', b'H\t5'), b'R\t10\t1\n')
+    same('empty line', program('hours', b'H\t5\n\n'), b'R\t10\t2\n')
+    same('R11', program('hours', b'H\t5\nD\t5\t1\t2\t1\n'), b'R\t11\t2\n')
+    same('R12', program('hours', b'H\t5\nH\t749\n'), b'R\t12\t2\n')
+    same('743', len(program('hours', b'H\t5\nH\t748\n').splitlines()), 744)
+    same('R13', program('hours', b'x' * 65537), b'R\t13\t0\n')
+    same('65,536', program('hours', b'x' * 65536), b'R\t10\t1\n')
+    same('R10 on writing', refusal(journal.write, 'H', (10000000,), 0), (10, 0))
+    same('R8 on writing', refusal(journal.write, 'H', (10,), 4), (8,))
+    same('H', journal.write('H', (10,), 5), b'H\t10\n')
+    same('D', journal.write('D', (10, 1, 500, 1), 64), b'D\t10\t1\t500\t1\n')
+    same('third', hours.bits(hours.mean([0, 0, 1])), '3FD5555555555555')
+    same('outside', hours.one(example, 9), ('X',))
+    for kind in journals.BAD_LINES:
+        for line in journals.BAD_LINES[kind]:
+            line = line % 20 if '%' in line else line
+            data = b'H\t10\n' + line.encode('latin-1') + b'H\t30\n'
+            same(kind, hours.printed(data), b'R\t10\t2\n')
+
+
+def replay_checks():
+    same('not a call', replayed('Q\nZ\nQ\t\n\nT\t01\t0\nT\t-0\t0\nQ'),
+         'Q\t0\t0\n?\n?\n?\n?\n?\n')
+    same('room 0', replayed('W\t\t0\nW\t01C3\t0\nB\t\t2\n'),
+         'R\t14\t\nR\t8\t\nR\t9\t0\tA5A5\n')
+    same('writer', replayed('W\t01C3\t8\nH\t10\t6\n'),
+         'P\t6\tFF01C3E3FFFFA5A5\nP\t5\t4809313' + '00AA5\n')
+    same('hours', replayed('u\t%s\t10\nu\t\t0\n' % case('mill.journal').hex().upper()),
+         'M\t408F300000000000\t407F400000000000\t407F300000000000\nX\n')
+    for length in (4096, 4097, 9999):       # its LF counted: one more
+        same('long', replayed('X\t'.ljust(length, 'F') + '\nQ\n'),
+             '?\nQ\t0\t0\n')
+    same('4,096 bytes', replayed('X\t'.ljust(4094, 'F') + '\nQ\n'),
+         'R\t9\t2045\nQ\t0\t0\n')
+
+
+def stored_checks():
+    """The stored cases show every refusal, fault and kind of answer."""
+    seen, calls = set(), 0
+    for name in sorted(os.listdir(CASES)):
+        if not name.endswith('.replay'):
+            continue
+        box = replay.Replay()
+        for line in replay.lines(io.BytesIO(case(name))):
+            calls += 1
+            answer = '?' if line is None else box.answer(line)
+            cells = answer.split('\t')
+            if cells[0] in 'RF':
+                cells = cells[:2]
+            elif cells[0] == 'D' and line[:1] == b'T':
+                cells = ['dose', box.box.s.algorithm, cells[4]]
+            else:
+                cells = cells[:1]
+            seen.add(' '.join(map(str, cells)))
+    for number in range(1, 17):
+        if number != 13:        # a line of `replay` is too short for R13
+            same('R%d seen' % number, 'R %d' % number in seen, True)
+    for wanted in ('F 14', 'F 21', 'dose 1 0', 'dose 1 1', 'dose 2 0', 'dose 2 1',
+                   'dose 3 0', 'dose 3 1', 'O', 'P', 'A', 'Q', 'M', 'I', 'X',
+                   'D', 'H', '?'):
+        same(wanted + ' seen', wanted in seen, True)
+    same('some thousand calls', calls > 5000, True)
+
+
+def main():
+    settings_checks()
+    frame_checks()
+    field_checks()
+    tick_checks()
+    journal_checks()
+    replay_checks()
+    stored_checks()
+    print('%d checks, %d failed' % (checks, failed))
+    return 1 if failed else 0
+
+
+if __name__ == '__main__':
+    sys.exit(main())
