@@ -3,3 +3,4 @@ pub mod Tests
 pub mod Whole
 pub mod Over
 pub mod Decimal
+pub mod DecimalLaws
