@@ -1,3 +1,5 @@
 pub mod Hours
 pub mod Text
 pub mod Says
+pub mod Kinds
+pub mod Rows
