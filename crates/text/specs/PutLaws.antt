@@ -1,0 +1,45 @@
+-- What a text put into a buffer leaves, by whether it has room. Assumes nothing.
+use mathlib.Core.Path.{_≡_, refl, sym, ap, _∙_}
+use mathlib.Core.Bool.{true, false}
+use mathlib.Core.List.{List}
+use Prim.Native.Nat.{ℕ, _+_, _≤_, _<_}
+use lib.ListN.{length}
+use lib.Seq.{sets, length-sets}
+use borrow.Author.Tests.{le-leb, lt-leb}
+use Rattle.laws.specs.Pick.{pick-t, pick-f, pick-all}
+use Rattle.text.specs.Put.{hasRoom, Puts}
+
+pub room-is : (old : List ℕ) (at : ℕ) (text : List ℕ) → at + length text ≤ length old → hasRoom old at text ≡ true
+unfolding hasRoom
+room-is old at text h = le-leb (at + length text) (length old) h
+
+pub room-not : (old : List ℕ) (at : ℕ) (text : List ℕ) → length old < at + length text → hasRoom old at text ≡ false
+unfolding hasRoom
+room-not old at text h = lt-leb (at + length text) (length old) h
+
+-- with room the text stands there, and the place after it is answered
+pub puts-fit : {old text new : List ℕ} {at r : ℕ} → hasRoom old at text ≡ true → Puts old at text new r → (new ≡ sets old at text) × (r ≡ at + length text)
+puts-fit {old} {text} {new} {at} {r} h p =
+    (p .left ∙ pick-t (hasRoom old at text) (sets old at text) old h, p .next ∙ pick-t (hasRoom old at text) (at + length text) at h)
+
+-- without room nothing changes
+pub puts-none : {old text new : List ℕ} {at r : ℕ} → hasRoom old at text ≡ false → Puts old at text new r → (new ≡ old) × (r ≡ at)
+puts-none {old} {text} {new} {at} {r} h p =
+    (p .left ∙ pick-f (hasRoom old at text) (sets old at text) old h, p .next ∙ pick-f (hasRoom old at text) (at + length text) at h)
+
+pub puts-length : {old text new : List ℕ} {at r : ℕ} → Puts old at text new r → length new ≡ length old
+puts-length {old} {text} {new} {at} {r} p =
+    ap length (p .left) ∙ pick-all (λ (l : List ℕ). length l ≡ length old) (hasRoom old at text) (length-sets old at text) refl
+
+-- the other way: what stores with room and what leaves all as it was meet the contract
+pub fit-puts : {old text new : List ℕ} {at r : ℕ} → hasRoom old at text ≡ true → new ≡ sets old at text → r ≡ at + length text → Puts old at text new r
+fit-puts {old} {text} {new} {at} {r} h e f = record {
+  left = e ∙ sym (pick-t (hasRoom old at text) (sets old at text) old h);
+  next = f ∙ sym (pick-t (hasRoom old at text) (at + length text) at h);
+}
+
+pub none-puts : (old : List ℕ) (at : ℕ) (text : List ℕ) → hasRoom old at text ≡ false → Puts old at text old at
+none-puts old at text h = record {
+  left = sym (pick-f (hasRoom old at text) (sets old at text) old h);
+  next = sym (pick-f (hasRoom old at text) (at + length text) at h);
+}
