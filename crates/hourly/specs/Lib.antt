@@ -3,3 +3,4 @@ pub mod Text
 pub mod Says
 pub mod Kinds
 pub mod Rows
+pub mod Determined
