@@ -4,3 +4,4 @@ pub mod Says
 pub mod Kinds
 pub mod Rows
 pub mod Determined
+pub mod Accepted
