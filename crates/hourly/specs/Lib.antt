@@ -5,3 +5,4 @@ pub mod Kinds
 pub mod Rows
 pub mod Determined
 pub mod Accepted
+pub mod Bounds
