@@ -1,6 +1,7 @@
 pub mod Hours
 pub mod Text
 pub mod Says
+pub mod Tally
 pub mod Kinds
 pub mod Rows
 pub mod Determined
