@@ -1,4 +1,4 @@
--- the digits counted and those of the quotient left are one more than those of n
+-- The digits counted and those of the quotient that is left are one more than those of n.
 use native.Mathlib.Omega.{arith}
 use mathlib.Core.Path.{_≡_, ap}
 use Prim.Native.Nat.{_+_}

@@ -1,7 +1,7 @@
 -- What is left to store gives the whole: the digits of v, the last of them at p.
 use borrow.Author.Needs.{needs}
 use native.Mathlib.Omega.{arith}
-use mathlib.Core.Path.{_≡_, refl, ap, _∙_}
+use mathlib.Core.Path.{_≡_, refl, ap}
 use mathlib.Core.List.{[]}
 use Prim.Native.Nat.{_+_, _<_, _/_, _%_}
 use lib.ListN.{length, length-set}
@@ -54,7 +54,7 @@ loop-again c =
     let h = c .loop-test .taken in
     let m = decimal-more (s .v) h in
     let e = decimal-some (s .v / 10) in
-    (length-set (s .out) (s .p) (48 + s .v % 10) ∙ s .inv .0, omega arith, omega arith, store-last (s .out) at (s .p) _ _ (decimal (s .v / 10)) _ (decimal-step (s .v) h) (omega arith) (s .inv .3))
+    (simp length-set (s .inv .0), omega arith, omega arith, store-last (s .out) at (s .p) _ _ (decimal (s .v / 10)) _ (decimal-step (s .v) h) (omega arith) (s .inv .3))
 
 cast-out-2 : tie.Need-cast-out-2 Inv-loop μ-loop
 cast-out-2 c = search needs
@@ -68,7 +68,7 @@ slice-write-out-2 c = omega arith
 same-length : tie.Need-same-length Inv-loop μ-loop
 same-length c =
     let s = c .before .loop in
-    length-set (s .out) (s .p) (48 + s .v) ∙ s .inv .0
+    simp length-set (s .inv .0)
 
 returns : tie.Need-returns Inv-loop μ-loop
 returns c =

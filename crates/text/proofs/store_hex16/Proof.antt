@@ -43,7 +43,7 @@ loop-again c =
     let h : 0 < s .k = c .before .loop-test .taken in
     let g = c .hex-digit in
     let p : at + (s .k - 1) ≡ at + length (hexOf (s .k - 1) (s .v / 16)) = ap (λ (j : ℕ). at + j) (sym (hex-length (s .k - 1) (s .v / 16))) in
-    (length-set (s .out) (at + (s .k - 1)) (g .result) ∙ s .inv .0, omega arith, rw (g .ensures) (store-last (s .out) at (at + (s .k - 1)) (glyph (s .v % 16)) _ (hexOf (s .k - 1) (s .v / 16)) _ (hex-step (s .k) (s .v) h) p (s .inv .2)))
+    (simp length-set (s .inv .0), omega arith, rw (g .ensures) (store-last (s .out) at (at + (s .k - 1)) (glyph (s .v % 16)) _ (hexOf (s .k - 1) (s .v / 16)) _ (hex-step (s .k) (s .v) h) p (s .inv .2)))
 
 same-length : tie.Need-same-length Inv-loop μ-loop
 same-length c = c .before .loop .inv .0
