@@ -2,8 +2,15 @@
 ghost use mathlib.Core.Path.{_≡_};
 ghost use lib.ListN.{length, drop};
 ghost use Rattle.paper.specs.Answer.{Fills, told};
-ghost use Rattle.journal.specs.Line.{writeOf, oneLine, lineAt, echoOf};
-ghost use Rattle.journal.specs.Journal.{journalOf, summaryOf};
+ghost use mathlib.Core.List.{[]};
+ghost use mathlib.Core.Bool.{_&&_};
+ghost use lib.Dec.{eqb};
+ghost use lib.ListN.{getD};
+ghost use Rattle.laws.specs.Pick.{pick};
+ghost use Rattle.laws.specs.Decimal.{good, isDigit, numberAt};
+ghost use Rattle.journal.specs.Line.{writeOf, oneLine, lineAt, echoOf, expect, onGood, fieldsAt, placed, mostOfD, mostOfH, doseFrom, onFrom, LF};
+ghost use Rattle.journal.specs.Journal.{journalOf, summaryOf, hourIn, closes, outOfOrder, tooFar, noPast, pastAfter};
+ghost use Rattle.journal.specs.Scan.{Scans, fieldAt, fieldsAfter, lineFrom};
 ghost use Rattle.journal.specs.Says.{saysWrote, saysOne, saysEchoed, saysAt, saysJudged};
 
 // A line: a completed dose, or that the box was on for all of an hour.
@@ -64,4 +71,328 @@ pub struct Past {
     pub closed: bool,
     pub first: u32,
     pub last: u32,
+}
+
+// A number read at a place: its value and the place after it, or none.
+enum Num {
+    Good(u32, usize),
+    Bad,
+}
+
+const TAB: u8 = 9;
+
+const LF: u8 = 10;
+
+const D: u8 = 68;
+
+const H: u8 = 72;
+
+// The greatest values of a line's fields after its letter: hour, count, amount, settled.
+const MOST: [u32; 4] = [9999999, 999999, 1800000, 1];
+
+// A journal has at most so many bytes.
+const ROOM: usize = 65536;
+
+// A line's hour is less than so many hours above the first line's.
+const SPAN: u64 = 744;
+
+// ---- one line read
+
+// The byte at a place, 0 past the end.
+fn byte_at(s: &[u8], at: usize) -> u8
+    ensures { λ r. ⌜ r ≡ getD (now (s .entry)) at 0 ⌝ }
+{
+    if at < s.len() { s[at] } else { 0 }
+}
+
+fn is_digit(b: u8) -> bool
+    ensures { λ r. ⌜ r ≡ isDigit b ⌝ }
+{
+    if b < 48 {
+        return false;
+    }
+    b <= 57
+}
+
+// The number at a place, each byte looked at once; it is refused as soon as it is above `most`.
+fn number_at(s: &[u8], at: usize, most: u32) -> Num
+    ensures { λ r. ⌜ Scans (now (s .entry)) (numberAt most (drop at (now (s .entry)))) r ⌝ }
+{
+    let first = byte_at(s, at);
+    if !is_digit(first) {
+        return Num::Bad;
+    }
+    if first <= 48 {
+        return Num::Good(0, at + 1);
+    }
+    let mut v = (first - 48) as u64;
+    let mut i = at + 1;
+    while v <= most as u64 {
+        let b = byte_at(s, i);
+        if !is_digit(b) {
+            return Num::Good(v as u32, i);
+        }
+        v = v * 10 + (b - 48) as u64;
+        i += 1;
+    }
+    Num::Bad
+}
+
+// A tab and a number at a place.
+fn field_at(s: &[u8], at: usize, most: u32) -> Num
+    ensures { λ r. ⌜ Scans (now (s .entry)) (fieldAt most (drop at (now (s .entry)))) r ⌝ }
+{
+    if byte_at(s, at) != TAB {
+        return Num::Bad;
+    }
+    number_at(s, at + 1, most)
+}
+
+// The line whose LF has to stand at a place.
+fn end_at(s: &[u8], at: usize, line: Line) -> At
+    ensures { λ r. ⌜ saysAt r ≡ placed (length (now (s .entry))) (expect LF (drop at (now (s .entry))) (λ rest. good line rest)) ⌝ }
+{
+    if byte_at(s, at) != LF {
+        return At::R10;
+    }
+    At::Line { line, next: at + 1 }
+}
+
+// What follows a D.
+fn dose_at(s: &[u8], at: usize) -> At
+    ensures { λ r. ⌜ saysAt r ≡ placed (length (now (s .entry))) (onGood (fieldsAt mostOfD [] (drop at (now (s .entry)))) (λ vs rest. good (doseFrom vs) rest)) ⌝ }
+{
+    let Num::Good(hour, after_hour) = field_at(s, at, MOST[0]) else {
+        return At::R10;
+    };
+    let Num::Good(count, after_count) = field_at(s, after_hour, MOST[1]) else {
+        return At::R10;
+    };
+    let Num::Good(amount, after_amount) = field_at(s, after_count, MOST[2]) else {
+        return At::R10;
+    };
+    let Num::Good(settled, after_settled) = field_at(s, after_amount, MOST[3]) else {
+        return At::R10;
+    };
+    end_at(
+        s,
+        after_settled,
+        Line::Dose {
+            hour,
+            count,
+            amount,
+            settled,
+        },
+    )
+}
+
+// What follows an H.
+fn on_at(s: &[u8], at: usize) -> At
+    ensures { λ r. ⌜ saysAt r ≡ placed (length (now (s .entry))) (onGood (fieldsAt mostOfH [] (drop at (now (s .entry)))) (λ vs rest. good (onFrom vs) rest)) ⌝ }
+{
+    let Num::Good(hour, after_hour) = field_at(s, at, MOST[0]) else {
+        return At::R10;
+    };
+    end_at(s, after_hour, Line::On { hour })
+}
+
+// The line at a place and the place after it.
+pub fn line_at(bytes: &[u8], at: usize) -> At
+    ensures { λ r. ⌜ saysAt r ≡ lineAt (now (bytes .entry)) at ⌝ }
+{
+    let letter = byte_at(bytes, at);
+    if letter == D {
+        return dose_at(bytes, at + 1);
+    }
+    if letter == H {
+        return on_at(bytes, at + 1);
+    }
+    At::R10
+}
+
+// A line by itself, its LF included.
+pub fn read_line(bytes: &[u8]) -> One
+    ensures { λ r. ⌜ saysOne r ≡ oneLine (now (bytes .entry)) ⌝ }
+{
+    let At::Line { line, next } = line_at(bytes, 0) else {
+        return One::R10;
+    };
+    if next < bytes.len() {
+        return One::R10;
+    }
+    One::Line(line)
+}
+
+// ---- a journal judged
+
+// How many fields follow a letter: 4 after D, 1 after H, else none.
+fn fields_after(letter: u8) -> usize
+    ensures { λ r. ⌜ r ≡ fieldsAfter letter ⌝ }
+{
+    if letter == D {
+        return 4;
+    }
+    if letter == H {
+        return 1;
+    }
+    0
+}
+
+// The line of n fields.
+fn line_from(n: usize, got: [u32; 4]) -> Line
+    ensures { λ r. ⌜ r ≡ lineFrom n got ⌝ }
+{
+    let hour = got[0];
+    if n == 4 {
+        let count = got[1];
+        let amount = got[2];
+        let settled = got[3];
+        return Line::Dose {
+            hour,
+            count,
+            amount,
+            settled,
+        };
+    }
+    Line::On { hour }
+}
+
+fn hour_in(line: Line) -> u32
+    ensures { λ r. ⌜ r ≡ hourIn line ⌝ }
+{
+    match line {
+        Line::Dose {
+            hour,
+            count: _,
+            amount: _,
+            settled: _,
+        } => hour,
+        Line::On { hour } => hour,
+    }
+}
+
+// An H closes its hour.
+fn closes_hour(line: Line) -> bool
+    ensures { λ r. ⌜ r ≡ closes line ⌝ }
+{
+    match line {
+        Line::Dose {
+            hour: _,
+            count: _,
+            amount: _,
+            settled: _,
+        } => false,
+        Line::On { hour: _ } => true,
+    }
+}
+
+// Before the first line.
+fn no_past() -> Past
+    ensures { λ r. ⌜ r ≡ noPast ⌝ }
+{
+    Past {
+        begun: false,
+        closed: false,
+        first: 0,
+        last: 0,
+    }
+}
+
+// The first line's hour, after one line more.
+fn first_hour(past: Past, hour: u32) -> u32
+    ensures { λ r. ⌜ r ≡ pick (past .begun) (past .first) hour ⌝ }
+{
+    if past.begun {
+        return past.first;
+    }
+    hour
+}
+
+// After one line more.
+fn past_after(past: Past, line: Line) -> Past
+    ensures { λ r. ⌜ r ≡ pastAfter past line ⌝ }
+{
+    let hour = hour_in(line);
+    Past {
+        begun: true,
+        closed: closes_hour(line),
+        first: first_hour(past, hour),
+        last: hour,
+    }
+}
+
+// R11: the hour goes back, or an H has closed it.
+fn out_of_order(past: Past, hour: u32) -> bool
+    ensures { λ r. ⌜ r ≡ (past .begun && outOfOrder (past .last) (past .closed) hour) ⌝ }
+{
+    if past.begun {
+        if past.closed {
+            return hour <= past.last;
+        }
+        return hour < past.last;
+    }
+    false
+}
+
+// R12: the hour is 744 or more above the first line's.
+fn too_far(past: Past, hour: u32) -> bool
+    ensures { λ r. ⌜ r ≡ (past .begun && tooFar (past .first) hour) ⌝ }
+{
+    if past.begun {
+        let first = past.first as u64;
+        return first + SPAN <= hour as u64;
+    }
+    false
+}
+
+// A whole journal: R13, then line by line R10, R11, R12.
+pub fn read(bytes: &[u8]) -> Judged
+    ensures { λ r. ⌜ saysJudged r ≡ told summaryOf (journalOf (now (bytes .entry))) ⌝ }
+{
+    let size = bytes.len();
+    if size > ROOM {
+        return Judged::Refused(Refusal::R13);
+    }
+    let mut past = no_past();
+    let mut at: usize = 0;
+    let mut lines: usize = 0;
+    'lines: loop {
+        if at >= size {
+            break 'lines Judged::Lines(Summary {
+                lines,
+                first: past.first,
+                last: past.last,
+            });
+        }
+        let line = lines + 1;
+        let fields = fields_after(bytes[at]);
+        if fields == 0 {
+            break 'lines Judged::Refused(Refusal::R10(line));
+        }
+        let mut got = [0u32; 4];
+        let mut k: usize = 0;
+        let mut p = at + 1;
+        'fields: while k < fields {
+            let Num::Good(v, next) = field_at(bytes, p, MOST[k]) else {
+                break 'lines Judged::Refused(Refusal::R10(line));
+            };
+            got[k] = v;
+            p = next;
+            k += 1;
+        }
+        if byte_at(bytes, p) != LF {
+            break 'lines Judged::Refused(Refusal::R10(line));
+        }
+        let this = line_from(fields, got);
+        let hour = hour_in(this);
+        if out_of_order(past, hour) {
+            break 'lines Judged::Refused(Refusal::R11(line));
+        }
+        if too_far(past, hour) {
+            break 'lines Judged::Refused(Refusal::R12(line));
+        }
+        past = past_after(past, this);
+        at = p + 1;
+        lines = line;
+    }
 }
