@@ -16,6 +16,7 @@ use Rattle.laws.specs.Decimal.{good, bad}
 use Rattle.paper.specs.Answer.{Answer, done, refused, fault, told}
 use Rattle.journal.specs.Line.{textOf, inRange, lineOf, Placed, placed, lineAt}
 use Rattle.journal.specs.Journal.{hourIn, journalOf, journalText, firstHour, lastHour, summaryOf}
+use Rattle.journal.specs.LineLaws.{read-text, dose-range}
 use Rattle.journal.specs.Says.{saysAt}
 use Rattle.journal.specs.declared.Line.{Line}
 use Rattle.journal.specs.declared.Line.the-variants.{Dose, On}
@@ -23,8 +24,8 @@ use Rattle.journal.specs.declared.Summary.{Summary}
 use Rattle.journal.specs.declared.At.{At}
 use Rattle.journal.specs.declared.At.the-variants as A
 use Rattle.hourly.specs.Hours.{doseAt, amountsAt, isOn, hasOn, total, greatest, inFloat}
-use Rattle.hourly.specs.Accepted.{Ranged, Between, Accepted, accepted, line-again, few-lines}
-use Rattle.hourly.specs.Bounds.{Modest, modest, amount-most}
+use Rattle.hourly.specs.Accepted.{Ranged, Between, Accepted, accepted, few-lines}
+use Rattle.hourly.specs.Bounds.{Modest, modest}
 use Rattle.hourly.specs.Tally.{outside, noTally, withDose, withOn, counted, tallyOf, Tells, linesIn, linesOf}
 use Rattle.hourly.specs.declared.Tally.{Tally}
 use Rattle.hourly.proofs.Floats.{add-whole}
@@ -88,7 +89,7 @@ tally-here ls (Dose x c a s) r i n =
     tally-is (ls ++ Dose x c a s ∷ []) x (amountsAt x ls ++ a ∷ []) (hasOn x ls)
     (amounts-more x ls (Dose x c a s) ∙ ap (λ (d : List ℕ). amountsAt x ls ++ d) (pick-t (eqb x x) (a ∷ []) [] (eq-eqb x x refl)))
     (on-more x ls (Dose x c a s) ∙ or-false (hasOn x ls))
-    ∙ dose-more (amountsAt x ls) (hasOn x ls) a (omega (arith, m .sum)) (omega (arith, amount-most x c a s i))
+    ∙ dose-more (amountsAt x ls) (hasOn x ls) a (omega (arith, m .sum)) (omega (arith, dose-range x c a s i .2))
 tally-here ls (On x) r i n =
     tally-is (ls ++ On x ∷ []) x (amountsAt x ls) true
     (amounts-more x ls (On x) ∙ append-nil (amountsAt x ls))
@@ -198,7 +199,7 @@ turn s ls first table at n r a f h c e =
     let l = getD ls n (On 0) in
     let rest = journalText (drop (suc n) ls) in
     let text : drop at s ≡ textOf l ++ rest = c .left ∙ ap journalText (drop-cons ls n (On 0) h) in
-    let read : lineOf (drop at s) ≡ good l rest = ap lineOf text ∙ line-again l rest (ranged-at ls n (On 0) (a .ranged) h) in
+    let read : lineOf (drop at s) ≡ good l rest = ap lineOf text ∙ read-text l rest (ranged-at ls n (On 0) (a .ranged) h) in
     let whole : s ≡ (take at s ++ textOf l) ++ rest = sym (take-append-drop at s) ∙ ap (λ (x : List ℕ). take at s ++ x) text ∙ sym (append-assoc (take at s) (textOf l) rest) in
     let b = between-at (firstHour ls) (lastHour ls) ls n (On 0) (a .between) h in
     let low : first ≤ hourIn l = omega (arith, b .0) in

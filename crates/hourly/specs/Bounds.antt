@@ -14,8 +14,9 @@ use Rattle.laws.specs.Decimal.{decimal, hexOf}
 use Rattle.laws.specs.DecimalLaws.{decimal-length, hex-length}
 use Rattle.paper.specs.Answer.{Answer, done, refused, onDone, inRoom}
 use Rattle.paper.specs.Numbers.{R8}
-use Rattle.journal.specs.Line.{LF, TAB, within, mostOfD, mostOfH, inRange}
+use Rattle.journal.specs.Line.{LF, TAB, inRange}
 use Rattle.journal.specs.Journal.{hourIn, journalOf, firstHour, lastHour}
+use Rattle.journal.specs.LineLaws.{dose-range, on-range}
 use Rattle.journal.specs.declared.Line.{Line}
 use Rattle.journal.specs.declared.Line.the-variants.{Dose, On}
 use Rattle.hourly.specs.Hours.{doseAt, amountsAt, isOn, hasOn, total, greatest, figuresOf, measuredOrIdle, hourOf, inFloat}
@@ -46,23 +47,11 @@ outside-missing ls h a o = rw (outside-off (firstHour ls) (lastHour ls) h ls o (
 
 -- ---- what an hour's lines come to
 
-and-left : (a b : Bool) → (a && b) ≡ true → a ≡ true
-and-left true b e = refl
-and-left false b e = e
-
-and-right : (a b : Bool) → (a && b) ≡ true → b ≡ true
-and-right true b e = e
-and-right false b e = let z : _≡_ {A = ℕ} 0 1 = cc in absurd (omega arith)
-
--- the greatest values of an hour and of an amount
-pub hour-most : (l : Line) → inRange l ≡ true → hourIn l ≤ 9999999
-unfolding inRange within mostOfD mostOfH hourIn
-hour-most (Dose h c a s) e = leb-true h 9999999 (and-left (leb h 9999999) _ e)
-hour-most (On h) e = leb-true h 9999999 (and-left (leb h 9999999) _ e)
-
-pub amount-most : (h c a s : ℕ) → inRange (Dose h c a s) ≡ true → a ≤ 1800000
-unfolding inRange within mostOfD
-amount-most h c a s e = leb-true a 1800000 (and-left (leb a 1800000) _ (and-right (leb c 999999) _ (and-right (leb h 9999999) _ e)))
+-- a line's hour is at most 9,999,999
+hour-most : (l : Line) → inRange l ≡ true → hourIn l ≤ 9999999
+unfolding hourIn
+hour-most (Dose h c a s) e = dose-range h c a s e .0
+hour-most (On h) e = on-range h e
 
 -- an hour has at most as many doses as there are lines, of at most 1,800,000 each
 pub record Modest (n : ℕ) (amounts : List ℕ) : Type 0 where
@@ -74,7 +63,7 @@ pub modest : (h : ℕ) (ls : List Line) → Ranged ls → Modest (length ls) (am
 unfolding amountsAt doseAt total greatest pick
 modest h [] r = record { few = omega arith; sum = omega arith; most = omega arith }
 modest h (On x ∷ ls) r = let m = modest h ls (r .1) in record { few = omega (arith, m .few); sum = omega (arith, m .sum); most = m .most }
-modest h (Dose x c a s ∷ ls) r = go (eqb x h) (modest h ls (r .1)) (amount-most x c a s (r .0))
+modest h (Dose x c a s ∷ ls) r = go (eqb x h) (modest h ls (r .1)) (dose-range x c a s (r .0) .2)
   where
     go : (b : Bool) → Modest (length ls) (amountsAt h ls) → a ≤ 1800000 → Modest (suc (length ls)) (pick b (a ∷ []) [] ++ amountsAt h ls)
     go true m k = record { few = omega (arith, m .few); sum = omega (arith, m .sum); most = omega (arith, m .most) }
