@@ -1,2 +1,4 @@
 pub mod Floats
 pub mod Tallying
+pub mod Answering
+pub mod Printing

@@ -128,7 +128,6 @@ between-at lo hi (l ∷ ls) (suc n) d b h = between-at lo hi ls n d (b .2) (le-o
 -- n lines are counted, and the bytes from `at` on are the text of the others
 pub record Counted (s : List ℕ) (ls : List Line) (first : ℕ) (table : List Tally) (at n : ℕ) : Type 0 where
   pub left : drop at s ≡ journalText (drop n ls)
-  pub size : length table ≡ 744
   pub tells : Tells table first (take n ls)
 
 -- the line whose turn it is has a place in the table; it is counted in there
@@ -155,7 +154,7 @@ rest-back s x rest e =
     let n : length s - length rest ≡ length x = omega (arith, ap length e, length-append x rest) in
     ap (λ (k : ℕ). drop k s) n ∙ ap (drop (length x)) e ∙ drop-at x rest (length x) refl
 
-module _ (ls : List Line) (first : ℕ) (table : List Tally) (n : ℕ) (h : n < length ls) (size : length table ≡ 744) (tells : Tells table first (take n ls)) (ranged : Ranged ls) (lines : length ls ≤ 16384) where
+module _ (ls : List Line) (first : ℕ) (table : List Tally) (n : ℕ) (h : n < length ls) (tells : Tells table first (take n ls)) (ranged : Ranged ls) (lines : length ls ≤ 16384) where
   abbrev this : Line
   this = getD ls n (On 0)
 
@@ -172,7 +171,7 @@ module _ (ls : List Line) (first : ℕ) (table : List Tally) (n : ℕ) (h : n < 
       omega (arith, modest (hourIn this) (take n ls) (ranged-take ls n ranged) .few, length-take-le n ls (omega arith))
 
   tells-again : first ≤ hourIn this → spot < 744 → Tells (set table spot (counted (getD table spot outside) this)) first (take (n + 1) ls)
-  tells-again low high = record { at = λ k b. go k b (ℕ-discrete (hourIn this) (first + k)) }
+  tells-again low high = record { size = length-set table spot _ ∙ tells .size; at = λ k b. go k b (ℕ-discrete (hourIn this) (first + k)) }
     where
       snoc : take (n + 1) ls ≡ take n ls ++ this ∷ []
       snoc = rw add-one (take-suc ls n (On 0) h)
@@ -181,7 +180,7 @@ module _ (ls : List Line) (first : ℕ) (table : List Tally) (n : ℕ) (h : n < 
       go k b (yes e) =
           let p : spot ≡ k = omega arith in
           ap (λ (i : ℕ). getD (set table spot (counted (getD table spot outside) this)) i outside) (sym p)
-          ∙ getD-set-same table spot (counted (getD table spot outside) this) outside (omega arith)
+          ∙ getD-set-same table spot (counted (getD table spot outside) this) outside (omega (arith, tells .size))
           ∙ ap (λ (t : Tally). counted t this) (old low high)
           ∙ sym (tally-here (take n ls) this (ranged-take ls n ranged) (ranged-at ls n (On 0) ranged h) (omega (arith, length-take-le n ls (omega arith))))
           ∙ ap (λ (x : List Line). tallyOf x (hourIn this)) (sym snoc)
@@ -208,12 +207,11 @@ turn s ls first table at n r a f h c e =
     = record {
       low = low;
       high = high;
-      few = old-few ls first table n h (c .size) (c .tells) (a .ranged) (few-lines a) low high;
+      few = old-few ls first table n h (c .tells) (a .ranged) (few-lines a) low high;
       again =
         record {
           left = rest-back s (take at s ++ textOf l) rest whole ∙ ap (λ (k : ℕ). journalText (drop k ls)) (sym (add-one n));
-          size = length-set table (hourIn l - first) _ ∙ c .size;
-          tells = tells-again ls first table n h (c .size) (c .tells) (a .ranged) (few-lines a) low high;
+          tells = tells-again ls first table n h (c .tells) (a .ranged) (few-lines a) low high;
         };
     } in
     subst (Taken s ls first table n) (sym (at-one r (record { line = l; next = length s - length rest }) (e ∙ ap (placed (length s)) read))) taken
@@ -223,6 +221,7 @@ turn s ls first table at n r a f h c e =
 -- the lines of an accepted journal, and what the reader said of them
 pub record Found (s : List ℕ) (found : Summary) : Type 0 where
   pub journal : journalOf s ≡ done (linesOf s)
+  pub summary : summaryOf (linesOf s) ≡ found
   pub lines : length (linesOf s) ≡ found .lines
   pub first : firstHour (linesOf s) ≡ found .first
   pub last : lastHour (linesOf s) ≡ found .last
@@ -237,6 +236,7 @@ found-of s found e = go (journalOf s) refl e
         let q : linesIn (journalOf s) ≡ ls = ap linesIn p in
         record {
           journal = p ∙ ap done (sym q);
+          summary = ap summaryOf q ∙ f;
           lines = ap length q ∙ ap (λ (x : Summary). x .lines) f;
           first = ap firstHour q ∙ ap (λ (x : Summary). x .first) f;
           last = ap lastHour q ∙ ap (λ (x : Summary). x .last) f;
@@ -253,8 +253,7 @@ unfolding noTally tallyOf amountsAt total greatest hasOn
 counted-none s ls first table a e =
     record {
       left = a .text;
-      size = ap length e ∙ length-replicate 744 noTally;
-      tells = record { at = λ k b. ap (λ (t : List Tally). getD t k outside) e ∙ getD-replicate 744 k noTally outside b ∙ none k };
+      tells = record { size = ap length e ∙ length-replicate 744 noTally; at = λ k b. ap (λ (t : List Tally). getD t k outside) e ∙ getD-replicate 744 k noTally outside b ∙ none k };
     }
   where
     none : (k : ℕ) → noTally ≡ tallyOf [] (first + k)

@@ -31,7 +31,7 @@ RowsFit [] = Unit
 RowsFit (p ∷ ps) = RowFits (p .row) × RowsFit ps
 
 -- what stands behind the hour and its tab
-unfoldable tailText : Row → List ℕ
+unfoldable pub tailText : Row → List ℕ
 tailText (measured doses sum bits) = letterM ∷ TAB ∷ (decimal doses ++ TAB ∷ (decimal sum ++ TAB ∷ (hexOf 16 bits ++ LF ∷ [])))
 tailText idle = letterI ∷ LF ∷ []
 tailText missing = letterX ∷ LF ∷ []
