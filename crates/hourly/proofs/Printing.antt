@@ -6,13 +6,16 @@ use Prim.Native.Nat.{ℕ, zero, suc, _+_, _-_, _^_, _≤_, _<_}
 use native.Mathlib.Omega.{arith}
 use native.Mathlib.Numerals.{add-one}
 use native.Mathlib.Nat.{add-zero, add-assoc}
-use lib.Dec.{eqb·suc-zero}
+use lib.Dec.{leb, eqb·suc-zero}
 use lib.ListN.{length, getD, take, drop, length-append, drop-of-length-le}
 use lib.Seq.{sets, length-sets, drop-cons, getD-take, length-take-le, drop-length}
-use Rattle.laws.specs.Pick.{pick}
-use Rattle.laws.specs.Over.{sets-append}
+use borrow.Author.Tests.{le-leb, lt-leb}
+use Rattle.laws.specs.Pick.{pick, pick-t, pick-f}
+use Rattle.laws.specs.Over.{sets-append, sets-over}
 use Rattle.laws.specs.Decimal.{decimal, hexOf}
 use Rattle.laws.specs.DecimalLaws.{decimal-length, hex-length}
+use Rattle.paper.specs.Answer.{Answer, done, refused, told, inRoom, leaves, Fills}
+use Rattle.paper.specs.Numbers.{R8}
 use Rattle.text.specs.Put.{Puts}
 use Rattle.text.specs.PutLaws.{room-is, puts-fit, fit-puts, puts-length}
 use Rattle.journal.specs.Line.{LF, TAB}
@@ -21,7 +24,7 @@ use Rattle.journal.specs.declared.Line.{Line}
 use Rattle.journal.specs.declared.Summary.{Summary}
 use Rattle.hourly.specs.Hours.{amountsAt, hasOn, total, greatest, figuresOf, measuredOrIdle, hourOf, inFloat}
 use Rattle.hourly.specs.Text.{Row, measured, idle, missing, letterM, letterI, letterX, HourRow, rowFrom, rowOf, rowText, rowsOf, rowsText, hoursFrom, spanOf, hoursText}
-use Rattle.hourly.specs.Accepted.{Accepted, few-lines}
+use Rattle.hourly.specs.Accepted.{Between, Accepted, few-lines}
 use Rattle.hourly.specs.Bounds.{modest, text-short}
 use Rattle.hourly.specs.Rows.{tailText}
 use Rattle.hourly.specs.Tally.{outside, tallyOf, linesOf, Tells, shownBy, shownOf, rowsBy, textBy, Summed, Printable, hoursIn}
@@ -133,6 +136,19 @@ rest-none table first hours k p h =
     let n : length (take hours table) ≡ hours = length-take-le hours table (omega (arith, p .few, p .size)) in
     ap (λ (ts : List Tally). rowsText (rowsBy ts (first + k))) (drop-of-length-le (take hours table) {i = k} (omega arith))
 
+-- a text that has no room, and one that has
+pub fills-none : (old text : List ℕ) → length old < length text → Fills (refused R8 []) (inRoom [] (length old) text) old old
+unfolding inRoom told leaves
+fills-none old text h =
+    let e = pick-f (leb (length text) (length old)) (done text) (refused R8 []) (lt-leb (length text) (length old) h) in
+    record { says = sym (ap (told length) e); left = sym (ap (λ (a : Answer (List ℕ)). leaves a old) e) }
+
+pub fills-text : (old new text : List ℕ) (n : ℕ) → length text ≤ length old → n ≡ length text → new ≡ sets old 0 text → Fills (done n) (inRoom [] (length old) text) old new
+unfolding inRoom told leaves
+fills-text old new text n h m e =
+    let g = pick-t (leb (length text) (length old)) (done text) (refused R8 []) (le-leb (length text) (length old) h) in
+    record { says = ap done m ∙ sym (ap (told length) g); left = e ∙ sets-over old text h ∙ sym (ap (λ (a : Answer (List ℕ)). leaves a old) g) }
+
 -- ---- the rows of an accepted journal
 
 -- the tally of an hour is shown as its row
@@ -214,3 +230,12 @@ module _ (s : List ℕ) (table : List Tally) (a : Accepted s (linesOf s)) (t : T
 pub prints : (s : List ℕ) (found : Summary) (table : List Tally) → Found s found → Tells table (found .first) (linesOf s) → Prints s found table
 prints s found table f t =
     subst (λ (x : Summary). Prints s x table) (f .summary) (prints-lines s table (found-accepted f) (subst (λ (n : ℕ). Tells table n (linesOf s)) (sym (f .first)) t))
+
+-- the first line's hour is no later than the last line's
+pub first-last : {s : List ℕ} {found : Summary} → Found s found → found .first ≤ found .last
+unfolding firstHour lastHour
+first-last {s} f = omega (arith, f .first, f .last, go (linesOf s) (found-accepted f .between))
+  where
+    go : (ls : List Line) → Between (firstHour ls) (lastHour ls) ls → firstHour ls ≤ lastHour ls
+    go [] b = omega arith
+    go (l ∷ ls) b = omega (arith, b .0, b .1)

@@ -1,40 +1,52 @@
+use mathlib.Core.Path.{_≡_, ap, sym, _∙_, subst}
+use Prim.Native.Nat.{ℕ, _≤_, _<_}
+use native.Mathlib.Omega.{arith}
 use borrow.Author.Needs.{needs}
+use denote.Ref.{now}
+use lib.ListN.{length}
+use lib.Seq.{sets}
+use Rattle.hourly.specs.Text.{hoursText}
+use Rattle.hourly.specs.Tally.{linesOf, textBy, Printable}
+use Rattle.hourly.proofs.Tallying.{found-of}
+use Rattle.hourly.proofs.Printing.{prints, first-last, fills-none, fills-text}
 use Rattle.hourly.proofs.print_lines.Statement.{statement}
 use Rattle.hourly.proofs.print_lines.Tie as tie
-use Rattle.hourly.proofs.print_lines.Reads as reads
-use Rattle.hourly.proofs.print_lines.Lts as lts
-use Rattle.hourly.proofs.hours_in.Reads as hours-in-reads
-use Rattle.hourly.proofs.put_rows.Reads as put-rows-reads
-use Rattle.hourly.proofs.tallies.Reads as tallies-reads
-use Rattle.hourly.proofs.text_len.Reads as text-len-reads
 
--- src/lib.rt:334:9
 tallies-requires : tie.Need-tallies-requires
 tallies-requires c κs = search needs
 
--- src/lib.rt:336:9
 hours-in-requires : tie.Need-hours-in-requires
-hours-in-requires c κs = ?
+hours-in-requires c κs = first-last (found-of (now (c .before .before .before .args .bytes)) (c .before .before .before .args .found) (c .before .before .before .pre))
 
--- src/lib.rt:337:9
 text-len-requires : tie.Need-text-len-requires
-text-len-requires c κs = ?
+text-len-requires c κs = 
+    let a = c .before .before .before .before .args in
+    let p = prints (now (a .bytes)) (a .found) (c .before .tallies .result) (found-of (now (a .bytes)) (a .found) (c .before .before .before .before .pre)) (c .before .tallies .ensures) in
+    rw (c .hours-in .ensures) (p .printable)
 
--- src/lib.rt:339:9
 returns : tie.Need-returns
-returns c = ?
+returns c = 
+    let a = c .before .before .before .before .before .before .args in
+    let p = prints (now (a .bytes)) (a .found) (c .before .before .before .tallies .result) (found-of (now (a .bytes)) (a .found) (c .before .before .before .before .before .before .pre)) (c .before .before .before .tallies .ensures) in
+    let n : c .before .text-len .result ≡ length (hoursText (linesOf (now (a .bytes)))) = c .before .text-len .ensures ∙ ap (λ (h : ℕ). length (textBy (c .before .before .before .tallies .result) (a .found .first) h)) (c .before .before .hours-in .ensures) ∙ ap length (p .text) in
+    fills-none (now (a .out)) (hoursText (linesOf (now (a .bytes)))) (omega (arith, c .if1 .taken))
 
--- src/lib.rt:341:5
 put-rows-requires : tie.Need-put-rows-requires
-put-rows-requires c κs = ?
+put-rows-requires c κs = 
+    let a = c .before .before .before .before .before .before .before .args in
+    let p = prints (now (a .bytes)) (a .found) (c .before .before .before .before .tallies .result) (found-of (now (a .bytes)) (a .found) (c .before .before .before .before .before .before .before .pre)) (c .before .before .before .before .tallies .ensures) in
+    (rw (c .before .before .before .hours-in .ensures) (p .printable), omega (arith, c .before .before .text-len .ensures, c .before .if1 .left))
 
--- src/lib.rt:330:1
 same-length : tie.Need-same-length
 same-length c = search needs
 
--- src/lib.rt:330:1
 returns-2 : tie.Need-returns-2
-returns-2 c = ?
+returns-2 c = 
+    let a = c .before .before .before .before .before .before .before .before .before .before .args in
+    let p = prints (now (a .bytes)) (a .found) (c .before .before .before .before .before .before .before .tallies .result) (found-of (now (a .bytes)) (a .found) (c .before .before .before .before .before .before .before .before .before .before .pre)) (c .before .before .before .before .before .before .before .tallies .ensures) in
+    let text : textBy (c .before .before .before .before .before .before .before .tallies .result) (a .found .first) (c .before .before .before .before .before .before .hours-in .result) ≡ hoursText (linesOf (now (a .bytes))) = ap (textBy (c .before .before .before .before .before .before .before .tallies .result) (a .found .first)) (c .before .before .before .before .before .before .hours-in .ensures) ∙ p .text in
+    let n : c .before .before .before .before .before .text-len .result ≡ length (hoursText (linesOf (now (a .bytes)))) = c .before .before .before .before .before .text-len .ensures ∙ ap length text in
+    fills-text (now (a .out)) (c .before .before .put-rows .last .0) (hoursText (linesOf (now (a .bytes)))) (c .before .before .before .before .before .text-len .result) (omega (arith, c .before .before .before .before .if1 .left)) n (c .before .before .put-rows .ensures ∙ ap (sets (now (a .out)) 0) text)
 
 pub print-lines-spec : {M : Type 1} → statement M
 print-lines-spec =
