@@ -2,3 +2,4 @@ pub mod Floats
 pub mod Tallying
 pub mod Answering
 pub mod Printing
+pub mod Reporting

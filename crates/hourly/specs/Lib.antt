@@ -7,3 +7,4 @@ pub mod Rows
 pub mod Determined
 pub mod Accepted
 pub mod Bounds
+pub mod Report

@@ -15,6 +15,7 @@ ghost use Rattle.hourly.specs.Hours.{askOf, hourOf};
 ghost use Rattle.hourly.specs.Text.{measured, rowText, hoursText, printOf};
 ghost use Rattle.hourly.specs.Tally.{noTally, withDose, counted, linesOf, Tells, hourFrom, saysShown, Summed, shownOf, textBy, Printable, hoursIn};
 ghost use Rattle.hourly.specs.Rows.{tailText};
+ghost use Rattle.hourly.specs.Report.{refusalText, refusalOf, reportOf};
 ghost use Rattle.text.specs.Put.{Puts};
 ghost use Rattle.hourly.specs.Says.{saysAsked, saysPrinted};
 
@@ -350,5 +351,59 @@ pub fn print(bytes: &[u8], out: &mut [u8]) -> Printed
     match judged {
         Judged::Lines(found) => print_lines(bytes, found, out),
         Judged::Refused(refusal) => Printed::Refused(refusal),
+    }
+}
+
+// ---- the program
+
+// R, a refusal's number and its line, if they have room.
+fn put_refused(out: &mut [u8], number: u64, line: u64) -> usize
+    ensures { λ r. ⌜ Puts (now (out .entry)) 0 (refusalText number line) (now (out .exit)) r ⌝ }
+{
+    let n = text::decimal_len(number) + text::decimal_len(line) + 4;
+    if out.len() < n {
+        return 0;
+    }
+    let mut p = text::put_byte(out, 0, b'R');
+    p = text::put_byte(out, p, TAB);
+    p = text::put_decimal(out, p, number);
+    p = text::put_byte(out, p, TAB);
+    p = text::put_decimal(out, p, line);
+    text::put_byte(out, p, LF)
+}
+
+// The one line of a journal's refusal.
+fn put_refusal(out: &mut [u8], refusal: Refusal) -> usize
+    ensures { λ r. ⌜ Puts (now (out .entry)) 0 (refusalOf refusal) (now (out .exit)) r ⌝ }
+{
+    match refusal {
+        Refusal::R10(line) => put_refused(out, 10, line as u64),
+        Refusal::R11(line) => put_refused(out, 11, line as u64),
+        Refusal::R12(line) => put_refused(out, 12, line as u64),
+        Refusal::R13 => put_refused(out, 13, 0),
+    }
+}
+
+// The text of an accepted journal, if it has room, and its length.
+fn put_lines(out: &mut [u8], bytes: &[u8], found: Summary) -> usize
+    requires { ⌜ told summaryOf (journalOf (now bytes)) ≡ done found ⌝ }
+    ensures { λ r. ⌜ Puts (now (out .entry)) 0 (hoursText (linesOf (now (bytes .entry)))) (now (out .exit)) r ⌝ }
+{
+    let printed = print_lines(bytes, found, out);
+    match printed {
+        Printed::Text(n) => n,
+        Printed::Refused(_) => 0,
+        Printed::R8 => 0,
+    }
+}
+
+// What the hour program prints for a journal, if it has room: its text, or the line of its refusal.
+pub fn report(bytes: &[u8], out: &mut [u8]) -> usize
+    ensures { λ r. ⌜ Puts (now (out .entry)) 0 (reportOf (now (bytes .entry))) (now (out .exit)) r ⌝ }
+{
+    let judged = journal::read(bytes);
+    match judged {
+        Judged::Lines(found) => put_lines(out, bytes, found),
+        Judged::Refused(refusal) => put_refusal(out, refusal),
     }
 }
