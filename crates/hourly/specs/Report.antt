@@ -1,17 +1,22 @@
 -- What the hour program prints (document 01, "Journal and hours"). Assumes nothing.
-use mathlib.Core.Path.{_≡_, refl, ap, _∙_}
+use mathlib.Core.Path.{_≡_, refl, sym, ap, _∙_}
 use mathlib.Core.Bool.{Bool, true, false, _&&_}
 use mathlib.Core.List.{List, [], _∷_, _++_}
 use Prim.Native.Nat.{ℕ, zero, suc, _+_, _≤_, _<_}
 use native.Mathlib.Omega.{arith}
+use native.Mathlib.Decide.{decLt}
 use lib.Dec.{ltb}
-use lib.ListN.{length, getD, length-append}
+use lib.ListN.{length, getD, take, drop, length-append}
+use lib.Seq.{take-at}
 use borrow.Author.Tests.{ltb-false}
 use Rattle.laws.specs.Pick.{pick}
+use Rattle.laws.specs.Over.{over, sets-over}
 use Rattle.laws.specs.Decimal.{decimal, digitsOf, glyph, Parsed, good, bad}
 use Rattle.laws.specs.DecimalLaws.{decimal-length}
 use Rattle.paper.specs.Answer.{Answer, done, refused, fault, told}
 use Rattle.paper.specs.Numbers.{R10, R11, R12, R13}
+use Rattle.text.specs.Put.{Puts}
+use Rattle.text.specs.PutLaws.{room-is, room-not, puts-fit, puts-none, puts-length}
 use Rattle.journal.specs.Line.{LF, TAB, lineOf}
 use Rattle.journal.specs.Journal.{hourIn, outOfOrder, tooFar, pastAfter, noPast, ordered, onLine, readFrom, journalOf}
 use Rattle.journal.specs.declared.Line.{Line}
@@ -119,3 +124,22 @@ report-short s = go (journalOf s) refl
     go (done ls) p = text-short ls (accepted s ls p)
     go (refused k vs) p = let r = journal-named s k vs p in refusal-short k (getD vs 0 0) (r .number) (r .line)
     go (fault k vs) p = omega arith
+
+-- ---- what stands in the buffer
+
+-- what was put stands inside the buffer
+pub put-inside : {old text new : List ℕ} {r : ℕ} → Puts old 0 text new r → r ≤ length new
+put-inside {old} {text} {new} {r} p = go (decLt (length old) (length text))
+  where
+    go : Dec (length old < length text) → r ≤ length new
+    go (yes h) = omega (arith, puts-none (room-not old 0 text (omega arith)) p .1)
+    go (no h) = omega (arith, puts-fit (room-is old 0 text (omega arith)) p .1, puts-length p)
+
+-- with 33,480 bytes the report stands there whole
+pub report-whole : (s : List ℕ) {old new : List ℕ} {r : ℕ} → 33480 ≤ length old → Puts old 0 (reportOf s) new r → (r ≡ length (reportOf s)) × (take r new ≡ reportOf s)
+unfolding over
+report-whole s {old} {new} {r} h p =
+    let b : length (reportOf s) ≤ length old = omega (arith, report-short s) in
+    let f = puts-fit (room-is old 0 (reportOf s) (omega arith)) p in
+    let n : r ≡ length (reportOf s) = f .1 ∙ omega arith in
+    (n, ap (take r) (f .0 ∙ sets-over old (reportOf s) b) ∙ take-at (reportOf s) (drop (length (reportOf s)) old) r (sym n))
