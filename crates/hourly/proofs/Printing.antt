@@ -72,7 +72,8 @@ measured-length h doses sum bits =
       length-append (decimal h) (TAB ∷ letterM ∷ TAB ∷ (decimal doses ++ TAB ∷ (decimal sum ++ TAB ∷ (hexOf 16 bits ++ LF ∷ [])))),
       length-append (decimal doses) (TAB ∷ (decimal sum ++ TAB ∷ (hexOf 16 bits ++ LF ∷ []))),
       length-append (decimal sum) (TAB ∷ (hexOf 16 bits ++ LF ∷ [])),
-      length-append (hexOf 16 bits) (LF ∷ []))
+      length-append (hexOf 16 bits) (LF ∷ []),
+    )
 
 pub idle-length : (h : ℕ) → length (rowText h idle) ≡ length (decimal h) + 3
 unfolding rowText
@@ -118,14 +119,13 @@ pub rest-stored : (table : List Tally) (first hours k : ℕ) (row : Row) (out ne
     → (sets new r (restBy table first hours (k + 1)) ≡ whole) × (r ≡ at + length (rowText (first + k) row)) × (length new ≡ length out)
 rest-stored table first hours k row out new whole at r p h e room puts left =
     let a = puts-fit (room-is out at (rowText (first + k) row) room) puts in
-    let text = restBy table first hours (k + 1) in
-    (
+    let text = restBy table first hours (k + 1) in (
       ap (λ (o : List ℕ). sets o r text) (a .0)
-      ∙ ap (λ (i : ℕ). sets (sets out at (rowText (first + k) row)) i text) (a .1)
-      ∙ sym (sets-append out at (rowText (first + k) row) text)
-      ∙ ap (λ (w : Row). sets out at (rowText (first + k) w ++ text)) e
-      ∙ ap (sets out at) (sym (rest-row table first hours k p h))
-      ∙ left,
+          ∙ ap (λ (i : ℕ). sets (sets out at (rowText (first + k) row)) i text) (a .1)
+          ∙ sym (sets-append out at (rowText (first + k) row) text)
+          ∙ ap (λ (w : Row). sets out at (rowText (first + k) w ++ text)) e
+          ∙ ap (sets out at) (sym (rest-row table first hours k p h))
+          ∙ left,
       a .1,
       puts-length puts,
     )
@@ -205,25 +205,25 @@ module _ (s : List ℕ) (table : List Tally) (a : Accepted s (linesOf s)) (t : T
       let n : length (take hours table) ≡ hours = length-take-le hours table (omega (arith, hours-few (linesOf s) a, t .size)) in
       let rows = rows-tell (linesOf s) (take hours table) (firstHour (linesOf s)) (λ k b. shown k (omega arith)) in
       ap rowsText (
-        rows
-        ∙ ap (λ (m : ℕ). map (λ k. record { hour = k; row = rowOf (linesOf s) k }) (hoursFrom (firstHour (linesOf s)) m)) n
-        ∙ ap (map (λ k. record { hour = k; row = rowOf (linesOf s) k })) (sym (span-is (linesOf s))))
+      rows
+      ∙ ap (λ (m : ℕ). map (λ k. record { hour = k; row = rowOf (linesOf s) k }) (hoursFrom (firstHour (linesOf s)) m)) n
+      ∙ ap (map (λ k. record { hour = k; row = rowOf (linesOf s) k })) (sym (span-is (linesOf s))))
 
   prints-lines : Prints s (summaryOf (linesOf s)) table
   unfolding summaryOf tallyOf
   prints-lines =
       record {
         printable =
-          record {
-            size = t .size;
-            few = hours-few (linesOf s) a;
-            summed = λ k b. record {
-              whole = total (amountsAt (firstHour (linesOf s) + k) (linesOf s));
-              exact = ap (λ (x : Tally). x .sum) (t .at k (omega (arith, hours-few (linesOf s) a)));
-              small = sum-small (linesOf s) (firstHour (linesOf s) + k) a;
+            record {
+              size = t .size;
+              few = hours-few (linesOf s) a;
+              summed = λ k b. record {
+                whole = total (amountsAt (firstHour (linesOf s) + k) (linesOf s));
+                exact = ap (λ (x : Tally). x .sum) (t .at k (omega (arith, hours-few (linesOf s) a)));
+                small = sum-small (linesOf s) (firstHour (linesOf s) + k) a;
+              };
+              short = omega (arith, ap length printed, text-short (linesOf s) a);
             };
-            short = omega (arith, ap length printed, text-short (linesOf s) a);
-          };
         text = printed;
       }
 

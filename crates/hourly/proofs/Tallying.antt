@@ -209,10 +209,10 @@ turn s ls first table at n r a f h c e =
       high = high;
       few = old-few ls first table n h (c .tells) (a .ranged) (few-lines a) low high;
       again =
-        record {
-          left = rest-back s (take at s ++ textOf l) rest whole ∙ ap (λ (k : ℕ). journalText (drop k ls)) (sym (add-one n));
-          tells = tells-again ls first table n h (c .tells) (a .ranged) (few-lines a) low high;
-        };
+          record {
+            left = rest-back s (take at s ++ textOf l) rest whole ∙ ap (λ (k : ℕ). journalText (drop k ls)) (sym (add-one n));
+            tells = tells-again ls first table n h (c .tells) (a .ranged) (few-lines a) low high;
+          };
     } in
     subst (Taken s ls first table n) (sym (at-one r (record { line = l; next = length s - length rest }) (e ∙ ap (placed (length s)) read))) taken
 

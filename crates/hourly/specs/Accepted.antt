@@ -101,7 +101,8 @@ rises (suc f) p n (b ∷ bs) ls h e =
     subst (Rising (p .first) (p .last)) (sym (t .lines)) (
       not-before (p .last) (p .closed) (hourIn (t .line)) (under (p .begun) _ h (t .after)),
       within-span (p .first) (hourIn (t .line)) (under (p .begun) _ h (t .near)),
-      subst (λ (b : Bool). Rising (pick b (p .first) (hourIn (t .line))) (hourIn (t .line)) (t .more)) h r)
+      subst (λ (b : Bool). Rising (pick b (p .first) (hourIn (t .line))) (hourIn (t .line)) (t .more)) h r,
+    )
 
 -- each line's hour is from lo to hi
 abbrev pub Between : ℕ → ℕ → List Line → Type 0

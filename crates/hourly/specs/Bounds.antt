@@ -89,7 +89,8 @@ row-short h (measured doses sum bits) a b =
       length-append (decimal h) (TAB ∷ letterM ∷ TAB ∷ (decimal doses ++ TAB ∷ (decimal sum ++ TAB ∷ (hexOf 16 bits ++ LF ∷ [])))),
       length-append (decimal doses) (TAB ∷ (decimal sum ++ TAB ∷ (hexOf 16 bits ++ LF ∷ []))),
       length-append (decimal sum) (TAB ∷ (hexOf 16 bits ++ LF ∷ [])),
-      length-append (hexOf 16 bits) (LF ∷ []))
+      length-append (hexOf 16 bits) (LF ∷ []),
+    )
 row-short h idle a b = omega (arith, decimal-length 7 h a (omega arith), length-append (decimal h) (TAB ∷ letterI ∷ LF ∷ []))
 row-short h missing a b = omega (arith, decimal-length 7 h a (omega arith), length-append (decimal h) (TAB ∷ letterX ∷ LF ∷ []))
 
@@ -109,7 +110,8 @@ rows-short ls h (suc n) f =
       arith,
       f h (omega arith),
       rows-short ls (suc h) n (λ k l. f k (omega arith)),
-      length-append (rowText h (rowOf ls h)) (rowsText (map (λ k. record { hour = k; row = rowOf ls k }) (hoursFrom (suc h) n))))
+      length-append (rowText h (rowOf ls h)) (rowsText (map (λ k. record { hour = k; row = rowOf ls k }) (hoursFrom (suc h) n))),
+    )
 
 last-most : (ls : List Line) → Ranged ls → lastHour ls ≤ 9999999
 unfolding lastHour
@@ -129,7 +131,8 @@ text-short (l ∷ ls) a =
     let span = a .span in
     omega (
       arith,
-      rows-short (l ∷ ls) (firstHour (l ∷ ls)) (suc (lastHour (l ∷ ls) - firstHour (l ∷ ls))) (λ k h. row k (omega arith) lines (modest k (l ∷ ls) (a .ranged))))
+      rows-short (l ∷ ls) (firstHour (l ∷ ls)) (suc (lastHour (l ∷ ls) - firstHour (l ∷ ls))) (λ k h. row k (omega arith) lines (modest k (l ∷ ls) (a .ranged))),
+    )
   where
     row : (k : ℕ) → k < 10000000 → length (l ∷ ls) ≤ 16384 → Modest (length (l ∷ ls)) (amountsAt k (l ∷ ls)) → length (rowText k (rowOf (l ∷ ls) k)) ≤ 45
     row k h n m = row-short k (rowOf (l ∷ ls) k) h (row-of-short k (l ∷ ls) (omega (arith, m .few)) (omega (arith, m .sum)))

@@ -105,7 +105,8 @@ refusal-short number line h l =
       decimal-length 2 number (omega arith) (omega arith),
       decimal-length 5 line (omega arith) (omega arith),
       length-append (decimal number) (TAB ∷ (decimal line ++ LF ∷ [])),
-      length-append (decimal line) (LF ∷ []))
+      length-append (decimal line) (LF ∷ []),
+    )
 
 journal-named : (s : List ℕ) (k : ℕ) (vs : List ℕ) → journalOf s ≡ refused k vs → Named 65537 k vs
 unfolding journalOf pick

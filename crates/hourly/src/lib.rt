@@ -238,6 +238,7 @@ fn row_len(hour: u64, row: Shown) -> usize
 }
 
 const TAB: u8 = 9;
+
 const LF: u8 = 10;
 
 // M and the figures of a measured hour, behind the hour and its tab.

@@ -12,13 +12,13 @@ use Rattle.hourly.proofs.hour_among.Statement.{statement}
 use Rattle.hourly.proofs.hour_among.Tie as tie
 
 returns : tie.Need-returns
-returns c = 
+returns c =
     let a = c .before .before .before .args in
     let f = found-of (now (a .bytes)) (a .found) (c .before .before .before .pre) in
     sym (outside-missing (linesOf (now (a .bytes))) (a .hour) (found-accepted f) (inl (omega (arith, f .first, c .if1 .taken))))
 
 returns-2 : tie.Need-returns-2
-returns-2 c = 
+returns-2 c =
     let a = c .before .before .before .before .before .args in
     let f = found-of (now (a .bytes)) (a .found) (c .before .before .before .before .before .pre) in
     sym (outside-missing (linesOf (now (a .bytes))) (a .hour) (found-accepted f) (inr (omega (arith, f .last, c .if2 .taken))))
@@ -33,7 +33,7 @@ mul-tally : tie.Need-mul-tally
 mul-tally c = search needs
 
 array-copy-out-tally : tie.Need-array-copy-out-tally
-array-copy-out-tally c = 
+array-copy-out-tally c =
     let a = c .before .before .before .before .before .before .before .args in
     let f = found-of (now (a .bytes)) (a .found) (c .before .before .before .before .before .before .before .pre) in
     omega (arith, f .first, f .last, found-accepted f .span, c .before .before .if2 .left, c .before .before .before .before .if1 .left)
@@ -42,7 +42,7 @@ hour-from-requires : tie.Need-hour-from-requires
 hour-from-requires c κs = search needs
 
 returns-3 : tie.Need-returns-3
-returns-3 c = 
+returns-3 c =
     let a = c .before .before .before .before .before .before .before .before .before .args in
     let f = found-of (now (a .bytes)) (a .found) (c .before .before .before .before .before .before .before .before .before .pre) in
     let k : a .hour - a .found .first < 744 = omega (arith, f .first, f .last, found-accepted f .span, c .before .before .before .before .if2 .left, c .before .before .before .before .before .before .if1 .left) in

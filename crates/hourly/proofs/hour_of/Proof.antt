@@ -26,14 +26,14 @@ enum-known-judged-2 c = search needs
 
 returns : tie.Need-returns
 unfolding askOf told
-returns c = 
+returns c =
     let a = c .before .before .before .before .before .before .args in
     let f = found-of (now (a .bytes)) (c .before .before .judged .given .0 .0) (sym (c .before .before .before .before .read .ensures) ∙ ap saysJudged (c .before .before .judged .given .1)) in
     ap done (c .hour-among .ensures) ∙ sym (ap (told (λ (ls : List Line). hourOf ls (a .hour))) (f .journal))
 
 returns-2 : tie.Need-returns-2
 unfolding askOf
-returns-2 c = 
+returns-2 c =
     let a = c .before .before .before .before .before .args in
     refused-told summaryOf (λ (ls : List Line). hourOf ls (a .hour)) (journalOf (now (a .bytes))) (c .before .judged2 .given .0 .0)
     (sym (ap saysJudged (c .before .judged2 .given .1)) ∙ c .before .before .before .read .ensures)

@@ -31,14 +31,14 @@ same-length c = search needs
 
 returns : tie.Need-returns
 unfolding printOf onDone
-returns c = 
+returns c =
     let a = c .before .before .before .before .before .before .before .before .before .before .args in
     let f = found-of (now (a .bytes)) (c .before .before .before .before .before .judged .given .0 .0) (sym (c .before .before .before .before .before .before .before .read .ensures) ∙ ap saysJudged (c .before .before .before .before .before .judged .given .1)) in
     subst (λ (x : Answer (List Line)). Fills (saysPrinted (c .before .before .print-lines .result)) (onDone x (λ ls. inRoom [] (length (now (a .out))) (hoursText ls))) (now (a .out)) (c .before .before .print-lines .last .1 .1 .0)) (sym (f .journal)) (c .before .before .print-lines .ensures)
 
 returns-2 : tie.Need-returns-2
 unfolding printOf
-returns-2 c = 
+returns-2 c =
     let a = c .before .before .before .before .before .before .args in
     refused-fills summaryOf (λ (ls : List Line). inRoom [] (length (now (a .out))) (hoursText ls)) (journalOf (now (a .bytes))) (c .before .judged2 .given .0 .0) (now (a .out))
     (sym (ap saysJudged (c .before .judged2 .given .1)) ∙ c .before .before .before .read .ensures)

@@ -19,20 +19,20 @@ hours-in-requires : tie.Need-hours-in-requires
 hours-in-requires c κs = first-last (found-of (now (c .before .before .before .args .bytes)) (c .before .before .before .args .found) (c .before .before .before .pre))
 
 text-len-requires : tie.Need-text-len-requires
-text-len-requires c κs = 
+text-len-requires c κs =
     let a = c .before .before .before .before .args in
     let p = prints (now (a .bytes)) (a .found) (c .before .tallies .result) (found-of (now (a .bytes)) (a .found) (c .before .before .before .before .pre)) (c .before .tallies .ensures) in
     rw (c .hours-in .ensures) (p .printable)
 
 returns : tie.Need-returns
-returns c = 
+returns c =
     let a = c .before .before .before .before .before .before .args in
     let p = prints (now (a .bytes)) (a .found) (c .before .before .before .tallies .result) (found-of (now (a .bytes)) (a .found) (c .before .before .before .before .before .before .pre)) (c .before .before .before .tallies .ensures) in
     let n : c .before .text-len .result ≡ length (hoursText (linesOf (now (a .bytes)))) = c .before .text-len .ensures ∙ ap (λ (h : ℕ). length (textBy (c .before .before .before .tallies .result) (a .found .first) h)) (c .before .before .hours-in .ensures) ∙ ap length (p .text) in
     fills-none (now (a .out)) (hoursText (linesOf (now (a .bytes)))) (omega (arith, c .if1 .taken))
 
 put-rows-requires : tie.Need-put-rows-requires
-put-rows-requires c κs = 
+put-rows-requires c κs =
     let a = c .before .before .before .before .before .before .before .args in
     let p = prints (now (a .bytes)) (a .found) (c .before .before .before .before .tallies .result) (found-of (now (a .bytes)) (a .found) (c .before .before .before .before .before .before .before .pre)) (c .before .before .before .before .tallies .ensures) in
     (rw (c .before .before .before .hours-in .ensures) (p .printable), omega (arith, c .before .before .text-len .ensures, c .before .if1 .left))
@@ -41,7 +41,7 @@ same-length : tie.Need-same-length
 same-length c = search needs
 
 returns-2 : tie.Need-returns-2
-returns-2 c = 
+returns-2 c =
     let a = c .before .before .before .before .before .before .before .before .before .before .args in
     let p = prints (now (a .bytes)) (a .found) (c .before .before .before .before .before .before .before .tallies .result) (found-of (now (a .bytes)) (a .found) (c .before .before .before .before .before .before .before .before .before .before .pre)) (c .before .before .before .before .before .before .before .tallies .ensures) in
     let text : textBy (c .before .before .before .before .before .before .before .tallies .result) (a .found .first) (c .before .before .before .before .before .before .hours-in .result) ≡ hoursText (linesOf (now (a .bytes))) = ap (textBy (c .before .before .before .before .before .before .before .tallies .result) (a .found .first)) (c .before .before .before .before .before .before .hours-in .ensures) ∙ p .text in

@@ -25,7 +25,7 @@ same-length : tie.Need-same-length
 same-length c = search needs
 
 returns : tie.Need-returns
-returns c = 
+returns c =
     let a = c .before .before .before .before .before .before .before .before .before .args in
     let p = c .before .before .before .before .before .print-lines in
     subst (λ (x : Printed). Puts (now (a .out)) 0 (hoursText (linesOf (now (a .bytes)))) (p .last .1 .1 .0) (sizeOf x)) (c .before .printed .given .1)
@@ -35,7 +35,7 @@ same-length-2 : tie.Need-same-length-2
 same-length-2 c = search needs
 
 returns-2 : tie.Need-returns-2
-returns-2 c = 
+returns-2 c =
     let a = c .before .before .before .before .before .before .before .before .args in
     let p = c .before .before .before .before .print-lines in
     subst (λ (x : Printed). Puts (now (a .out)) 0 (hoursText (linesOf (now (a .bytes)))) (p .last .1 .1 .0) (sizeOf x)) (c .enum-told .given .1)
@@ -45,7 +45,7 @@ same-length-3 : tie.Need-same-length-3
 same-length-3 c = search needs
 
 returns-3 : tie.Need-returns-3
-returns-3 c = 
+returns-3 c =
     let a = c .before .before .before .before .before .before .before .before .args in
     let p = c .before .before .before .before .print-lines in
     subst (λ (x : Printed). Puts (now (a .out)) 0 (hoursText (linesOf (now (a .bytes)))) (p .last .1 .1 .0) (sizeOf x)) (c .enum-told2 .given .1)

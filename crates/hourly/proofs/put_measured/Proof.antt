@@ -38,7 +38,7 @@ same-length c = search needs
 
 returns : tie.Need-returns
 unfolding tailText
-returns c = 
+returns c =
     let a = c .before .before .before .before .before .before .before .before .before .before .before .before .before .before .before .before .before .before .before .before .before .before .before .before .before .before .before .before .before .before .before .before .before .args in
     let t7 : List ℕ = LF ∷ [] in
     let t6 : List ℕ = hexOf 16 (a .bits) ++ t7 in

@@ -27,7 +27,7 @@ add-n-2 : tie.Need-add-n-2
 add-n-2 c = omega (arith, c .before .decimal-len .ensures, digits-most (c .before .before .before .args .number) (search needs), c .decimal-len2 .ensures, digits-most (c .before .before .before .args .line) (search needs))
 
 returns : tie.Need-returns
-returns c = 
+returns c =
     let a = c .before .before .before .before .args in
     none-puts (now (a .out)) 0 (refusalText (a .number) (a .line)) (room-not (now (a .out)) 0 (refusalText (a .number) (a .line)) (omega (arith, c .if1 .taken, c .before .before .decimal-len .ensures, c .before .decimal-len2 .ensures, refusal-length (a .number) (a .line))))
 
@@ -54,7 +54,7 @@ same-length c = search needs
 
 returns-2 : tie.Need-returns-2
 unfolding refusalText
-returns-2 c = 
+returns-2 c =
     let a = c .before .before .before .before .before .before .before .before .before .before .before .before .before .before .before .before .before .before .before .before .before .before .before .before .before .before .before .before .args in
     let t5 : List ℕ = LF ∷ [] in
     let t4 : List ℕ = decimal (a .line) ++ t5 in

@@ -20,7 +20,7 @@ put-byte-requires : tie.Need-put-byte-requires
 put-byte-requires c κs = search needs
 
 put-tail-requires : tie.Need-put-tail-requires
-put-tail-requires c κs = 
+put-tail-requires c κs =
     let a = c .before .before .before .before .before .before .before .before .before .before .args in
     let tail = tailText (saysShown (a .row)) in
     let room : a .at + length (decimal (a .hour) ++ TAB ∷ tail) ≤ length (now (a .out)) = rw (row-is (a .hour) (saysShown (a .row))) at (c .before .before .before .before .before .before .before .before .before .before .pre) in
@@ -30,7 +30,7 @@ same-length : tie.Need-same-length
 same-length c = search needs
 
 returns : tie.Need-returns
-returns c = 
+returns c =
     let a = c .before .before .before .before .before .before .before .before .before .before .before .before .before .args in
     let tail = tailText (saysShown (a .row)) in
     let room : a .at + length (decimal (a .hour) ++ TAB ∷ tail) ≤ length (now (a .out)) = rw (row-is (a .hour) (saysShown (a .row))) at (c .before .before .before .before .before .before .before .before .before .before .before .before .before .pre) in

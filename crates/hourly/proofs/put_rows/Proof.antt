@@ -18,7 +18,7 @@ abbrev μ-loop : tie.MeasureT-loop
 μ-loop out₀ first hours table at₀ k₀ out at k = hours - k
 
 loop-holds : tie.Need-loop-holds Inv-loop μ-loop
-loop-holds c = 
+loop-holds c =
     let a = c .before .args in
     let e = rest-whole (a .t2) (a .first) (a .hours) in
     (omega arith, search needs, omega (arith, ap length e), ap (sets (now (a .out)) 0) e)
@@ -36,7 +36,7 @@ shown-from-requires : tie.Need-shown-from-requires Inv-loop μ-loop
 shown-from-requires c κs = c .before .before .before .before .before .pre .0 .summed (c .before .before .before .loop .k) (c .before .before .loop-test .taken)
 
 put-row-requires : tie.Need-put-row-requires Inv-loop μ-loop
-put-row-requires c κs = 
+put-row-requires c κs =
     let a = c .before .before .before .before .before .before .args in
     let l = c .before .before .before .before .loop in
     let e = rest-length (a .t2) (a .first) (a .hours) (l .k) (saysShown (c .shown-from .result)) (c .before .before .before .before .before .before .pre .0) (c .before .before .before .loop-test .taken) (c .shown-from .ensures) in
@@ -49,7 +49,7 @@ loop-less : tie.Need-loop-less Inv-loop μ-loop
 loop-less c = omega (arith, c .before .before .before .before .before .before .loop-test .taken)
 
 loop-again : tie.Need-loop-again Inv-loop μ-loop
-loop-again c = 
+loop-again c =
     let a = c .before .before .before .before .before .before .before .before .before .args in
     let l = c .before .before .before .before .before .before .before .loop in
     let p = c .before .before .before .before .before .before .before .before .before .pre .0 in
@@ -65,7 +65,7 @@ same-length : tie.Need-same-length Inv-loop μ-loop
 same-length c = c .before .loop .inv .1
 
 returns : tie.Need-returns Inv-loop μ-loop
-returns c = 
+returns c =
     let a = c .before .before .before .args in
     let l = c .before .loop in
     ap (sets (l .out) (l .at)) (sym (rest-none (a .t2) (a .first) (a .hours) (l .k) (c .before .before .before .pre .0) (c .loop-test .left))) ∙ l .inv .3

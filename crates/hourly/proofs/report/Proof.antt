@@ -34,7 +34,7 @@ same-length c = search needs
 
 returns : tie.Need-returns
 unfolding reportOf reportFrom
-returns c = 
+returns c =
     let a = c .before .before .before .before .before .before .before .before .before .before .args in
     let f = found-of (now (a .bytes)) (c .before .before .before .before .before .judged .given .0 .0) (sym (c .before .before .before .before .before .before .before .read .ensures) ∙ ap saysJudged (c .before .before .before .before .before .judged .given .1)) in
     subst (λ (x : Answer (List Line)). Puts (now (a .out)) 0 (reportFrom x) (c .before .before .put-lines .last .0) (c .before .before .put-lines .result)) (sym (f .journal)) (c .before .before .put-lines .ensures)
@@ -44,7 +44,7 @@ same-length-2 c = search needs
 
 returns-2 : tie.Need-returns-2
 unfolding reportOf
-returns-2 c = 
+returns-2 c =
     let a = c .before .before .before .before .before .before .before .before .before .before .args in
     let e = refused-report (journalOf (now (a .bytes))) (c .before .before .before .before .before .judged2 .given .0 .0) (sym (ap saysJudged (c .before .before .before .before .before .judged2 .given .1)) ∙ c .before .before .before .before .before .before .before .read .ensures) in
     subst (λ (x : List ℕ). Puts (now (a .out)) 0 x (c .before .before .put-refusal .last .0) (c .before .before .put-refusal .result)) (sym e) (c .before .before .put-refusal .ensures)

@@ -47,18 +47,18 @@ add-result-5 : tie.Need-add-result-5
 add-result-5 c = omega (arith, c .before .before .decimal-len .ensures, digits-most (c .before .before .before .args .hour) (search needs))
 
 returns : tie.Need-returns
-returns c = 
+returns c =
     let r = c .before .before .before .row .given in
     subst (λ (x : Shown). c .before .before .before .before .before .decimal-len .result + 22 + c .before .decimal-len2 .result + c .decimal-len3 .result ≡ length (rowText (c .before .before .before .before .before .before .args .hour) (saysShown x))) (sym (r .1))
     (omega (arith, c .before .before .before .before .before .decimal-len .ensures, c .before .decimal-len2 .ensures, c .decimal-len3 .ensures, measured-length (c .before .before .before .before .before .before .args .hour) (r .0 .0) (r .0 .1 .0) (r .0 .1 .1 .0)))
 
 returns-2 : tie.Need-returns-2
-returns-2 c = 
+returns-2 c =
     subst (λ (x : Shown). c .before .before .decimal-len .result + 3 ≡ length (rowText (c .before .before .before .args .hour) (saysShown x))) (sym (c .enum-told .given .1))
     (omega (arith, c .before .before .decimal-len .ensures, idle-length (c .before .before .before .args .hour)))
 
 returns-3 : tie.Need-returns-3
-returns-3 c = 
+returns-3 c =
     subst (λ (x : Shown). c .before .before .decimal-len .result + 3 ≡ length (rowText (c .before .before .before .args .hour) (saysShown x))) (sym (c .enum-told2 .given .1))
     (omega (arith, c .before .before .decimal-len .ensures, missing-length (c .before .before .before .args .hour)))
 

@@ -34,7 +34,7 @@ row-len-requires : tie.Need-row-len-requires Inv-loop μ-loop
 row-len-requires c κs = search needs
 
 add-n : tie.Need-add-n Inv-loop μ-loop
-add-n c = 
+add-n c =
     let a = c .before .before .before .before .before .args in
     let l = c .before .before .before .before .loop in
     let e = rest-length (a .t1) (a .first) (a .hours) (l .k) (saysShown (c .before .shown-from .result)) (c .before .before .before .before .before .pre) (c .before .before .before .loop-test .taken) (c .before .shown-from .ensures) in
@@ -47,14 +47,14 @@ loop-less : tie.Need-loop-less Inv-loop μ-loop
 loop-less c = omega arith
 
 loop-again : tie.Need-loop-again Inv-loop μ-loop
-loop-again c = 
+loop-again c =
     let a = c .before .before .before .before .before .args in
     let l = c .before .before .before .before .loop in
     let e = rest-length (a .t1) (a .first) (a .hours) (l .k) (saysShown (c .before .shown-from .result)) (c .before .before .before .before .before .pre) (c .before .before .before .loop-test .taken) (c .before .shown-from .ensures) in
     (omega arith, omega (arith, c .row-len .ensures, l .inv .1))
 
 returns : tie.Need-returns Inv-loop μ-loop
-returns c = 
+returns c =
     let a = c .before .before .args in
     let l = c .before .loop in
     omega (arith, l .inv .1, ap length (rest-none (a .t1) (a .first) (a .hours) (l .k) (c .before .before .pre) (c .loop-test .left)))
