@@ -7,4 +7,5 @@ pub mod Rows
 pub mod Determined
 pub mod Accepted
 pub mod Bounds
+pub mod Exact
 pub mod Report

@@ -46,8 +46,15 @@ pub enum Printed {
     R8,
 }
 
-// So many bytes hold the text of every journal.
+// So many bytes hold what is printed of any journal.
 pub const ENOUGH: usize = 33480;
+
+// A journal has at most so many hours.
+const SPAN: usize = 744;
+
+const TAB: u8 = 9;
+
+const LF: u8 = 10;
 
 // What the lines so far tell of one hour: the number of its doses, their sum, the largest amount, and whether its H was there.
 struct Tally {
@@ -67,7 +74,7 @@ enum Shown {
 // ---- the lines counted
 
 // Every hour before the first line.
-fn no_tallies() -> [Tally; 744]
+fn no_tallies() -> [Tally; SPAN]
     ensures { λ r. ⌜ r ≡ replicate 744 noTally ⌝ }
 {
     [Tally {
@@ -75,9 +82,10 @@ fn no_tallies() -> [Tally; 744]
         sum: 0.0f64,
         largest: 0,
         on: false,
-    }; 744]
+    }; SPAN]
 }
 
+// The larger of two amounts.
 fn larger(a: u32, b: u32) -> u32
     ensures { λ r. ⌜ r ≡ max a b ⌝ }
 {
@@ -133,7 +141,7 @@ fn place(line: Line, first: u32) -> usize
 }
 
 // The tallies of the hours from the first on, in one pass over the lines of a journal that was accepted.
-fn tallies(bytes: &[u8], found: Summary) -> [Tally; 744]
+fn tallies(bytes: &[u8], found: Summary) -> [Tally; SPAN]
     requires { ⌜ told summaryOf (journalOf (now bytes)) ≡ done found ⌝ }
     ensures { λ r. ⌜ Tells r (found .first) (linesOf (now (bytes .entry))) ⌝ }
 {
@@ -237,10 +245,6 @@ fn row_len(hour: u64, row: Shown) -> usize
     }
 }
 
-const TAB: u8 = 9;
-
-const LF: u8 = 10;
-
 // M and the figures of a measured hour, behind the hour and its tab.
 fn put_measured(out: &mut [u8], at: usize, doses: u64, sum: u64, bits: u64) -> usize
     requires { ⌜ at + length (tailText (measured doses sum bits)) ≤ length (now out) ⌝ }
@@ -288,7 +292,7 @@ fn put_row(out: &mut [u8], at: usize, hour: u64, row: Shown) -> usize
 }
 
 // How many bytes the rows of the first hours of a table have.
-fn text_len(table: [Tally; 744], first: u32, hours: usize) -> usize
+fn text_len(table: [Tally; SPAN], first: u32, hours: usize) -> usize
     requires { ⌜ Printable table first hours ⌝ }
     ensures { λ r. ⌜ r ≡ length (textBy table first hours) ⌝ }
 {
@@ -303,7 +307,7 @@ fn text_len(table: [Tally; 744], first: u32, hours: usize) -> usize
 }
 
 // The rows of the first hours of a table, stored from the buffer's start.
-fn put_rows(out: &mut [u8], table: [Tally; 744], first: u32, hours: usize)
+fn put_rows(out: &mut [u8], table: [Tally; SPAN], first: u32, hours: usize)
     requires printable { ⌜ Printable table first hours ⌝ }
     requires room { ⌜ length (textBy table first hours) ≤ length (now out) ⌝ }
     ensures { λ _. ⌜ now (out .exit) ≡ sets (now (out .entry)) 0 (textBy table first hours) ⌝ }
@@ -361,8 +365,8 @@ pub fn print(bytes: &[u8], out: &mut [u8]) -> Printed
 fn put_refused(out: &mut [u8], number: u64, line: u64) -> usize
     ensures { λ r. ⌜ Puts (now (out .entry)) 0 (refusalText number line) (now (out .exit)) r ⌝ }
 {
-    let n = text::decimal_len(number) + text::decimal_len(line) + 4;
-    if out.len() < n {
+    let size = text::decimal_len(number) + text::decimal_len(line) + 4;
+    if out.len() < size {
         return 0;
     }
     let mut p = text::put_byte(out, 0, b'R');

@@ -1,5 +1,6 @@
 use mathlib.Core.Path.{ap, sym}
 use Prim.Native.Nat.{ℕ, _-_, _≤_}
+use native.Mathlib.Omega.{arith}
 use borrow.Author.Needs.{needs}
 use Rattle.journal.specs.Journal.{hourIn}
 use Rattle.journal.specs.declared.Line.{Line}
@@ -11,7 +12,9 @@ enum-known-line c = search needs
 
 sub-result : tie.Need-sub-result
 unfolding hourIn
-sub-result c = rw (c .before .line .given .1) at (c .before .before .before .pre)
+sub-result c =
+    let h : c .before .before .before .args .first ≤ c .before .line .given .0 .0 = rw (c .before .line .given .1) at (c .before .before .before .pre) in
+    omega arith
 
 cast-result : tie.Need-cast-result
 cast-result c = search needs
@@ -21,7 +24,9 @@ enum-known-line-2 c = search needs
 
 sub-result-2 : tie.Need-sub-result-2
 unfolding hourIn
-sub-result-2 c = rw (c .before .line2 .given .1) at (c .before .before .before .pre)
+sub-result-2 c =
+    let h : c .before .before .before .args .first ≤ c .before .line2 .given .0 .0 = rw (c .before .line2 .given .1) at (c .before .before .before .pre) in
+    omega arith
 
 cast-result-2 : tie.Need-cast-result-2
 cast-result-2 c = search needs

@@ -20,11 +20,11 @@ decimal-len-requires c κs = search needs
 decimal-len-requires-2 : tie.Need-decimal-len-requires-2
 decimal-len-requires-2 c κs = search needs
 
-add-n : tie.Need-add-n
-add-n c = omega (arith, c .before .decimal-len .ensures, digits-most (c .before .before .before .args .number) (search needs), c .decimal-len2 .ensures, digits-most (c .before .before .before .args .line) (search needs))
+add-size : tie.Need-add-size
+add-size c = omega (arith, c .before .decimal-len .ensures, digits-most (c .before .before .before .args .number) (search needs), c .decimal-len2 .ensures, digits-most (c .before .before .before .args .line) (search needs))
 
-add-n-2 : tie.Need-add-n-2
-add-n-2 c = omega (arith, c .before .decimal-len .ensures, digits-most (c .before .before .before .args .number) (search needs), c .decimal-len2 .ensures, digits-most (c .before .before .before .args .line) (search needs))
+add-size-2 : tie.Need-add-size-2
+add-size-2 c = omega (arith, c .before .decimal-len .ensures, digits-most (c .before .before .before .args .number) (search needs), c .decimal-len2 .ensures, digits-most (c .before .before .before .args .line) (search needs))
 
 returns : tie.Need-returns
 returns c =
@@ -75,8 +75,8 @@ put-refused-spec =
     (tie.spec
     decimal-len-requires
     decimal-len-requires-2
-    add-n
-    add-n-2
+    add-size
+    add-size-2
     returns
     put-byte-requires
     put-byte-requires-2
