@@ -1,1 +1,242 @@
 // Fresh and restarted controllers, settings, counter reset, counters and link start.
+use crate::Condition;
+use crate::Controller;
+use crate::Counters;
+use crate::ResetAnswer;
+use crate::ResetTo;
+use crate::RestartAnswer;
+use crate::Restarted;
+use crate::Runs;
+use crate::SetAnswer;
+use crate::SetTo;
+use dosing::Gates;
+use dosing::Phase;
+use dosing::Units;
+use settings::Checked;
+use settings::Settings;
+use window::Window;
+ghost use mathlib.Core.Path.{_≡_};
+ghost use mathlib.Core.List.{[]};
+ghost use Rattle.laws.specs.Pick.{pick};
+ghost use Rattle.paper.specs.Answer.{refused};
+ghost use Rattle.paper.specs.Numbers.{R3};
+ghost use Rattle.settings.specs.Says.{says};
+ghost use Rattle.controller.specs.State.{noRuns, restarted};
+ghost use Rattle.controller.specs.Calls.{isReady, storedBad, freshOf, noController, taken, linkOf};
+ghost use Rattle.controller.specs.Sound.{Sound};
+ghost use Rattle.controller.specs.Says.{saysSet, Sets, Resets, Restarts};
+ghost use Rattle.controller.specs.Made.{Made};
+
+impl Controller {
+    // The greatest stored count and total.
+    pub const COUNT_MOST: u32 = 999999;
+
+    pub const TOTAL_MOST: u32 = 999999999;
+
+    // A restart with both at 0 and the default set.
+    pub fn fresh() -> Controller
+        ensures { λ r. ⌜ Made freshOf r ⌝ }
+    {
+        restarted(Settings::default(), 0, 0)
+    }
+
+    // A restart takes a set (R2) and then the stored count and total (R15).
+    pub fn restart(set: Settings, count: u32, total: u32) -> Restarted
+        ensures { λ r. ⌜ Restarts set count total r ⌝ }
+    {
+        let checked = set.check();
+        if let Checked::R2(row) = checked {
+            return Restarted {
+                next: no_controller(),
+                answer: RestartAnswer::R2(row),
+            };
+        }
+        if stored_bad(count, total) {
+            return Restarted {
+                next: no_controller(),
+                answer: RestartAnswer::R15,
+            };
+        }
+        Restarted {
+            next: restarted(set, count, total),
+            answer: RestartAnswer::Done,
+        }
+    }
+
+    // Takes a set in Ready (R3), where it is good (R2).
+    pub fn settings(self, set: Settings) -> SetTo
+        requires { ⌜ Sound self ⌝ }
+        ensures { λ r. ⌜ Sets self set r ⌝ }
+    {
+        let answer = set_answer(is_ready(self), set.check());
+        match answer {
+            SetAnswer::Taken => SetTo {
+                next: taken(set, self),
+                answer: answer,
+            },
+            SetAnswer::R3 | SetAnswer::R2(_) => SetTo {
+                next: self,
+                answer: answer,
+            },
+        }
+    }
+
+    // Puts count and total to 0 in Ready (R3).
+    pub fn reset(self) -> ResetTo
+        requires { ⌜ Sound self ⌝ }
+        ensures { λ r. ⌜ Resets self r ⌝ }
+    {
+        if !is_ready(self) {
+            return ResetTo {
+                next: self,
+                answer: ResetAnswer::R3,
+            };
+        }
+        ResetTo {
+            next: Controller {
+                counters: Counters { count: 0, total: 0 },
+                ..self
+            },
+            answer: ResetAnswer::Done,
+        }
+    }
+
+    // Count and total, at any time.
+    pub fn counters(self) -> Counters
+        ensures { λ r. ⌜ r ≡ self .counters ⌝ }
+    {
+        self.counters
+    }
+
+    // Sets or clears the link start, at any time.
+    pub fn link(self, on: bool) -> Controller
+        requires { ⌜ Sound self ⌝ }
+        ensures { λ r. ⌜ Made (linkOf self on) r ⌝ }
+    {
+        Controller { link: on, ..self }
+    }
+}
+
+// The phase is Ready, and there is no fault.
+pub fn is_ready(c: Controller) -> bool
+    ensures { λ r. ⌜ r ≡ isReady c ⌝ }
+{
+    let condition = c.condition;
+    let phase = c.phase;
+    let Condition::Clear = condition else {
+        return false;
+    };
+    if let Phase::Ready = phase {
+        true
+    } else {
+        false
+    }
+}
+
+// What a set answers: R3 before R2.
+fn set_answer(ready: bool, checked: Checked) -> SetAnswer
+    ensures { λ r. ⌜ saysSet r ≡ pick ready (says checked) (refused R3 []) ⌝ }
+{
+    match checked {
+        Checked::Good => in_ready(ready, SetAnswer::Taken),
+        Checked::R2(row) => in_ready(ready, SetAnswer::R2(row)),
+    }
+}
+
+// The answer in Ready, else R3.
+fn in_ready(ready: bool, answer: SetAnswer) -> SetAnswer
+    ensures { λ r. ⌜ r ≡ pick ready answer SetAnswer.R3 ⌝ }
+{
+    if ready { answer } else { SetAnswer::R3 }
+}
+
+// R15: the stored count or total is too great.
+fn stored_bad(count: u32, total: u32) -> bool
+    ensures { λ r. ⌜ r ≡ storedBad count total ⌝ }
+{
+    if Controller::COUNT_MOST < count {
+        return true;
+    }
+    Controller::TOTAL_MOST < total
+}
+
+// A controller in Ready with an empty filter, Z at 0, no fault, no link start and all outputs closed.
+fn restarted(set: Settings, count: u32, total: u32) -> Controller
+    ensures { λ r. ⌜ r ≡ restarted set count total ⌝ }
+{
+    Controller {
+        set: set,
+        window: Window::new(),
+        z: Units { v: 0 },
+        f: Units { v: 0 },
+        s: 0,
+        runs: no_runs(),
+        phase: Phase::Ready,
+        gates: Gates {
+            one: false,
+            two: false,
+            three: false,
+        },
+        alarm: false,
+        link: false,
+        inputs: 0,
+        condition: Condition::Clear,
+        counters: Counters {
+            count: count,
+            total: total,
+        },
+    }
+}
+
+// What stands in the place of a refused restart's controller: its set is not good.
+fn no_controller() -> Controller
+    ensures { λ r. ⌜ r ≡ noController ⌝ }
+{
+    let set = Settings {
+        algorithm: 0,
+        capacity: 0,
+        dose: 0,
+        pc: 0,
+        pf: 0,
+        level: 0,
+        p7: 0,
+        p8: 0,
+        p9: 0,
+        p11: 0,
+        o: 0,
+        in1: 0,
+        in2: 0,
+        in3: 0,
+        address: 0,
+        serial: 0,
+        point: 0,
+    };
+    restarted(set, 0, 0)
+}
+
+// The filter is emptied, Z is 0 and the runs are cleared; all else is kept.
+fn taken(set: Settings, c: Controller) -> Controller
+    ensures { λ r. ⌜ r ≡ taken set c ⌝ }
+{
+    let emptied = Window::new();
+    Controller {
+        set: set,
+        window: emptied,
+        z: Units { v: 0 },
+        f: Units { v: 0 },
+        s: 0,
+        runs: no_runs(),
+        ..c
+    }
+}
+
+// No mismatch yet.
+fn no_runs() -> Runs
+    ensures { λ r. ⌜ r ≡ noRuns ⌝ }
+{
+    Runs {
+        one: 0,
+        two: 0,
+        three: 0,
+    }
+}

@@ -1,0 +1,96 @@
+-- What an answer has to say for a call's contract to be met. Assumes nothing.
+use mathlib.Core.Path.{_≡_, refl, sym, ap, ap₂, subst, _∙_}
+use mathlib.Core.Bool.{Bool, false}
+use mathlib.Core.List.{[], _∷_}
+use Prim.Native.Nat.{ℕ}
+use types.Run.{OneOf, miss}
+use denote.Enum.Declared.{tagOf}
+use Rattle.laws.specs.Pick.{pick}
+use Rattle.paper.specs.Answer.{Answer, done, refused, fault, told, onDone}
+use Rattle.paper.specs.Numbers.{R2, R3, R15}
+use Rattle.settings.specs.Table.{firstBad}
+use Rattle.settings.specs.declared.Settings.{Settings}
+use Rattle.dosing.proofs.Phase.{the-type as phase-type}
+use Rattle.dosing.specs.declared.Phase.{Phase}
+use Rattle.dosing.specs.declared.Phase.the-variants.{Ready, Coarse, Fine, Hold, Settle, Discharge, Load, Calm, DoseCoarse, DoseFine, DoseSettle}
+use Rattle.controller.specs.State.{counters, restarted, withCounters}
+use Rattle.controller.specs.Calls.{atReady, isReady, storedBad, restartOf, controllerIn, taken, after, settingsAnswer, settingsOf, resetAnswer, resetOf}
+use Rattle.controller.specs.Sound.{Sound}
+use Rattle.controller.specs.Done.{refused-done, fault-done}
+use Rattle.controller.specs.Keeps.{restart-sound, settings-sound, reset-sound}
+use Rattle.controller.specs.Says.{saysSet, saysReset, saysRestart, Sets, Resets, Restarts}
+use Rattle.controller.specs.declared.Controller.{Controller}
+use Rattle.controller.proofs.SetAnswer.{the-type as set-type}
+use Rattle.controller.specs.declared.SetAnswer.{SetAnswer}
+use Rattle.controller.specs.declared.SetAnswer.the-variants as S
+use Rattle.controller.specs.declared.ResetAnswer.{ResetAnswer}
+use Rattle.controller.specs.declared.RestartAnswer.{RestartAnswer}
+
+-- the phases that are not Ready
+pub not-ready : (p : Phase) → OneOf (1 ∷ 2 ∷ 3 ∷ 4 ∷ 5 ∷ 6 ∷ 7 ∷ 8 ∷ 9 ∷ 10 ∷ []) (tagOf phase-type p) → false ≡ atReady p
+unfolding atReady
+not-ready Ready h = absurd (miss (1 ∷ 2 ∷ 3 ∷ 4 ∷ 5 ∷ 6 ∷ 7 ∷ 8 ∷ 9 ∷ 10 ∷ []) 0 tt h)
+not-ready (Coarse w0) h = refl
+not-ready (Fine w0) h = refl
+not-ready Hold h = refl
+not-ready (Settle w0 n) h = refl
+not-ready (Discharge w0 wS settled) h = refl
+not-ready Load h = refl
+not-ready (Calm n) h = refl
+not-ready (DoseCoarse wH) h = refl
+not-ready (DoseFine wH) h = refl
+not-ready (DoseSettle wH n) h = refl
+
+abbrev noValue : Controller → Unit {0}
+noValue c = tt
+
+restarted-sound : (set : Settings) (count total : ℕ) (x : Answer Controller) → restartOf set count total ≡ x → told noValue x ≡ done tt → Sound (controllerIn x)
+unfolding told controllerIn
+restarted-sound set count total (done c) e h = restart-sound set count total c e
+restarted-sound set count total (refused n vs) e h = refused-done h
+restarted-sound set count total (fault n vs) e h = fault-done h
+
+-- R2 before R15
+pub bad-set : (set : Settings) (count total row : ℕ) → firstBad set ≡ refused R2 (row ∷ []) → restartOf set count total ≡ refused R2 (row ∷ [])
+unfolding restartOf onDone
+bad-set set count total row e = rw e
+
+pub good-set : (set : Settings) (count total : ℕ) → firstBad set ≡ done tt
+    → restartOf set count total ≡ pick (storedBad count total) (refused R15 []) (done (restarted set count total))
+unfolding restartOf onDone
+good-set set count total e = rw e
+
+pub restarts : (set : Settings) (count total : ℕ) {next : Controller} {answer : RestartAnswer} (x : Answer Controller) → restartOf set count total ≡ x
+    → next ≡ controllerIn x → saysRestart answer ≡ told noValue x → Restarts set count total (record { next = next; answer = answer })
+restarts set count total x e n h =
+    record {
+      next = n ∙ ap controllerIn (sym e);
+      says = h ∙ ap (told noValue) (sym e);
+      sound = λ d. subst Sound (sym n) (restarted-sound set count total x e (sym h ∙ d));
+    }
+
+-- an answer that refuses changes nothing
+pub not-taken : (a : SetAnswer) (changed same : Controller) → OneOf (1 ∷ 2 ∷ []) (tagOf set-type a) → same ≡ after (saysSet a) changed same
+unfolding after
+not-taken S.Taken changed same h = absurd (miss (1 ∷ 2 ∷ []) 0 tt h)
+not-taken S.R3 changed same h = refl
+not-taken (S.R2 row) changed same h = refl
+
+pub set-answers : (c : Controller) (set : Settings) {ready : Bool} {checked : Answer (Unit {0})} → ready ≡ isReady c → checked ≡ firstBad set
+    → pick ready checked (refused R3 []) ≡ settingsAnswer c set
+unfolding settingsAnswer
+set-answers c set e f = ap₂ (λ (b : Bool) (a : Answer (Unit {0})). pick b a (refused R3 [])) e f
+
+pub sets : (c : Controller) (set : Settings) {next : Controller} {answer : SetAnswer} → Sound c → saysSet answer ≡ settingsAnswer c set
+    → next ≡ after (saysSet answer) (taken set c) c → Sets c set (record { next = next; answer = answer })
+unfolding settingsOf
+sets c set s e n =
+    let m = n ∙ ap (λ (a : Answer (Unit {0})). after a (taken set c) c) e in
+    record { next = m; says = e; sound = subst Sound (sym m) (settings-sound c set s) }
+
+pub resets : (c : Controller) {next : Controller} {answer : ResetAnswer} → Sound c → saysReset answer ≡ resetAnswer c
+    → next ≡ after (saysReset answer) (withCounters (counters 0 0) c) c → Resets c (record { next = next; answer = answer })
+unfolding resetOf
+resets c s e n =
+    let m = n ∙ ap (λ (a : Answer (Unit {0})). after a (withCounters (counters 0 0) c) c) e in
+    record { next = m; says = e; sound = subst Sound (sym m) (reset-sound c s) }

@@ -1,0 +1,17 @@
+use borrow.Author.Needs.{needs}
+use Rattle.controller.specs.Calls.{taken}
+use Rattle.controller.proofs.calls.taken.Statement.{statement}
+use Rattle.controller.proofs.calls.taken.Tie as tie
+
+new-requires : tie.Need-new-requires
+new-requires c κs = search needs
+
+no-runs-requires : tie.Need-no-runs-requires
+no-runs-requires c κs = search needs
+
+returns : tie.Need-returns
+unfolding taken
+returns c = simp (c .before .before .before .new .ensures, c .before .before .no-runs .ensures)
+
+pub taken-spec : {M : Type 1} → statement M
+taken-spec = tie.close (tie.spec new-requires no-runs-requires returns)
