@@ -133,14 +133,14 @@ shut-unfilled set = pick-all (λ (b : Bool). b ≡ false) _ refl refl
 pub fault-unfilled : (c : Controller) (why : Fault) → Sound c → c .condition ≡ Faulted why → fillingOpen (c .set) (c .gates) ≡ false
 fault-unfilled c why s e = rw (fault-gates c s why e .0) (shut-unfilled (c .set))
 
-abbrev OverUnfilled : Controller → Type 0
+abbrev pub OverUnfilled : Controller → Type 0
 OverUnfilled c = overCapacity (c .set) (c .f .v -ℤ c .z .v) ≡ true → fillingOpen (c .set) (c .gates) ≡ false
 
 step7-unfilled : (c : Controller) (start : Bool) → Sound c → OverUnfilled (step7 c start .next)
 unfolding step7 step8 seenOf wOf overCapacity
 step7-unfilled c start s e = over-unfilled (c .set) (c .phase) (seenOf c start) (good-ranges (c .set) (s .set)) (s .phase) refl e
 
--- after a tick that is not refused, no filling gate is open where w is above C+9
+-- after a tick that is not refused (inputs of at most 15), no filling gate is open where w is above C+9
 pub tick-unfilled : (c : Controller) (x : ℤ) (i : ℕ) → Sound c → i ≤ 15 → OverUnfilled (tickOf c x i .next)
 unfolding faulted
 tick-unfilled c x i s h =
