@@ -1,6 +1,6 @@
 -- What a journal holds, carried along line by line: the number of lines so far and what they say of the hours. Assumes nothing.
 use mathlib.Core.Path.{_≡_, refl, sym, ap, _∙_}
-use mathlib.Core.Bool.{Bool, true, false, _&&_}
+use mathlib.Core.Bool.{true, false, _&&_}
 use mathlib.Core.List.{List, [], _∷_}
 use Prim.Native.Nat.{ℕ, suc, _+_, _<_, _≤_}
 use native.Mathlib.Omega.{arith}
@@ -53,8 +53,6 @@ unfolding joined noPast summaryOf firstHour lastHour pick
 joined-all [] = refl
 joined-all (l ∷ ls) = summary-same (omega arith) refl (last-all l ls)
 
--- ---- told
-
 told-told : {A B C : Type 0} (f : B → C) (g : A → B) (a : Answer A) → told f (told g a) ≡ told (λ x. f (g x)) a
 unfolding told
 told-told f g (done x) = refl
@@ -74,8 +72,6 @@ told-ordered f p l n a =
     let far = p .begun && tooFar (p .first) (hourIn l) in
     pick-map (told f) late (refused R11 (n ∷ [])) (pick far (refused R12 (n ∷ [])) a)
     ∙ ap (pick late (refused R11 (n ∷ []))) (pick-map (told f) far (refused R12 (n ∷ [])) a)
-
--- ---- the summary from a line on
 
 unfoldable pub sumFrom : Past → ℕ → List ℕ → Answer Summary
 sumFrom p n l = told (joined n p) (linesFrom p (n + 1) l)
@@ -101,8 +97,6 @@ sum-good p n l x rest e =
     ∙ ap (ordered p x (n + 1)) (told-told (joined n p) (λ (ls : List Line). x ∷ ls) more
     ∙ told-same (λ (ls : List Line). joined n p (x ∷ ls)) (joined (n + 1) (pastAfter p x)) more (joined-more n p x)
     ∙ ap (λ (m : ℕ). told (joined (n + 1) (pastAfter p x)) (linesFrom (pastAfter p x) m rest)) (sym (add-one (n + 1))))
-
--- ---- the order
 
 pub order-broken : {X : Type 0} (p : Past) (l : Line) (n : ℕ) (a : Answer X) → (p .begun && outOfOrder (p .last) (p .closed) (hourIn l)) ≡ true → ordered p l n a ≡ refused R11 (n ∷ [])
 unfolding ordered

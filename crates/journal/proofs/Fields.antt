@@ -2,11 +2,11 @@
 use mathlib.Core.Path.{_≡_, refl, sym, ap, _∙_}
 use mathlib.Core.Bool.{Bool, true, false}
 use mathlib.Core.List.{List, [], _∷_, _++_}
-use Prim.Native.Nat.{ℕ, suc, _+_, _-_, _≤_, _<_}
+use Prim.Native.Nat.{ℕ, _+_, _-_, _≤_, _<_}
 use native.Mathlib.Omega.{arith}
 use native.Mathlib.Numerals.{add-one}
 use lib.Dec.{eqb, lit≤}
-use lib.ListN.{length, getD, drop, take, set, length-take, length-drop, drop-of-length-le}
+use lib.ListN.{length, getD, drop, take, set, length-take, drop-of-length-le}
 use lib.Seq.{drop-cons, getD-take, take-suc-set}
 use borrow.Author.Tests.{eq-eqb, ne-eqb, eqb-true, eqb-false}
 use Rattle.laws.specs.Pick.{pick, pick-t, pick-f, pick-map, pick-all}
@@ -14,7 +14,7 @@ use Rattle.laws.specs.Decimal.{Parsed, good, bad, numberAt}
 use Rattle.paper.specs.Answer.{Answer, done, refused}
 use Rattle.paper.specs.Numbers.{R10}
 use Rattle.journal.specs.Line.{TAB, LF, letterD, letterH, mostOfD, mostOfH, expect, onGood, fieldsAt, doseFrom, onFrom, lineOf, Placed, placed, whole}
-use Rattle.journal.specs.LineLaws.{line-shorter}
+use Rattle.journal.specs.LineLaws.{line-shorter, placed-good}
 use Rattle.journal.specs.Scan.{Scans, fieldAt, fieldsAfter, lineFrom}
 use Rattle.journal.specs.declared.Line.{Line}
 use Rattle.journal.specs.declared.Line.the-variants.{On}
@@ -52,8 +52,7 @@ pub ended : (n : ℕ) (ms l got m : List ℕ) (f : List ℕ → Line) (a : Answe
     → a ≡ placed n (onGood (fieldsAt ms [] l) (λ vs rest. good (f vs) rest))
 ended n ms l got m f a e h = h ∙ ap (placed n) (sym (ap (λ (p : Parsed (List ℕ)). onGood p (λ vs rest. good (f vs) rest)) e ∙ fields-end f got m))
 
--- ---- the letter
-
+-- what a letter asks for
 pub line-D : (s : List ℕ) (at : ℕ) → getD s at 0 ≡ letterD → lineOf (drop at s) ≡ onGood (fieldsAt mostOfD [] (drop (at + 1) s)) (λ vs rest. good (doseFrom vs) rest)
 unfolding lineOf
 line-D s at e =
@@ -70,27 +69,6 @@ line-H s at e =
 pub line-none : (s : List ℕ) (at : ℕ) → (getD s at 0 ≡ letterD → ⊥) → (getD s at 0 ≡ letterH → ⊥) → lineOf (drop at s) ≡ bad
 unfolding lineOf
 line-none s at d h = from-place (λ l. lineOf l ≡ bad) s at (λ l. pick-f _ _ _ (ne-eqb _ _ d) ∙ pick-f _ _ _ (ne-eqb _ _ h)) (λ z. refl)
-
--- ---- the place after a line
-
-pub place-back : (s : List ℕ) (p : ℕ) → p ≤ length s → length s - length (drop p s) ≡ p
-place-back s p h = rw (length-drop p s) (omega arith)
-
-pub placed-bad : (n : ℕ) (p : Parsed Line) → refused R10 [] ≡ placed n p → p ≡ bad
-unfolding placed
-placed-bad n (good l rest) e = cc
-placed-bad n bad e = refl
-
-pub placed-good : (n k : ℕ) (l : Line) (p : Parsed Line) → done (record { line = l; next = k }) ≡ placed n p → (rest : List ℕ) × (p ≡ good l rest) × (k ≡ n - length rest)
-unfolding placed
-placed-good n k l (good m rest) e =
-    let r : _≡_ {A = Placed} (record { line = l; next = k }) (record { line = m; next = n - length rest }) = cc in
-    let a : l ≡ m = ap (λ (t : Placed). t .line) r in
-    (rest, cc, ap (λ (t : Placed). t .next) r)
-placed-good n k l bad e =
-    let z : _≡_ {A = ℕ} 0 1 = cc in
-    let f : ⊥ = omega arith in
-    absurd f
 
 -- a line by itself has nothing behind it
 pub read-more : (s : List ℕ) (k : ℕ) (l : Line) → done (record { line = l; next = k }) ≡ placed (length s) (lineOf s) → k < length s → whole (lineOf s) ≡ refused R10 (1 ∷ [])
@@ -110,8 +88,6 @@ read-all s k l e h =
     go : (rest : List ℕ) → length rest ≡ 0 → whole (good l rest) ≡ done l
     go [] h = refl
     go (b ∷ bs) h = absurd (omega arith)
-
--- ---- a line read field by field: n is how many its letter asks for
 
 pub few : (b : ℕ) → fieldsAfter b ≤ 4
 unfolding fieldsAfter

@@ -1,3 +1,4 @@
 pub mod Scanning
 pub mod Fields
 pub mod Carried
+pub mod Storing

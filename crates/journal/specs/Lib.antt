@@ -1,6 +1,8 @@
 pub mod Line
+pub mod LineLaws
 pub mod Journal
+pub mod JournalLaws
+pub mod Order
 pub mod Says
 pub mod Scan
-pub mod LineLaws
-pub mod JournalLaws
+pub mod Store

@@ -2,21 +2,21 @@
 use mathlib.Core.Path.{_≡_, refl, sym, ap, _∙_, subst}
 use mathlib.Core.Bool.{Bool, true, false, _&&_}
 use mathlib.Core.List.{List, [], _∷_, _++_, append-assoc, append-nil}
-use Prim.Native.Nat.{ℕ, zero, suc, _+_, _-_, _*_, _^_, _≤_, _<_}
+use Prim.Native.Nat.{ℕ, suc, _+_, _-_, _≤_, _<_}
 use native.Mathlib.Omega.{arith}
-use lib.Dec.{leb, eqb, lit≤}
-use lib.ListN.{length, getD, drop, length-append}
-use lib.Seq.{drop-at}
-use borrow.Author.Tests.{leb-true, le-leb, eqb-true}
-use Rattle.laws.specs.Pick.{pick}
+use lib.Dec.{leb, eqb}
+use lib.ListN.{length, drop, length-append, length-drop}
+use lib.Seq.{drop-at, drop-drop}
+use borrow.Author.Tests.{leb-true, le-leb, lt-leb, eqb-true}
+use Rattle.laws.specs.Pick.{pick, pick-t, pick-f}
 use Rattle.laws.specs.Whole.{false-true}
 use Rattle.laws.specs.Decimal.{Parsed, good, bad, numberAt, decimal, isDigit}
 use Rattle.laws.specs.DecimalLaws.{Stops, number-decimal, number-only, decimal-some, decimal-length}
-use Rattle.journal.specs.Line.{LF, TAB, letterD, letterH, mostOfD, mostOfH, fieldsText, textOf, within, inRange, expect, onGood, fieldsAt, doseFrom, onFrom, lineOf}
+use Rattle.paper.specs.Answer.{done, refused, inRoom}
+use Rattle.paper.specs.Numbers.{R8, R10}
+use Rattle.journal.specs.Line.{Placed, placed, lineAt, writeOf, oneLine, whole, LF, TAB, letterD, letterH, mostOfD, mostOfH, fieldsText, textOf, within, inRange, expect, onGood, fieldsAt, doseFrom, onFrom, lineOf}
 use Rattle.journal.specs.declared.Line.{Line}
 use Rattle.journal.specs.declared.Line.the-variants.{Dose, On}
-
--- ---- tests
 
 pub and-left : (a b : Bool) → (a && b) ≡ true → a ≡ true
 and-left true b e = refl
@@ -25,6 +25,10 @@ and-left false b e = false-true e
 pub and-right : (a b : Bool) → (a && b) ≡ true → b ≡ true
 and-right true b e = e
 and-right false b e = false-true e
+
+pub and-true : (a : Bool) → (a && true) ≡ a
+and-true true = refl
+and-true false = refl
 
 within-length : (vs ms : List ℕ) → within vs ms ≡ true → length vs ≡ length ms
 unfolding within
@@ -37,7 +41,9 @@ within-length (v ∷ vs) (m ∷ ms) e = ap suc (within-length vs ms (and-right (
 bad-good : {X Y : Type 0} {x : X} {rest : List ℕ} → bad ≡ good x rest → Y
 bad-good e = let z : _≡_ {A = ℕ} 0 1 = cc in let f : ⊥ = omega arith in absurd f
 
--- ---- the fields
+-- a refusal is no value
+pub refused-done : {X Y : Type 0} {x : X} {n : ℕ} {vs : List ℕ} → refused n vs ≡ done x → Y
+refused-done e = let z : _≡_ {A = ℕ} 0 1 = cc in let f : ⊥ = omega arith in absurd f
 
 stops : (vs rest : List ℕ) → Stops (fieldsText vs ++ rest)
 unfolding fieldsText isDigit
@@ -58,11 +64,11 @@ fields-text (m ∷ ms) (v ∷ vs) got rest e =
     ∙ ap (λ (l : List ℕ). good l rest) (append-assoc got (v ∷ []) vs)
 
 -- what was read as values is their text
-pub record Written (ms got l vs rest : List ℕ) : Type 0 where
-  pub ws : List ℕ
-  pub all : vs ≡ got ++ ws
-  pub text : l ≡ fieldsText ws ++ rest
-  pub fit : within ws ms ≡ true
+record Written (ms got l vs rest : List ℕ) : Type 0 where
+  ws : List ℕ
+  all : vs ≡ got ++ ws
+  text : l ≡ fieldsText ws ++ rest
+  fit : within ws ms ≡ true
 
 expected : {X : Type 0} (b : ℕ) (l : List ℕ) (next : List ℕ → Parsed X) (x : X) (rest : List ℕ) → expect b l next ≡ good x rest → (t : List ℕ) × (l ≡ b ∷ t) × (next t ≡ good x rest)
 unfolding expect pick
@@ -97,8 +103,6 @@ fields-only (m ∷ ms) got l vs rest e =
       text = x .1 ∙ ap (λ (r : List ℕ). TAB ∷ r) (n .0 ∙ ap (λ (r : List ℕ). decimal (y .0) ++ r) (w .text) ∙ sym (append-assoc (decimal (y .0)) (fieldsText (w .ws)) rest));
       fit = ap (λ (b : Bool). b && within (w .ws) ms) (le-leb (y .0) m (n .1)) ∙ w .fit;
     }
-
--- ---- the line
 
 -- what the writer writes is read as what was written
 pub read-text : (l : Line) (rest : List ℕ) → inRange l ≡ true → lineOf (textOf l ++ rest) ≡ good l rest
@@ -163,13 +167,11 @@ text-only (b ∷ bs) l rest e = go (eqb b letterD) (eqb b letterH) refl refl e
     go false true p q h = letter-only b letterH bs mostOfH onFrom l rest (eqb-true b letterH q) on-made h
     go false false p q h = bad-good h
 
--- ---- lengths and places
-
 fields-none : length (fieldsText []) ≡ 1
 unfolding fieldsText
 fields-none = refl
 
-pub fields-length : (v : ℕ) (vs : List ℕ) → length (fieldsText (v ∷ vs)) ≡ 1 + length (decimal v) + length (fieldsText vs)
+fields-length : (v : ℕ) (vs : List ℕ) → length (fieldsText (v ∷ vs)) ≡ 1 + length (decimal v) + length (fieldsText vs)
 unfolding fieldsText
 fields-length v vs = omega (arith, length-append (decimal v) (fieldsText vs))
 
@@ -186,21 +188,27 @@ pub on-range : (h : ℕ) → inRange (On h) ≡ true → h ≤ 9999999
 unfolding inRange within mostOfH
 on-range h e = leb-true _ _ (and-left _ _ e)
 
+pub dose-length : (h c a s : ℕ) → length (textOf (Dose h c a s)) ≡ 6 + length (decimal h) + length (decimal c) + length (decimal a) + length (decimal s)
+unfolding textOf
+dose-length h c a s = omega (arith, fields-none, fields-length h (c ∷ a ∷ s ∷ []), fields-length c (a ∷ s ∷ []), fields-length a (s ∷ []), fields-length s [])
+
+pub on-length : (h : ℕ) → length (textOf (On h)) ≡ 3 + length (decimal h)
+unfolding textOf
+on-length h = omega (arith, fields-none, fields-length h [])
+
 -- a line takes at least 4 bytes
 pub text-least : (l : Line) → 4 ≤ length (textOf l)
-unfolding textOf
-text-least (Dose h c a s) = omega (arith, fields-length h (c ∷ a ∷ s ∷ []), decimal-some h, fields-length c (a ∷ s ∷ []), decimal-some c)
-text-least (On h) = omega (arith, fields-none, fields-length h [], decimal-some h)
+text-least (Dose h c a s) = omega (arith, dose-length h c a s)
+text-least (On h) = omega (arith, on-length h, decimal-some h)
 
 -- and at most 27
 pub text-most : (l : Line) → inRange l ≡ true → length (textOf l) ≤ 27
-unfolding textOf
 text-most (Dose h c a s) e =
     let r = dose-range h c a s e in
-    omega (arith, fields-none, fields-length h (c ∷ a ∷ s ∷ []), fields-length c (a ∷ s ∷ []), fields-length a (s ∷ []), fields-length s [], decimal-length 7 h (omega arith) (omega arith), decimal-length 6 c (omega arith) (omega arith), decimal-length 7 a (omega arith) (omega arith), decimal-length 1 s (omega arith) (omega arith))
+    omega (arith, dose-length h c a s, decimal-length 7 h (omega arith) (omega arith), decimal-length 6 c (omega arith) (omega arith), decimal-length 7 a (omega arith) (omega arith), decimal-length 1 s (omega arith) (omega arith))
 text-most (On h) e =
     let r = on-range h e in
-    omega (arith, fields-none, fields-length h [], decimal-length 7 h (omega arith) (omega arith))
+    omega (arith, on-length h, decimal-length 7 h (omega arith) (omega arith))
 
 -- what follows a line is shorter, and stands where the line's bytes end
 pub line-shorter : (s : List ℕ) (l : Line) (rest : List ℕ) → lineOf s ≡ good l rest → length rest < length s
@@ -212,3 +220,77 @@ line-rest s l rest e =
     let o = text-only s l rest e .text in
     let n : length (textOf l) ≡ length s - length rest = omega (arith, ap length o, length-append (textOf l) rest) in
     sym (ap (drop (length s - length rest)) o ∙ drop-at (textOf l) rest (length s - length rest) n)
+
+-- a place is what is left after the bytes from it on
+pub place-back : (s : List ℕ) (p : ℕ) → p ≤ length s → length s - length (drop p s) ≡ p
+place-back s p h = rw (length-drop p s) (omega arith)
+
+pub placed-bad : (n : ℕ) (p : Parsed Line) → refused R10 [] ≡ placed n p → p ≡ bad
+unfolding placed
+placed-bad n (good l rest) e = refused-done e
+placed-bad n bad e = refl
+
+pub placed-good : (n k : ℕ) (l : Line) (p : Parsed Line) → done (record { line = l; next = k }) ≡ placed n p → (rest : List ℕ) × (p ≡ good l rest) × (k ≡ n - length rest)
+unfolding placed
+placed-good n k l (good m rest) e =
+    let r : _≡_ {A = Placed} (record { line = l; next = k }) (record { line = m; next = n - length rest }) = cc in
+    let a : l ≡ m = ap (λ (t : Placed). t .line) r in
+    (rest, cc, ap (λ (t : Placed). t .next) r)
+placed-good n k l bad e = refused-done (sym e)
+
+-- from `at` on stands the line l, and `next` is the place after it
+pub record Stands (s : List ℕ) (at : ℕ) (l : Line) (next : ℕ) : Type 0 where
+  pub line : lineOf (drop at s) ≡ good l (drop next s)
+  pub is : lineAt s at ≡ done (record { line = l; next = next })
+  pub onward : at < next
+  pub inside : next ≤ length s
+
+pub stands : (s : List ℕ) (at : ℕ) (l : Line) (rest : List ℕ) → lineOf (drop at s) ≡ good l rest → Stands s at l (length s - length rest)
+unfolding lineAt placed
+stands s at l rest e =
+    let d = line-shorter (drop at s) l rest e in
+    let n : length (drop at s) ≡ length s - at = length-drop at s in
+    let k : at + (length (drop at s) - length rest) ≡ length s - length rest = omega arith in
+    record {
+      line = e ∙ ap (λ (r : List ℕ). good l r) (line-rest (drop at s) l rest e ∙ drop-drop (length (drop at s) - length rest) at s ∙ ap (λ (j : ℕ). drop j s) k);
+      is = ap (placed (length s)) e;
+      onward = omega arith;
+      inside = omega arith;
+    }
+
+-- what a reader that answered a line at a place has found
+pub line-at-only : (s : List ℕ) (at : ℕ) (l : Line) (next : ℕ) → done (record { line = l; next = next }) ≡ lineAt s at → Stands s at l next
+unfolding lineAt
+line-at-only s at l next e =
+    let x = placed-good (length s) next l (lineOf (drop at s)) e in
+    subst (λ (k : ℕ). Stands s at l k) (sym (x .2)) (stands s at l (x .0) (x .1))
+
+-- the writer's answers
+pub write-range : (l : Line) (room : ℕ) → inRange l ≡ false → writeOf l room ≡ refused R10 (0 ∷ [])
+unfolding writeOf
+write-range l room e = pick-f _ _ _ e
+
+pub write-short : (l : Line) (room : ℕ) → inRange l ≡ true → room < length (textOf l) → writeOf l room ≡ refused R8 []
+unfolding writeOf inRoom
+write-short l room e h = pick-t _ _ _ e ∙ pick-f _ _ _ (lt-leb _ _ h)
+
+pub write-fits : (l : Line) (room : ℕ) → inRange l ≡ true → length (textOf l) ≤ room → writeOf l room ≡ done (textOf l)
+unfolding writeOf inRoom
+write-fits l room e h = pick-t _ _ _ e ∙ pick-t _ _ _ (le-leb _ _ h)
+
+-- what was written is read back, and nothing else is a line by itself
+pub one-text : (l : Line) → inRange l ≡ true → oneLine (textOf l) ≡ done l
+unfolding oneLine whole
+one-text l e = ap (λ (s : List ℕ). whole (lineOf s)) (sym (append-nil (textOf l))) ∙ ap whole (read-text l [] e)
+
+pub one-only : (s : List ℕ) (l : Line) → oneLine s ≡ done l → (s ≡ textOf l) × (inRange l ≡ true)
+unfolding oneLine whole
+one-only s l e = go (lineOf s) refl e
+  where
+    go : (p : Parsed Line) → lineOf s ≡ p → whole p ≡ done l → (s ≡ textOf l) × (inRange l ≡ true)
+    go (good m []) q h =
+        let f : m ≡ l = cc in
+        let o = text-only s m [] q in
+        (o .text ∙ append-nil (textOf m) ∙ ap textOf f, ap inRange (sym f) ∙ o .range)
+    go (good m (b ∷ bs)) q h = refused-done h
+    go bad q h = refused-done h

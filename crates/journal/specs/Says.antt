@@ -1,11 +1,12 @@
 -- What the journal's answers say, in the paper's words. Assumes nothing.
-use mathlib.Core.Path.{_≡_, refl, ap}
+use mathlib.Core.Path.{_≡_, refl, ap, sym}
 use mathlib.Core.List.{List, [], _∷_}
 use Prim.Native.Nat.{ℕ}
 use lib.ListN.{length}
 use Rattle.paper.specs.Answer.{Answer, done, refused, told, same, Fills, fills-one}
 use Rattle.paper.specs.Numbers.{R8, R10, R11, R12, R13}
 use Rattle.journal.specs.Line.{Placed, writeOf, oneLine, lineAt, echoOf}
+use Rattle.journal.specs.LineLaws.{refused-done}
 use Rattle.journal.specs.Journal.{journalOf, summaryOf}
 use Rattle.journal.specs.declared.Line.{Line}
 use Rattle.journal.specs.declared.Wrote.{Wrote}
@@ -50,3 +51,85 @@ saysRefusal R.R13 = refused R13 []
 abbrev pub saysJudged : Judged → Answer Summary
 saysJudged (J.Lines s) = done s
 saysJudged (J.Refused r) = saysRefusal r
+
+-- two answers that say the same are equal
+pub wrote-one : (a b : Wrote) → saysWrote a ≡ saysWrote b → a ≡ b
+wrote-one (W.Line n) (W.Line m) e = cc
+wrote-one (W.Line n) W.R10 e = cc
+wrote-one (W.Line n) W.R8 e = cc
+wrote-one W.R10 (W.Line m) e = cc
+wrote-one W.R10 W.R10 e = refl
+wrote-one W.R10 W.R8 e = cc
+wrote-one W.R8 (W.Line m) e = cc
+wrote-one W.R8 W.R10 e = cc
+wrote-one W.R8 W.R8 e = refl
+
+pub one-one : (a b : One) → saysOne a ≡ saysOne b → a ≡ b
+one-one (O.Line l) (O.Line m) e = cc
+one-one (O.Line l) O.R10 e = cc
+one-one O.R10 (O.Line m) e = cc
+one-one O.R10 O.R10 e = refl
+
+pub echoed-one : (a b : One) → saysEchoed a ≡ saysEchoed b → a ≡ b
+echoed-one (O.Line l) (O.Line m) e = cc
+echoed-one (O.Line l) O.R10 e = cc
+echoed-one O.R10 (O.Line m) e = cc
+echoed-one O.R10 O.R10 e = refl
+
+pub at-one : (a b : At) → saysAt a ≡ saysAt b → a ≡ b
+at-one (A.Line l n) (A.Line m k) e =
+    let x : _≡_ {A = Placed} (record { line = l; next = n }) (record { line = m; next = k }) = cc in
+    let a : l ≡ m = ap (λ (p : Placed). p .line) x in
+    let b : n ≡ k = ap (λ (p : Placed). p .next) x in
+    cc
+at-one (A.Line l n) A.R10 e = cc
+at-one A.R10 (A.Line m k) e = cc
+at-one A.R10 A.R10 e = refl
+
+pub refusal-one : {X : Type 0} (a b : Refusal) → saysRefusal {X = X} a ≡ saysRefusal b → a ≡ b
+refusal-one (R.R10 n) (R.R10 m) e = cc
+refusal-one (R.R10 n) (R.R11 m) e = cc
+refusal-one (R.R10 n) (R.R12 m) e = cc
+refusal-one (R.R10 n) R.R13 e = cc
+refusal-one (R.R11 n) (R.R10 m) e = cc
+refusal-one (R.R11 n) (R.R11 m) e = cc
+refusal-one (R.R11 n) (R.R12 m) e = cc
+refusal-one (R.R11 n) R.R13 e = cc
+refusal-one (R.R12 n) (R.R10 m) e = cc
+refusal-one (R.R12 n) (R.R11 m) e = cc
+refusal-one (R.R12 n) (R.R12 m) e = cc
+refusal-one (R.R12 n) R.R13 e = cc
+refusal-one R.R13 (R.R10 m) e = cc
+refusal-one R.R13 (R.R11 m) e = cc
+refusal-one R.R13 (R.R12 m) e = cc
+refusal-one R.R13 R.R13 e = refl
+
+-- no refusal is a summary
+done-refused : {X : Type 0} (s : Summary) (r : Refusal) → done s ≡ saysRefusal r → X
+done-refused s (R.R10 n) e = refused-done (sym e)
+done-refused s (R.R11 n) e = refused-done (sym e)
+done-refused s (R.R12 n) e = refused-done (sym e)
+done-refused s R.R13 e = refused-done (sym e)
+
+pub judged-one : (a b : Judged) → saysJudged a ≡ saysJudged b → a ≡ b
+judged-one (J.Lines s) (J.Lines t) e = cc
+judged-one (J.Lines s) (J.Refused r) e = done-refused s r e
+judged-one (J.Refused q) (J.Lines t) e = done-refused t q (sym e)
+judged-one (J.Refused q) (J.Refused r) e = ap (λ (x : Refusal). J.Refused x) (refusal-one q r e)
+
+-- two results that both meet a call's contract are equal
+pub line-at-determined : (s : List ℕ) (at : ℕ) (a b : At) → saysAt a ≡ lineAt s at → saysAt b ≡ lineAt s at → a ≡ b
+line-at-determined s at a b p q = at-one a b (same p q)
+
+pub read-line-determined : (s : List ℕ) (a b : One) → saysOne a ≡ oneLine s → saysOne b ≡ oneLine s → a ≡ b
+read-line-determined s a b p q = one-one a b (same p q)
+
+pub read-determined : (s : List ℕ) (a b : Judged) → saysJudged a ≡ told summaryOf (journalOf s) → saysJudged b ≡ told summaryOf (journalOf s) → a ≡ b
+read-determined s a b p q = judged-one a b (same p q)
+
+pub write-determined : (l : Line) (old new new' : List ℕ) (a b : Wrote)
+    → Fills (saysWrote a) (writeOf l (length old)) old new → Fills (saysWrote b) (writeOf l (length old)) old new' → (a ≡ b) × (new ≡ new')
+write-determined l old new new' a b p q = (wrote-one a b (fills-one p q .0), fills-one p q .1)
+
+pub echo-determined : (l : Line) (a b : One) → saysEchoed a ≡ echoOf l → saysEchoed b ≡ echoOf l → a ≡ b
+echo-determined l a b p q = echoed-one a b (same p q)

@@ -1,17 +1,18 @@
 // The journal: D and H lines, written and read, and the refusals of a whole journal.
 ghost use mathlib.Core.Path.{_≡_};
-ghost use lib.ListN.{length, drop};
-ghost use Rattle.paper.specs.Answer.{Fills, told};
-ghost use mathlib.Core.List.{[]};
 ghost use mathlib.Core.Bool.{_&&_};
-ghost use lib.Dec.{eqb};
-ghost use lib.ListN.{getD};
+ghost use mathlib.Core.List.{[], _∷_};
+ghost use Prim.Native.Nat.{_+_, _≤_};
+ghost use lib.ListN.{length, drop, getD};
 ghost use Rattle.laws.specs.Pick.{pick};
-ghost use Rattle.laws.specs.Decimal.{good, isDigit, numberAt};
-ghost use Rattle.journal.specs.Line.{writeOf, oneLine, lineAt, echoOf, expect, onGood, fieldsAt, placed, mostOfD, mostOfH, doseFrom, onFrom, LF};
-ghost use Rattle.journal.specs.Journal.{journalOf, summaryOf, hourIn, closes, outOfOrder, tooFar, noPast, pastAfter};
-ghost use Rattle.journal.specs.Scan.{Scans, fieldAt, fieldsAfter, lineFrom};
+ghost use Rattle.laws.specs.Decimal.{good, isDigit, numberAt, decimal};
+ghost use Rattle.paper.specs.Answer.{Fills, told};
+ghost use Rattle.journal.specs.Line.{TAB, LF, mostOfD, mostOfH, textOf, inRange, writeOf, expect, onGood, fieldsAt, doseFrom, onFrom, placed, lineAt, oneLine, echoOf};
+ghost use Rattle.journal.specs.Journal.{hourIn, closes, outOfOrder, tooFar, noPast, pastAfter, journalOf, summaryOf};
 ghost use Rattle.journal.specs.Says.{saysWrote, saysOne, saysEchoed, saysAt, saysJudged};
+ghost use Rattle.journal.specs.Scan.{Scans, fieldAt, fieldsAfter, lineFrom};
+ghost use Rattle.journal.specs.Store.{FieldLength, Stores};
+ghost use Rattle.journal.specs.declared.Line.the-variants.{Dose, On};
 
 // A line: a completed dose, or that the box was on for all of an hour.
 pub enum Line {
@@ -60,6 +61,7 @@ pub enum Refusal {
     R13,
 }
 
+// What the reader of a journal answers.
 pub enum Judged {
     Lines(Summary),
     Refused(Refusal),
@@ -90,13 +92,132 @@ const H: u8 = 72;
 // The greatest values of a line's fields after its letter: hour, count, amount, settled.
 const MOST: [u32; 4] = [9999999, 999999, 1800000, 1];
 
+// The longest line has so many bytes.
+const LONGEST: usize = 27;
+
 // A journal has at most so many bytes.
 const ROOM: usize = 65536;
 
 // A line's hour is less than so many hours above the first line's.
 const SPAN: u64 = 744;
 
-// ---- one line read
+// Each value is at most its field's greatest.
+fn in_range(line: Line) -> bool
+    ensures { λ r. ⌜ r ≡ inRange line ⌝ }
+{
+    match line {
+        Line::Dose {
+            hour,
+            count,
+            amount,
+            settled,
+        } => {
+            if hour > MOST[0] {
+                return false;
+            }
+            if count > MOST[1] {
+                return false;
+            }
+            if amount > MOST[2] {
+                return false;
+            }
+            settled <= MOST[3]
+        }
+        Line::On { hour } => hour <= MOST[0],
+    }
+}
+
+// How many bytes a tab and a number take.
+fn field_len(v: u32) -> usize
+    ensures { λ r. ⌜ FieldLength v r ⌝ }
+{
+    1 + text::decimal_len(v as u64)
+}
+
+// How many bytes a line takes: its letter, its fields and its LF.
+fn text_len(line: Line) -> usize
+    ensures { λ r. ⌜ r ≡ length (textOf line) ⌝ }
+{
+    match line {
+        Line::Dose {
+            hour,
+            count,
+            amount,
+            settled,
+        } => 2 + field_len(hour) + field_len(count) + field_len(amount) + field_len(settled),
+        Line::On { hour } => 2 + field_len(hour),
+    }
+}
+
+// A byte stored at a place that has room for it.
+fn store_byte(out: &mut [u8], at: usize, b: u8) -> usize
+    requires { ⌜ at + 1 ≤ length (now out) ⌝ }
+    ensures { λ r. ⌜ Stores (now (out .entry)) at (b ∷ []) (now (out .exit)) r ⌝ }
+{
+    text::put_byte(out, at, b)
+}
+
+// A tab and a number stored at a place that has room for them.
+fn store_field(out: &mut [u8], at: usize, v: u32) -> usize
+    requires { ⌜ at + (1 + length (decimal v)) ≤ length (now out) ⌝ }
+    ensures { λ r. ⌜ Stores (now (out .entry)) at (TAB ∷ decimal v) (now (out .exit)) r ⌝ }
+{
+    let after_tab = store_byte(out, at, TAB);
+    text::put_decimal(out, after_tab, v as u64)
+}
+
+// A D line stored from the start.
+fn store_dose(out: &mut [u8], hour: u32, count: u32, amount: u32, settled: u32) -> usize
+    requires { ⌜ length (textOf (Dose hour count amount settled)) ≤ length (now out) ⌝ }
+    ensures { λ r. ⌜ Stores (now (out .entry)) 0 (textOf (Dose hour count amount settled)) (now (out .exit)) r ⌝ }
+{
+    let after_letter = store_byte(out, 0, D);
+    let after_hour = store_field(out, after_letter, hour);
+    let after_count = store_field(out, after_hour, count);
+    let after_amount = store_field(out, after_count, amount);
+    let after_settled = store_field(out, after_amount, settled);
+    store_byte(out, after_settled, LF)
+}
+
+// An H line stored from the start.
+fn store_on(out: &mut [u8], hour: u32) -> usize
+    requires { ⌜ length (textOf (On hour)) ≤ length (now out) ⌝ }
+    ensures { λ r. ⌜ Stores (now (out .entry)) 0 (textOf (On hour)) (now (out .exit)) r ⌝ }
+{
+    let after_letter = store_byte(out, 0, H);
+    let after_hour = store_field(out, after_letter, hour);
+    store_byte(out, after_hour, LF)
+}
+
+// A line stored from the start of a buffer that has room for it; the place after it is its length.
+fn store_line(out: &mut [u8], line: Line) -> usize
+    requires { ⌜ length (textOf line) ≤ length (now out) ⌝ }
+    ensures { λ r. ⌜ Stores (now (out .entry)) 0 (textOf line) (now (out .exit)) r ⌝ }
+{
+    match line {
+        Line::Dose {
+            hour,
+            count,
+            amount,
+            settled,
+        } => store_dose(out, hour, count, amount, settled),
+        Line::On { hour } => store_on(out, hour),
+    }
+}
+
+// A line written into a lent buffer: R10, then R8.
+pub fn write(line: Line, out: &mut [u8]) -> Wrote
+    ensures { λ r. ⌜ Fills (saysWrote r) (writeOf line (length (now (out .entry)))) (now (out .entry)) (now (out .exit)) ⌝ }
+{
+    if !in_range(line) {
+        return Wrote::R10;
+    }
+    if out.len() < text_len(line) {
+        return Wrote::R8;
+    }
+    let written = store_line(out, line);
+    Wrote::Line(written)
+}
 
 // The byte at a place, 0 past the end.
 fn byte_at(s: &[u8], at: usize) -> u8
@@ -105,6 +226,7 @@ fn byte_at(s: &[u8], at: usize) -> u8
     if at < s.len() { s[at] } else { 0 }
 }
 
+// Whether a byte is a digit.
 fn is_digit(b: u8) -> bool
     ensures { λ r. ⌜ r ≡ isDigit b ⌝ }
 {
@@ -223,7 +345,17 @@ pub fn read_line(bytes: &[u8]) -> One
     One::Line(line)
 }
 
-// ---- a journal judged
+// A line written and read back: the line, or the writer's R10; the buffer is never too short.
+pub fn echo(line: Line) -> One
+    ensures { λ r. ⌜ saysEchoed r ≡ echoOf line ⌝ }
+{
+    let mut buffer = [0u8; LONGEST];
+    match write(line, &mut buffer) {
+        Wrote::Line(len) => read_line(&buffer[..len]),
+        Wrote::R10 => One::R10,
+        Wrote::R8 => One::R10,
+    }
+}
 
 // How many fields follow a letter: 4 after D, 1 after H, else none.
 fn fields_after(letter: u8) -> usize
@@ -257,6 +389,7 @@ fn line_from(n: usize, got: [u32; 4]) -> Line
     Line::On { hour }
 }
 
+// The hour of a line.
 fn hour_in(line: Line) -> u32
     ensures { λ r. ⌜ r ≡ hourIn line ⌝ }
 {
@@ -271,7 +404,7 @@ fn hour_in(line: Line) -> u32
     }
 }
 
-// An H closes its hour.
+// Whether a line closes its hour, as an H does.
 fn closes_hour(line: Line) -> bool
     ensures { λ r. ⌜ r ≡ closes line ⌝ }
 {

@@ -1,5 +1,6 @@
-use mathlib.Core.Path.{_≡_, sym, ap, _∙_}
-use mathlib.Core.List.{List, [], _∷_}
+-- The values read so far and what is left from the next field on give a D line's fields.
+use mathlib.Core.Path.{_≡_, _∙_}
+use mathlib.Core.List.{List, [], _∷_, _++_}
 use Prim.Native.Nat.{ℕ}
 use denote.Ref.{now}
 use lib.ListN.{length, drop}
@@ -9,27 +10,64 @@ use borrow.Author.Needs.{needs}
 use Rattle.journal.proofs.dose_at.Statement.{statement}
 use Rattle.journal.proofs.dose_at.Tie as tie
 
+-- the place after a field, from the place after the next
+abbrev one : tie.After-known-told2 → tie.After-known-told
+one c = c .before .before .before .before
+
+abbrev two : tie.After-known-told3 → tie.After-known-told2
+two c = c .before .before .before .before
+
+abbrev three : tie.After-known-told4 → tie.After-known-told3
+three c = c .before .before .before .before
+
 abbrev S : tie.After-known-told → List ℕ
 S c = now (c .before .before .before .before .before .args .s)
 
 abbrev start : tie.After-known-told → ℕ
 start c = c .before .before .before .before .before .args .at
 
-after-hour : (c : tie.After-known-told) → fieldsAt mostOfD [] (drop (start c) (S c)) ≡ fieldsAt (999999 ∷ 1800000 ∷ 1 ∷ []) (c .before .hour .given .0 .0 ∷ []) (drop (c .before .hour .given .0 .1 .0) (S c))
-unfolding mostOfD
-after-hour c = fields-good (S c) (start c) 9999999 (999999 ∷ 1800000 ∷ 1 ∷ []) ([]) (c .before .before .before .field-at .ensures) (c .before .hour .given .1)
+-- the values read so far
+abbrev hour : tie.After-known-told → List ℕ
+hour c = c .before .hour .given .0 .0 ∷ []
 
-after-count : (c : tie.After-known-told2) → fieldsAt mostOfD [] (drop (start (c .before .before .before .before)) (S (c .before .before .before .before))) ≡ fieldsAt (1800000 ∷ 1 ∷ []) (c .before .before .before .before .before .hour .given .0 .0 ∷ c .before .count .given .0 .0 ∷ []) (drop (c .before .count .given .0 .1 .0) (S (c .before .before .before .before)))
-unfolding mostOfD
-after-count c = after-hour (c .before .before .before .before) ∙ fields-good (S (c .before .before .before .before)) (c .before .before .before .before .before .hour .given .0 .1 .0) 999999 (1800000 ∷ 1 ∷ []) (c .before .before .before .before .before .hour .given .0 .0 ∷ []) (c .before .before .before .field-at2 .ensures) (c .before .count .given .1)
+abbrev count : tie.After-known-told2 → List ℕ
+count c = hour (one c) ++ c .before .count .given .0 .0 ∷ []
 
-after-amount : (c : tie.After-known-told3) → fieldsAt mostOfD [] (drop (start (c .before .before .before .before .before .before .before .before)) (S (c .before .before .before .before .before .before .before .before))) ≡ fieldsAt (1 ∷ []) (c .before .before .before .before .before .before .before .before .before .hour .given .0 .0 ∷ c .before .before .before .before .before .count .given .0 .0 ∷ c .before .amount .given .0 .0 ∷ []) (drop (c .before .amount .given .0 .1 .0) (S (c .before .before .before .before .before .before .before .before)))
-unfolding mostOfD
-after-amount c = after-count (c .before .before .before .before) ∙ fields-good (S (c .before .before .before .before .before .before .before .before)) (c .before .before .before .before .before .count .given .0 .1 .0) 1800000 (1 ∷ []) (c .before .before .before .before .before .before .before .before .before .hour .given .0 .0 ∷ c .before .before .before .before .before .count .given .0 .0 ∷ []) (c .before .before .before .field-at3 .ensures) (c .before .amount .given .1)
+abbrev amount : tie.After-known-told3 → List ℕ
+amount c = count (two c) ++ c .before .amount .given .0 .0 ∷ []
 
-after-settled : (c : tie.After-known-told4) → fieldsAt mostOfD [] (drop (start (c .before .before .before .before .before .before .before .before .before .before .before .before)) (S (c .before .before .before .before .before .before .before .before .before .before .before .before))) ≡ fieldsAt ([]) (c .before .before .before .before .before .before .before .before .before .before .before .before .before .hour .given .0 .0 ∷ c .before .before .before .before .before .before .before .before .before .count .given .0 .0 ∷ c .before .before .before .before .before .amount .given .0 .0 ∷ c .before .settled .given .0 .0 ∷ []) (drop (c .before .settled .given .0 .1 .0) (S (c .before .before .before .before .before .before .before .before .before .before .before .before)))
+abbrev settled : tie.After-known-told4 → List ℕ
+settled c = amount (three c) ++ c .before .settled .given .0 .0 ∷ []
+
+-- where a field ends
+abbrev hourEnd : tie.After-known-told → ℕ
+hourEnd c = c .before .hour .given .0 .1 .0
+
+abbrev countEnd : tie.After-known-told2 → ℕ
+countEnd c = c .before .count .given .0 .1 .0
+
+abbrev amountEnd : tie.After-known-told3 → ℕ
+amountEnd c = c .before .amount .given .0 .1 .0
+
+-- the values so far and what is left from a place on give the fields
+abbrev From : tie.After-known-told → List ℕ → List ℕ → ℕ → Type 0
+From c most got p = fieldsAt mostOfD [] (drop (start c) (S c)) ≡ fieldsAt most got (drop p (S c))
+
+after-hour : (c : tie.After-known-told) → From c (drop 1 mostOfD) (hour c) (hourEnd c)
 unfolding mostOfD
-after-settled c = after-amount (c .before .before .before .before) ∙ fields-good (S (c .before .before .before .before .before .before .before .before .before .before .before .before)) (c .before .before .before .before .before .amount .given .0 .1 .0) 1 ([]) (c .before .before .before .before .before .before .before .before .before .before .before .before .before .hour .given .0 .0 ∷ c .before .before .before .before .before .before .before .before .before .count .given .0 .0 ∷ c .before .before .before .before .before .amount .given .0 .0 ∷ []) (c .before .before .before .field-at4 .ensures) (c .before .settled .given .1)
+after-hour c = fields-good (S c) (start c) _ _ [] (c .before .before .before .field-at .ensures) (c .before .hour .given .1)
+
+after-count : (c : tie.After-known-told2) → From (one c) (drop 2 mostOfD) (count c) (countEnd c)
+unfolding mostOfD
+after-count c = after-hour (one c) ∙ fields-good (S (one c)) (hourEnd (one c)) _ _ (hour (one c)) (c .before .before .before .field-at2 .ensures) (c .before .count .given .1)
+
+after-amount : (c : tie.After-known-told3) → From (one (two c)) (drop 3 mostOfD) (amount c) (amountEnd c)
+unfolding mostOfD
+after-amount c = after-count (two c) ∙ fields-good (S (one (two c))) (countEnd (two c)) _ _ (count (two c)) (c .before .before .before .field-at3 .ensures) (c .before .amount .given .1)
+
+after-settled : (c : tie.After-known-told4) → From (one (two (three c))) (drop 4 mostOfD) (settled c) (c .before .settled .given .0 .1 .0)
+unfolding mostOfD
+after-settled c = after-amount (three c) ∙ fields-good (S (one (two (three c)))) (amountEnd (three c)) _ _ (amount (three c)) (c .before .before .before .field-at4 .ensures) (c .before .settled .given .1)
 
 array-read-field-at : tie.Need-array-read-field-at
 array-read-field-at c = search needs
@@ -45,7 +83,10 @@ enum-told c = search needs
 
 returns : tie.Need-returns
 unfolding mostOfD
-returns c = refuse (length (now (c .before .before .before .before .args .s))) mostOfD (drop (c .before .before .before .before .args .at) (now (c .before .before .before .before .args .s))) doseFrom (fields-bad (now (c .before .before .before .before .args .s)) (c .before .before .before .before .args .at) 9999999 (999999 ∷ 1800000 ∷ 1 ∷ []) [] (c .before .before .field-at .ensures) (c .enum-told .given .1))
+returns c =
+    let s = now (c .before .before .before .before .args .s) in
+    let at = c .before .before .before .before .args .at in
+    refuse (length s) mostOfD (drop at s) doseFrom (fields-bad s at _ _ [] (c .before .before .field-at .ensures) (c .enum-told .given .1))
 
 array-read-field-at-2 : tie.Need-array-read-field-at-2
 array-read-field-at-2 c = search needs
@@ -60,7 +101,11 @@ enum-told-2 : tie.Need-enum-told-2
 enum-told-2 c = search needs
 
 returns-2 : tie.Need-returns-2
-returns-2 c = refuse (length (S (c .before .before .before))) mostOfD (drop (start (c .before .before .before)) (S (c .before .before .before))) doseFrom (after-hour (c .before .before .before) ∙ fields-bad (S (c .before .before .before)) (c .before .before .before .before .hour .given .0 .1 .0) 999999 (1800000 ∷ 1 ∷ []) (c .before .before .before .before .hour .given .0 .0 ∷ []) (c .before .before .field-at2 .ensures) (c .enum-told2 .given .1))
+unfolding mostOfD
+returns-2 c =
+    let a = c .before .before .before in
+    let b = a in
+    refuse (length (S b)) mostOfD (drop (start b) (S b)) doseFrom (after-hour a ∙ fields-bad (S b) (hourEnd a) _ _ (hour a) (c .before .before .field-at2 .ensures) (c .enum-told2 .given .1))
 
 array-read-field-at-3 : tie.Need-array-read-field-at-3
 array-read-field-at-3 c = search needs
@@ -75,7 +120,11 @@ enum-told-3 : tie.Need-enum-told-3
 enum-told-3 c = search needs
 
 returns-3 : tie.Need-returns-3
-returns-3 c = refuse (length (S (c .before .before .before .before .before .before .before))) mostOfD (drop (start (c .before .before .before .before .before .before .before)) (S (c .before .before .before .before .before .before .before))) doseFrom (after-count (c .before .before .before) ∙ fields-bad (S (c .before .before .before .before .before .before .before)) (c .before .before .before .before .count .given .0 .1 .0) 1800000 (1 ∷ []) (c .before .before .before .before .before .before .before .before .hour .given .0 .0 ∷ c .before .before .before .before .count .given .0 .0 ∷ []) (c .before .before .field-at3 .ensures) (c .enum-told3 .given .1))
+unfolding mostOfD
+returns-3 c =
+    let a = c .before .before .before in
+    let b = one a in
+    refuse (length (S b)) mostOfD (drop (start b) (S b)) doseFrom (after-count a ∙ fields-bad (S b) (countEnd a) _ _ (count a) (c .before .before .field-at3 .ensures) (c .enum-told3 .given .1))
 
 array-read-field-at-4 : tie.Need-array-read-field-at-4
 array-read-field-at-4 c = search needs
@@ -90,16 +139,20 @@ enum-told-4 : tie.Need-enum-told-4
 enum-told-4 c = search needs
 
 returns-4 : tie.Need-returns-4
-returns-4 c = refuse (length (S (c .before .before .before .before .before .before .before .before .before .before .before))) mostOfD (drop (start (c .before .before .before .before .before .before .before .before .before .before .before)) (S (c .before .before .before .before .before .before .before .before .before .before .before))) doseFrom (after-amount (c .before .before .before) ∙ fields-bad (S (c .before .before .before .before .before .before .before .before .before .before .before)) (c .before .before .before .before .amount .given .0 .1 .0) 1 ([]) (c .before .before .before .before .before .before .before .before .before .before .before .before .hour .given .0 .0 ∷ c .before .before .before .before .before .before .before .before .count .given .0 .0 ∷ c .before .before .before .before .amount .given .0 .0 ∷ []) (c .before .before .field-at4 .ensures) (c .enum-told4 .given .1))
+unfolding mostOfD
+returns-4 c =
+    let a = c .before .before .before in
+    let b = one (two a) in
+    refuse (length (S b)) mostOfD (drop (start b) (S b)) doseFrom (after-amount a ∙ fields-bad (S b) (amountEnd a) _ _ (amount a) (c .before .before .field-at4 .ensures) (c .enum-told4 .given .1))
 
 end-at-requires : tie.Need-end-at-requires
 end-at-requires c κs = search needs
 
 returns-5 : tie.Need-returns-5
-unfolding doseFrom
+unfolding doseFrom mostOfD
 returns-5 c =
-    let r = c .before .before .before .before .before .before .before .before .before .before .before .before .before in
-    ended (length (S r)) mostOfD (drop (start r) (S r)) _ _ doseFrom _ (after-settled (c .before)) (c .end-at .ensures)
+    let b = one (two (three (c .before))) in
+    ended (length (S b)) mostOfD (drop (start b) (S b)) _ _ doseFrom _ (after-settled (c .before)) (c .end-at .ensures)
 
 pub dose-at-spec : {M : Type 1} → statement M
 dose-at-spec =

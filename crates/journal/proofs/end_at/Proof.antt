@@ -2,11 +2,11 @@ use mathlib.Core.Path.{_≡_, sym, ap, _∙_}
 use Prim.Native.Nat.{ℕ, _+_, _<_}
 use native.Mathlib.Omega.{arith}
 use denote.Ref.{now}
-use lib.ListN.{length, getD, drop}
+use lib.ListN.{length, getD}
 use Rattle.laws.specs.Decimal.{good}
 use Rattle.paper.specs.Answer.{done}
 use Rattle.journal.specs.Line.{LF, placed}
-use Rattle.journal.proofs.Fields.{place-back}
+use Rattle.journal.specs.LineLaws.{place-back}
 use Rattle.journal.proofs.Scanning.{byte-inside, expect-hit, expect-miss}
 use borrow.Author.Needs.{needs}
 use Rattle.journal.proofs.end_at.Statement.{statement}
@@ -24,20 +24,24 @@ byte-at-requires c κs = search needs
 
 returns : tie.Need-returns
 unfolding placed
-returns c = let a = c .before .before .before .args in
+returns c =
+    let a = c .before .before .before .args in
     let e = c .before .byte-at .ensures in
     let s = now (a .s) in
-    sym (ap (placed (length s)) (expect-miss s (a .at) LF (λ rest. good (a .line) rest) (λ h. c .if1 .taken (e ∙ h))))
+    let n : getD s (a .at) 0 ≡ LF → ⊥ = λ h. omega (arith, c .if1 .taken) in
+    sym (ap (placed (length s)) (expect-miss s (a .at) LF (λ rest. good (a .line) rest) n))
 
 add-t6 : tie.Need-add-t6
 add-t6 c = let l = there c in omega arith
 
 returns-2 : tie.Need-returns-2
 unfolding placed
-returns-2 c = let a = c .before .before .before .args in
+returns-2 c =
+    let a = c .before .before .before .args in
     let e = c .before .byte-at .ensures in
     let s = now (a .s) in
-    sym (ap (placed (length s)) (expect-hit s (a .at) LF (λ rest. good (a .line) rest) (omega arith) (sym e ∙ c .if1 .left))
+    let l : getD s (a .at) 0 ≡ LF = omega (arith, c .if1 .left) in
+    sym (ap (placed (length s)) (expect-hit s (a .at) LF (λ rest. good (a .line) rest) (omega arith) l)
     ∙ ap (λ (n : ℕ). done (record { line = a .line; next = n })) (place-back s (a .at + 1) (omega (arith, there c))))
 
 pub end-at-spec : {M : Type 1} → statement M

@@ -1,8 +1,8 @@
-use mathlib.Core.Path.{_≡_, sym, ap, _∙_}
-use Prim.Native.Nat.{ℕ, _+_, _<_}
+use mathlib.Core.Path.{sym, _∙_}
+use Prim.Native.Nat.{_<_}
 use native.Mathlib.Omega.{arith}
 use denote.Ref.{now}
-use lib.ListN.{length, getD, drop}
+use lib.ListN.{length}
 use Rattle.laws.specs.Decimal.{numberAt}
 use Rattle.journal.specs.Line.{TAB}
 use Rattle.journal.specs.Scan.{fieldAt}
@@ -23,7 +23,8 @@ byte-at-requires c κs = search needs
 
 returns : tie.Need-returns
 unfolding fieldAt
-returns c = let a = c .before .before .before .args in
+returns c =
+    let a = c .before .before .before .args in
     let e = c .before .byte-at .ensures in
     record { reads = expect-miss (now (a .s)) (a .at) TAB (numberAt (a .most)) (λ h. c .if1 .taken (e ∙ h)); inside = omega arith }
 
@@ -35,7 +36,8 @@ number-at-requires c κs = search needs
 
 returns-2 : tie.Need-returns-2
 unfolding fieldAt
-returns-2 c = let a = c .before .before .before .before .args in
+returns-2 c =
+    let a = c .before .before .before .before .args in
     let e = c .before .before .byte-at .ensures in
     let n = c .number-at .ensures in
     record { reads = expect-hit (now (a .s)) (a .at) TAB (numberAt (a .most)) (omega arith) (sym e ∙ c .before .if1 .left) ∙ n .reads; inside = n .inside }

@@ -1,4 +1,4 @@
-use Rattle.laws.specs.Pick.{pick, picks}
+use Rattle.laws.specs.Pick.{picks}
 use Rattle.journal.proofs.first_hour.Statement.{statement}
 use Rattle.journal.proofs.first_hour.Tie as tie
 

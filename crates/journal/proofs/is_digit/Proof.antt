@@ -1,4 +1,4 @@
-use Rattle.laws.specs.Pick.{pick, picks}
+use Rattle.laws.specs.Pick.{picks}
 use Rattle.laws.specs.Decimal.{isDigit}
 use Rattle.journal.proofs.is_digit.Statement.{statement}
 use Rattle.journal.proofs.is_digit.Tie as tie

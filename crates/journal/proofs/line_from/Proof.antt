@@ -1,4 +1,4 @@
-use Rattle.laws.specs.Pick.{pick, picks}
+use Rattle.laws.specs.Pick.{picks}
 use Rattle.journal.specs.Scan.{lineFrom}
 use Rattle.journal.specs.Line.{doseFrom, onFrom}
 use borrow.Author.Needs.{needs}

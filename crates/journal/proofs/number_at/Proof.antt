@@ -1,16 +1,15 @@
 -- What is left from the next byte on, after the value so far, gives the whole number.
-use mathlib.Core.Path.{_≡_, refl, sym, ap, _∙_}
-use mathlib.Core.Bool.{Bool, true, false}
+use mathlib.Core.Path.{_≡_, sym, ap, _∙_}
+use mathlib.Core.Bool.{true}
 use mathlib.Core.List.{List}
 use Prim.Native.Nat.{ℕ, _+_, _*_, _-_, _≤_, _<_}
 use native.Mathlib.Omega.{arith}
 use denote.Ref.{now}
-use lib.Dec.{ltb}
 use lib.ListN.{length, getD, drop}
 use borrow.Author.Needs.{needs}
 use borrow.Author.Tests.{not-true, not-false, lt-ltb, le-ltb}
 use Rattle.laws.specs.Pick.{pick-t, pick-f, so}
-use Rattle.laws.specs.Decimal.{isDigit, digitsFrom, numberAt, bad}
+use Rattle.laws.specs.Decimal.{isDigit, numberAt}
 use Rattle.laws.specs.DecimalLaws.{digit-range}
 use Rattle.journal.proofs.Scanning.{byte-inside, onward, digits-digit, digits-end, number-none, number-zero, number-digits}
 use Rattle.journal.proofs.number_at.Statement.{statement}
@@ -140,7 +139,11 @@ loop-again c =
     let h = head c .loop in
     let s = S (head c .before .before) in
     let m = head c .before .before .before .before .before .before .args .most in
-    (omega arith, omega arith, h .inv .2 ∙ pick-f _ _ _ (le-ltb _ _ (c .before .before .before .loop-test .taken)) ∙ digits-digit m (h .v) s (h .i) (ap isDigit (sym e) ∙ digit c) ∙ ap (λ (b : ℕ). onward m (h .v * 10 + (b - 48)) (drop (h .i + 1) s)) (sym e))
+    let d = ap isDigit (sym e) ∙ digit c in (
+      omega arith,
+      omega arith,
+      h .inv .2 ∙ pick-f _ _ _ (le-ltb _ _ (c .before .before .before .loop-test .taken)) ∙ digits-digit m (h .v) s (h .i) d ∙ ap (λ (b : ℕ). onward m (h .v * 10 + (b - 48)) (drop (h .i + 1) s)) (sym e),
+    )
 
 returns-4 : tie.Need-returns-4 Inv-loop μ-loop
 unfolding onward

@@ -1,5 +1,4 @@
-use mathlib.Core.Path.{_≡_, sym, ap, _∙_}
-use mathlib.Core.List.{List, [], _∷_}
+use mathlib.Core.List.{[]}
 use denote.Ref.{now}
 use lib.ListN.{length, drop}
 use Rattle.journal.specs.Line.{mostOfH, onFrom}
@@ -22,18 +21,20 @@ enum-told c = search needs
 
 returns : tie.Need-returns
 unfolding mostOfH
-returns c = let s = now (c .before .before .before .before .args .s) in
+returns c =
+    let s = now (c .before .before .before .before .args .s) in
     let at = c .before .before .before .before .args .at in
-    refuse (length s) mostOfH (drop at s) onFrom (fields-bad s at 9999999 [] [] (c .before .before .field-at .ensures) (c .enum-told .given .1))
+    refuse (length s) mostOfH (drop at s) onFrom (fields-bad s at _ _ [] (c .before .before .field-at .ensures) (c .enum-told .given .1))
 
 end-at-requires : tie.Need-end-at-requires
 end-at-requires c κs = search needs
 
 returns-2 : tie.Need-returns-2
 unfolding mostOfH onFrom
-returns-2 c = let s = now (c .before .before .before .before .before .before .args .s) in
+returns-2 c =
+    let s = now (c .before .before .before .before .before .before .args .s) in
     let at = c .before .before .before .before .before .before .args .at in
-    let e = fields-good s at 9999999 [] [] (c .before .before .before .before .field-at .ensures) (c .before .before .hour .given .1) in
+    let e = fields-good s at _ _ [] (c .before .before .before .before .field-at .ensures) (c .before .before .hour .given .1) in
     ended (length s) mostOfH (drop at s) _ _ onFrom _ e (c .end-at .ensures)
 
 pub on-at-spec : {M : Type 1} → statement M

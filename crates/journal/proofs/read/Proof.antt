@@ -2,23 +2,22 @@
 use mathlib.Core.Path.{_≡_, refl, sym, ap, _∙_, subst}
 use mathlib.Core.Bool.{Bool, true, false, _&&_}
 use mathlib.Core.List.{List, [], _∷_}
-use Prim.Native.Nat.{ℕ, suc, _+_, _-_, _≤_, _<_}
+use Prim.Native.Nat.{ℕ, _+_, _-_, _≤_, _<_}
 use native.Mathlib.Omega.{arith}
 use denote.Ref.{now}
-use lib.ListN.{length, getD, take, drop, set, length-set, length-drop, drop-of-length-le}
+use lib.ListN.{length, getD, take, drop, length-set, length-drop, drop-of-length-le}
 use borrow.Author.Needs.{needs}
 use Rattle.laws.specs.Decimal.{good, bad}
-use Rattle.paper.specs.Answer.{Answer, done, refused, told}
+use Rattle.paper.specs.Answer.{refused, told}
 use Rattle.paper.specs.Numbers.{R10}
 use Rattle.journal.specs.Line.{LF, mostOfD, fieldsAt, lineOf}
 use Rattle.journal.specs.LineLaws.{line-shorter}
-use Rattle.journal.specs.Journal.{hourIn, outOfOrder, tooFar, noPast, pastAfter, ordered, journalOf, summaryOf}
+use Rattle.journal.specs.Journal.{hourIn, outOfOrder, tooFar, pastAfter, ordered, journalOf, summaryOf}
 use Rattle.journal.specs.JournalLaws.{journal-long}
-use Rattle.journal.specs.Scan.{placeAfter, lineFrom}
+use Rattle.journal.specs.Scan.{placeAfter}
 use Rattle.journal.specs.declared.Num.{Num}
 use Rattle.journal.specs.declared.Line.{Line}
 use Rattle.journal.specs.declared.Past.{Past}
-use Rattle.journal.specs.declared.Summary.{Summary}
 use Rattle.journal.proofs.Scanning.{byte-inside}
 use Rattle.journal.proofs.Fields.{few, asks, fields-turn, fields-stop, no-more, line-broken, line-torn, line-read}
 use Rattle.journal.proofs.Carried.{sumFrom, sum-all, sum-none, sum-bad, sum-good, order-broken, order-far, order-kept}
@@ -37,8 +36,6 @@ Inv-lines bytes size past₀ at₀ lines₀ past at lines = (at ≤ length bytes
 
 abbrev μ-lines : tie.MeasureT-lines
 μ-lines bytes size past₀ at₀ lines₀ past at lines = length bytes - at
-
--- ---- the places: a line's start, its letter, its fields
 
 abbrev S : tie.At-lines Inv-fields μ-fields Inv-lines μ-lines → List ℕ
 S c = now (c .before .before .before .before .args .bytes)
@@ -77,8 +74,6 @@ read-fields c =
     ∙ ap (λ (j : ℕ). fieldsAt (drop (f .k) (take n mostOfD)) (take j (f .got)) rest) (sym e)
     ∙ f .inv .3
 
--- ---- the places: a line that was read
-
 abbrev fields-of : tie.After-line-from Inv-fields μ-fields Inv-lines μ-lines → tie.At-fields Inv-fields μ-fields Inv-lines μ-lines
 fields-of c = c .before .before .before .before
 
@@ -91,7 +86,10 @@ next c = drop (fields-of c .fields .p + 1) (S (top-of c))
 read-line : (c : tie.After-line-from Inv-fields μ-fields Inv-lines μ-lines) → lineOf (here (letter (fields-of c))) ≡ good (c .line-from .result) (next c)
 read-line c =
     let a = fields-of c in
-    line-read (S (top-of c)) (a .fields .got) (top-of c .lines .at) (letter a .fields-after .result) (a .fields .p) (letter a .fields-after .ensures) (some a) (read-fields (c .before .before .before)) (sym (c .before .before .byte-at .ensures) ∙ c .before .if4 .left)
+    let f = a .fields in
+    let n = letter a .fields-after in
+    let lf = sym (c .before .before .byte-at .ensures) ∙ c .before .if4 .left in
+    line-read (S (top-of c)) (f .got) (top-of c .lines .at) (n .result) (f .p) (n .ensures) (some a) (read-fields (c .before .before .before)) lf
     ∙ ap (λ (l : Line). good l (next c)) (sym (c .line-from .ensures))
 
 judged : (c : tie.After-line-from Inv-fields μ-fields Inv-lines μ-lines) → told summaryOf (journalOf (S (top-of c)))
@@ -123,11 +121,9 @@ far-is c b e =
     let p = top-of (c .before .before .before .before) .lines .past in
     ap (λ (h : ℕ). p .begun && tooFar (p .first) h) (sym (c .before .before .before .hour-in .ensures)) ∙ sym (c .too-far .ensures) ∙ e
 
--- ---- the needs
-
 returns : tie.Need-returns Inv-fields μ-fields Inv-lines μ-lines
 unfolding told
-returns c = sym (ap (told summaryOf) (journal-long (now (c .before .before .args .bytes)) (c .if1 .taken)))
+returns c = sym (ap (told summaryOf) (journal-long (now (c .before .before .args .bytes)) (omega (arith, c .if1 .taken))))
 
 no-past-requires : tie.Need-no-past-requires Inv-fields μ-fields Inv-lines μ-lines
 no-past-requires c κs = search needs
@@ -135,7 +131,7 @@ no-past-requires c κs = search needs
 lines-holds : tie.Need-lines-holds Inv-fields μ-fields Inv-lines μ-lines
 lines-holds c =
     let s = now (c .before .before .before .args .bytes) in
-    (search needs, search needs, sum-all s (c .before .if1 .left) ∙ ap (λ (p : Past). sumFrom p 0 s) (sym (c .no-past .ensures)))
+    (search needs, search needs, sum-all s (omega (arith, c .before .if1 .left)) ∙ ap (λ (p : Past). sumFrom p 0 s) (sym (c .no-past .ensures)))
 
 add-line : tie.Need-add-line Inv-fields μ-fields Inv-lines μ-lines
 add-line c = omega (arith, c .before .lines .inv .1, c .if2 .left, c .before .before .before .if1 .left)
@@ -224,7 +220,12 @@ lines-again c =
     let r = c .before .before .before .before .before .before in
     let l = top-of r .lines in
     let e = past-end r in
-    (omega arith, omega (arith, l .inv .1), judged r ∙ order-kept (l .past) (r .line-from .result) (l .lines + 1) _ (order-is (c .before .before .before .before) false (c .before .before .before .if5 .left)) (far-is (c .before .before) false (c .before .if6 .left)) ∙ ap (λ (p : Past). sumFrom p (l .lines + 1) (next r)) (sym (c .past-after .ensures)))
+    let order = order-is (c .before .before .before .before) false (c .before .before .before .if5 .left) in
+    let far = far-is (c .before .before) false (c .before .if6 .left) in (
+      omega arith,
+      omega (arith, l .inv .1),
+      judged r ∙ order-kept (l .past) (r .line-from .result) (l .lines + 1) _ order far ∙ ap (λ (p : Past). sumFrom p (l .lines + 1) (next r)) (sym (c .past-after .ensures)),
+    )
 
 returns-2 : tie.Need-returns-2 Inv-fields μ-fields Inv-lines μ-lines
 returns-2 c =
@@ -240,14 +241,18 @@ unfolding mostOfD
 returns-4 c =
     let a = c .before .before .before .before in
     let f = a .fields in
-    let n = letter a .fields-after .result in
-    malformed (letter a) (line-broken (S (top (letter a))) (top (letter a) .lines .at) n (letter a .fields-after .ensures) (some a) (sym (f .inv .3) ∙ fields-stop (S (top (letter a))) (take (f .k) (f .got)) n (f .k) (f .p) (c .before .before .before .fields-test .taken) (at-most (letter a)) (c .before .before .field-at .ensures) (c .enum-told .given .1)))
+    let n = letter a .fields-after in
+    let s = S (top (letter a)) in
+    let stop = fields-stop s (take (f .k) (f .got)) (n .result) (f .k) (f .p) (c .before .before .before .fields-test .taken) (at-most (letter a)) (c .before .before .field-at .ensures) (c .enum-told .given .1) in
+    malformed (letter a) (line-broken s (top (letter a) .lines .at) (n .result) (n .ensures) (some a) (sym (f .inv .3) ∙ stop))
 
 returns-5 : tie.Need-returns-5 Inv-fields μ-fields Inv-lines μ-lines
 returns-5 c =
     let a = c .before .before .before in
     let f = a .fields in
-    malformed (letter a) (line-torn (S (top (letter a))) (f .got) (top (letter a) .lines .at) (letter a .fields-after .result) (f .p) (letter a .fields-after .ensures) (some a) (read-fields (c .before .before)) (λ e. c .if4 .taken (c .before .byte-at .ensures ∙ e)))
+    let n = letter a .fields-after in
+    let s = S (top (letter a)) in
+    malformed (letter a) (line-torn s (f .got) (top (letter a) .lines .at) (n .result) (f .p) (n .ensures) (some a) (read-fields (c .before .before)) (λ e. c .if4 .taken (c .before .byte-at .ensures ∙ e)))
 
 returns-6 : tie.Need-returns-6 Inv-fields μ-fields Inv-lines μ-lines
 returns-6 c =

@@ -2,12 +2,14 @@ use mathlib.Core.Path.{_≡_, sym, ap, _∙_}
 use mathlib.Core.List.{List}
 use Prim.Native.Nat.{ℕ}
 use Rattle.paper.specs.Answer.{done}
+use native.Mathlib.Omega.{arith}
 use denote.Ref.{now}
 use lib.ListN.{length}
 use Rattle.journal.specs.declared.Line.{Line}
 use Rattle.journal.specs.Line.{lineAt, lineOf, oneLine, whole, placed}
 use Rattle.journal.specs.Says.{saysAt}
-use Rattle.journal.proofs.Fields.{placed-bad, read-more, read-all}
+use Rattle.journal.specs.LineLaws.{placed-bad}
+use Rattle.journal.proofs.Fields.{read-more, read-all}
 use borrow.Author.Needs.{needs}
 use Rattle.journal.proofs.read_line.Statement.{statement}
 use Rattle.journal.proofs.read_line.Tie as tie
@@ -37,16 +39,17 @@ enum-told c = search needs
 
 returns : tie.Need-returns
 unfolding oneLine whole lineAt
-returns c = let s = now (c .before .before .before .before .args .bytes) in
+returns c =
+    let s = now (c .before .before .before .before .args .bytes) in
     sym (ap whole (placed-bad (length s) (lineOf s) (ap saysAt (sym (c .enum-told .given .1)) ∙ c .before .before .line-at .ensures)))
 
 returns-2 : tie.Need-returns-2
 unfolding oneLine
-returns-2 c = sym (read-more (S (c .before)) (next (c .before)) (line (c .before)) (at-line (c .before)) (c .if1 .taken))
+returns-2 c = sym (read-more (S (c .before)) (next (c .before)) (line (c .before)) (at-line (c .before)) (omega (arith, c .if1 .taken)))
 
 returns-3 : tie.Need-returns-3
 unfolding oneLine
-returns-3 c = sym (read-all (S (c .before)) (next (c .before)) (line (c .before)) (at-line (c .before)) (c .if1 .left))
+returns-3 c = sym (read-all (S (c .before)) (next (c .before)) (line (c .before)) (at-line (c .before)) (omega (arith, c .if1 .left)))
 
 pub read-line-spec : {M : Type 1} → statement M
 read-line-spec =
