@@ -24,7 +24,7 @@ use Rattle.journal.specs.declared.Line.{Line}
 use Rattle.journal.specs.declared.Summary.{Summary}
 use Rattle.hourly.specs.Hours.{amountsAt, hasOn, total, greatest, figuresOf, measuredOrIdle, hourOf, inFloat}
 use Rattle.hourly.specs.Text.{Row, measured, idle, missing, letterM, letterI, letterX, HourRow, rowFrom, rowOf, rowText, rowsOf, rowsText, hoursFrom, spanOf, hoursText}
-use Rattle.hourly.specs.Accepted.{Between, Accepted, few-lines}
+use Rattle.hourly.specs.Accepted.{Accepted}
 use Rattle.hourly.specs.Bounds.{modest, text-short}
 use Rattle.hourly.specs.Rows.{tailText}
 use Rattle.hourly.specs.Tally.{outside, tallyOf, linesOf, Tells, shownBy, shownOf, rowsBy, textBy, Summed, Printable, hoursIn}
@@ -183,7 +183,7 @@ hours-few (l ∷ ls) a = rw eqb·suc-zero (omega (arith, a .span))
 
 -- a sum of amounts is a whole number that an f64 holds exactly
 sum-small : {s : List ℕ} (ls : List Line) (h : ℕ) → Accepted s ls → total (amountsAt h ls) ≤ 2 ^ 53
-sum-small ls h a = omega (arith, modest h ls (a .ranged) .sum, few-lines a)
+sum-small ls h a = omega (arith, modest h ls (a .ranged) .sum, a .few)
 
 -- the table of an accepted journal is printed as its text
 pub record Prints (s : List ℕ) (found : Summary) (table : List Tally) : Type 0 where
@@ -233,9 +233,4 @@ prints s found table f t =
 
 -- the first line's hour is no later than the last line's
 pub first-last : {s : List ℕ} {found : Summary} → Found s found → found .first ≤ found .last
-unfolding firstHour lastHour
-first-last {s} f = omega (arith, f .first, f .last, go (linesOf s) (found-accepted f .between))
-  where
-    go : (ls : List Line) → Between (firstHour ls) (lastHour ls) ls → firstHour ls ≤ lastHour ls
-    go [] b = omega arith
-    go (l ∷ ls) b = omega (arith, b .0, b .1)
+first-last f = omega (arith, f .first, f .last, found-accepted f .order)

@@ -11,7 +11,7 @@ use lib.Ieee.Back.{round-whole}
 use Rattle.laws.specs.Pick.{pick}
 use Rattle.journal.specs.declared.Line.{Line}
 use Rattle.hourly.specs.Hours.{amountsAt, hasOn, total, greatest, inFloat, figuresOf, measuredOrIdle, hourOf}
-use Rattle.hourly.specs.Accepted.{Accepted, few-lines}
+use Rattle.hourly.specs.Accepted.{Accepted}
 use Rattle.hourly.specs.Bounds.{modest}
 use Rattle.hourly.specs.declared.Figures.{Figures}
 use Rattle.hourly.specs.declared.Hour.the-variants.{Measured, Idle, Missing}
@@ -40,7 +40,7 @@ pub figures-exact : {s : List ℕ} (ls : List Line) (h : ℕ) (f : Figures) → 
 unfolding figuresOf
 figures-exact ls h f a e =
     let m = modest h ls (a .ranged) in
-    let lines = few-lines a in
+    let lines = a .few in
     subst (Exact (amountsAt h ls)) (measured-figures ls h f e)
     (record {
       sum = whole-exact (total (amountsAt h ls)) (omega (arith, m .sum));
