@@ -2,13 +2,13 @@
 use mathlib.Core.Path.{_≡_, refl, sym, ap, _∙_, subst}
 use mathlib.Core.Bool.{Bool, true, false}
 use mathlib.Core.List.{List, [], _∷_, _++_, map}
-use Prim.Native.Nat.{ℕ, zero, suc, _+_, _-_, _^_, _≤_, _<_}
+use Prim.Native.Nat.{ℕ, suc, _+_, _^_, _≤_, _<_}
 use native.Mathlib.Omega.{arith}
 use native.Mathlib.Numerals.{add-one}
-use native.Mathlib.Nat.{add-zero, add-assoc}
+use native.Mathlib.Nat.{add-zero}
 use lib.Dec.{leb, eqb·suc-zero}
 use lib.ListN.{length, getD, take, drop, length-append, drop-of-length-le}
-use lib.Seq.{sets, length-sets, drop-cons, getD-take, length-take-le, drop-length}
+use lib.Seq.{sets, drop-cons, getD-take, length-take-le}
 use borrow.Author.Tests.{le-leb, lt-leb}
 use Rattle.laws.specs.Pick.{pick, pick-t, pick-f}
 use Rattle.laws.specs.Over.{sets-append, sets-over}
@@ -19,17 +19,17 @@ use Rattle.paper.specs.Numbers.{R8}
 use Rattle.text.specs.Put.{Puts}
 use Rattle.text.specs.PutLaws.{room-is, puts-fit, fit-puts, puts-length}
 use Rattle.journal.specs.Line.{LF, TAB}
-use Rattle.journal.specs.Journal.{firstHour, lastHour, summaryOf}
+use Rattle.journal.specs.Journal.{firstHour, summaryOf}
 use Rattle.journal.specs.declared.Line.{Line}
 use Rattle.journal.specs.declared.Summary.{Summary}
 use Rattle.hourly.specs.Hours.{amountsAt, hasOn, total, greatest, figuresOf, measuredOrIdle, hourOf, inFloat}
-use Rattle.hourly.specs.Text.{Row, measured, idle, missing, letterM, letterI, letterX, HourRow, rowFrom, rowOf, rowText, rowsOf, rowsText, hoursFrom, spanOf, hoursText}
+use Rattle.hourly.specs.Text.{Row, measured, idle, missing, letterM, letterI, letterX, rowFrom, rowOf, rowText, rowsOf, rowsText, hoursFrom, spanOf, hoursText}
 use Rattle.hourly.specs.Accepted.{Accepted}
 use Rattle.hourly.specs.Bounds.{modest, text-short}
 use Rattle.hourly.specs.Rows.{tailText}
-use Rattle.hourly.specs.Tally.{outside, tallyOf, linesOf, Tells, shownBy, shownOf, rowsBy, textBy, Summed, Printable, hoursIn}
+use Rattle.hourly.specs.Tally.{outside, tallyOf, linesOf, Tells, shownBy, shownOf, rowsBy, textBy, Printable, hoursIn}
 use Rattle.hourly.specs.declared.Hour.{Hour}
-use Rattle.hourly.specs.declared.Hour.the-variants.{Measured, Idle, Missing}
+use Rattle.hourly.specs.declared.Hour.the-variants.{Missing}
 use Rattle.hourly.specs.declared.Tally.{Tally}
 use Rattle.hourly.proofs.Floats.{whole-back}
 use Rattle.hourly.proofs.Answering.{hour-tally}

@@ -6,10 +6,9 @@ use native.Mathlib.Omega.{arith}
 use native.Mathlib.Decide.{decLt}
 use lib.Dec.{leb}
 use lib.ListN.{length, length-append}
-use lib.Seq.{sets}
 use borrow.Author.Tests.{le-leb, lt-leb}
-use Rattle.laws.specs.Pick.{pick, pick-t, pick-f}
-use Rattle.laws.specs.Over.{over, sets-over}
+use Rattle.laws.specs.Pick.{pick-t, pick-f}
+use Rattle.laws.specs.Over.{sets-over}
 use Rattle.laws.specs.Decimal.{decimal}
 use Rattle.paper.specs.Answer.{Answer, done, refused, fault, told, inRoom, leaves, Fills}
 use Rattle.paper.specs.Numbers.{R8}
@@ -22,7 +21,7 @@ use Rattle.journal.specs.declared.Line.{Line}
 use Rattle.journal.specs.declared.Refusal.{Refusal}
 use Rattle.journal.specs.declared.Refusal.the-variants as R
 use Rattle.hourly.specs.Says.{saysPrinted}
-use Rattle.hourly.specs.Report.{letterR, refusalText, refusalOf, reportFrom}
+use Rattle.hourly.specs.Report.{refusalText, refusalOf, reportFrom}
 use Rattle.hourly.specs.declared.Printed.{Printed}
 use Rattle.hourly.specs.declared.Printed.the-variants as P
 use Rattle.hourly.proofs.Answering.{refused-told}

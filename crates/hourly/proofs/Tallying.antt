@@ -2,19 +2,18 @@
 use mathlib.Core.Path.{_≡_, refl, sym, ap, _∙_, subst}
 use mathlib.Core.Bool.{Bool, true, false, _||_}
 use mathlib.Core.List.{List, [], _∷_, _++_, append-assoc, append-nil}
-use Prim.Native.Nat.{ℕ, zero, suc, _+_, _-_, _*_, _^_, _≤_, _<_, max}
+use Prim.Native.Nat.{ℕ, suc, _+_, _-_, _^_, _≤_, _<_, max}
 use native.Mathlib.Omega.{arith}
 use native.Mathlib.Numerals.{add-one}
 use native.Mathlib.Decide.{ℕ-discrete}
-use native.Mathlib.Nat.{le-of-suc-le-suc}
 use lib.Dec.{eqb}
 use lib.ListN.{length, getD, take, drop, set, length-append, length-set, replicate, length-replicate, getD-replicate, take-append-drop}
 use lib.Seq.{take-suc, drop-cons, drop-at, getD-set-same, getD-set-other, length-take-le, take-all}
 use borrow.Author.Tests.{eq-eqb, ne-eqb}
-use Rattle.laws.specs.Pick.{pick, pick-t, pick-f}
-use Rattle.laws.specs.Decimal.{good, bad}
+use Rattle.laws.specs.Pick.{pick-t, pick-f}
+use Rattle.laws.specs.Decimal.{good}
 use Rattle.paper.specs.Answer.{Answer, done, refused, fault, told}
-use Rattle.journal.specs.Line.{textOf, inRange, lineOf, Placed, placed, lineAt}
+use Rattle.journal.specs.Line.{textOf, inRange, lineOf, placed, lineAt}
 use Rattle.journal.specs.Journal.{hourIn, journalOf, journalText, firstHour, lastHour, summaryOf}
 use Rattle.journal.specs.LineLaws.{read-text, dose-range}
 use Rattle.journal.specs.Order.{Within}
@@ -26,7 +25,7 @@ use Rattle.journal.specs.declared.At.{At}
 use Rattle.journal.specs.declared.At.the-variants as A
 use Rattle.hourly.specs.Hours.{doseAt, amountsAt, isOn, hasOn, total, greatest, inFloat}
 use Rattle.hourly.specs.Accepted.{InRange, Ranged, Accepted, accepted, each-line, each-take}
-use Rattle.hourly.specs.Bounds.{Modest, modest}
+use Rattle.hourly.specs.Bounds.{modest}
 use Rattle.hourly.specs.Tally.{outside, noTally, withDose, withOn, counted, tallyOf, Tells, linesIn, linesOf}
 use Rattle.hourly.specs.declared.Tally.{Tally}
 use Rattle.hourly.proofs.Floats.{add-whole}

@@ -1,31 +1,30 @@
 -- Hours outside a journal's are missing, what an hour's lines come to is bounded, and 33,480 bytes hold the text of every journal. Assumes nothing.
-use mathlib.Core.Path.{_≡_, refl, sym, ap, _∙_, subst}
-use mathlib.Core.Bool.{Bool, true, false, _&&_, _||_}
+use mathlib.Core.Path.{_≡_, refl}
+use mathlib.Core.Bool.{Bool, true, false}
 use mathlib.Core.List.{List, [], _∷_, _++_, map}
 use mathlib.Core.Logic.{_⊎_, inl, inr}
-use Prim.Native.Nat.{ℕ, zero, suc, _+_, _-_, _*_, _≤_, _<_, max}
+use Prim.Native.Nat.{ℕ, zero, suc, _+_, _-_, _*_, _≤_, _<_}
 use native.Mathlib.Omega.{arith}
-use native.Mathlib.Decide.{decLt}
 use lib.Dec.{leb, eqb}
 use lib.ListN.{length, length-append}
-use borrow.Author.Tests.{leb-true, le-leb, ne-eqb}
+use borrow.Author.Tests.{le-leb, ne-eqb}
 use Rattle.laws.specs.Pick.{pick, pick-t, pick-all, pick-false}
 use Rattle.laws.specs.Decimal.{decimal, hexOf}
 use Rattle.laws.specs.DecimalLaws.{decimal-length, hex-length}
-use Rattle.paper.specs.Answer.{Answer, done, refused, onDone, inRoom}
+use Rattle.paper.specs.Answer.{done, refused, onDone, inRoom}
 use Rattle.paper.specs.Numbers.{R8}
-use Rattle.journal.specs.Line.{LF, TAB, inRange}
+use Rattle.journal.specs.Line.{LF, TAB}
 use Rattle.journal.specs.Journal.{hourIn, journalOf, firstHour, lastHour}
 use Rattle.journal.specs.LineLaws.{dose-range}
 use Rattle.journal.specs.JournalLaws.{Each, hour-range}
 use Rattle.journal.specs.Order.{Within}
 use Rattle.journal.specs.declared.Line.{Line}
 use Rattle.journal.specs.declared.Line.the-variants.{Dose, On}
-use Rattle.hourly.specs.Hours.{doseAt, amountsAt, isOn, hasOn, total, greatest, figuresOf, measuredOrIdle, hourOf, inFloat}
-use Rattle.hourly.specs.Text.{Row, measured, idle, missing, letterM, letterI, letterX, HourRow, rowFrom, rowOf, rowText, rowsOf, rowsText, hoursFrom, spanOf, hoursText, printOf}
+use Rattle.hourly.specs.Hours.{doseAt, amountsAt, isOn, hasOn, total, greatest, measuredOrIdle, hourOf}
+use Rattle.hourly.specs.Text.{Row, measured, idle, missing, letterM, letterI, letterX, rowFrom, rowOf, rowText, rowsOf, rowsText, hoursFrom, spanOf, hoursText, printOf}
 use Rattle.hourly.specs.Accepted.{Ranged, Accepted, accepted}
 use Rattle.hourly.specs.declared.Hour.{Hour}
-use Rattle.hourly.specs.declared.Hour.the-variants.{Measured, Idle, Missing}
+use Rattle.hourly.specs.declared.Hour.the-variants.{Missing}
 
 -- ---- outside first..last
 

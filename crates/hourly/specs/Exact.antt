@@ -1,5 +1,5 @@
 -- The figures of a measured hour: the sum and the largest amount are exact, the mean is one division. Assumes nothing.
-use mathlib.Core.Path.{_≡_, refl, sym, ap, _∙_, subst}
+use mathlib.Core.Path.{_≡_, refl, subst}
 use mathlib.Core.Bool.{Bool, true, false}
 use mathlib.Core.List.{List, [], _∷_}
 use Prim.Native.Nat.{ℕ, _^_, _≤_}
@@ -14,7 +14,7 @@ use Rattle.hourly.specs.Hours.{amountsAt, hasOn, total, greatest, inFloa
 use Rattle.hourly.specs.Accepted.{Accepted}
 use Rattle.hourly.specs.Bounds.{modest}
 use Rattle.hourly.specs.declared.Figures.{Figures}
-use Rattle.hourly.specs.declared.Hour.the-variants.{Measured, Idle, Missing}
+use Rattle.hourly.specs.declared.Hour.the-variants.{Measured, Missing}
 
 -- the first two exact, the mean one division of the sum by the number of doses
 pub record Exact (amounts : List ℕ) (f : Figures) : Type 0 where

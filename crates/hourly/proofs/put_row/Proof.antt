@@ -1,11 +1,9 @@
-use mathlib.Core.Path.{_≡_, sym, subst}
-use mathlib.Core.List.{List, [], _∷_, _++_}
-use Prim.Native.Nat.{ℕ, _+_, _≤_}
+use mathlib.Core.List.{[], _∷_, _++_}
+use Prim.Native.Nat.{_+_, _≤_}
 use borrow.Author.Needs.{needs}
 use denote.Ref.{now}
 use lib.ListN.{length}
 use Rattle.laws.specs.Decimal.{decimal}
-use Rattle.text.specs.Put.{Puts}
 use Rattle.journal.specs.Line.{TAB}
 use Rattle.hourly.specs.Rows.{tailText}
 use Rattle.hourly.specs.Tally.{saysShown}
