@@ -12,21 +12,19 @@ use lib.Seq.{sets, drop-cons, getD-take, length-take-le}
 use borrow.Author.Tests.{le-leb, lt-leb}
 use Rattle.laws.specs.Pick.{pick, pick-t, pick-f}
 use Rattle.laws.specs.Over.{sets-append, sets-over}
-use Rattle.laws.specs.Decimal.{decimal, hexOf}
-use Rattle.laws.specs.DecimalLaws.{decimal-length, hex-length}
+use Rattle.laws.specs.Decimal.{decimal}
+use Rattle.laws.specs.DecimalLaws.{decimal-length}
 use Rattle.paper.specs.Answer.{Answer, done, refused, told, inRoom, leaves, Fills}
 use Rattle.paper.specs.Numbers.{R8}
 use Rattle.text.specs.Put.{Puts}
 use Rattle.text.specs.PutLaws.{room-is, puts-fit, fit-puts, puts-length}
-use Rattle.journal.specs.Line.{LF, TAB}
 use Rattle.journal.specs.Journal.{firstHour, summaryOf}
 use Rattle.journal.specs.declared.Line.{Line}
 use Rattle.journal.specs.declared.Summary.{Summary}
 use Rattle.hourly.specs.Hours.{amountsAt, hasOn, total, greatest, figuresOf, measuredOrIdle, hourOf, inFloat}
-use Rattle.hourly.specs.Text.{Row, measured, idle, missing, letterM, letterI, letterX, rowFrom, rowOf, rowText, rowsOf, rowsText, hoursFrom, spanOf, hoursText}
+use Rattle.hourly.specs.Text.{Row, rowFrom, rowOf, rowText, rowsOf, rowsText, hoursFrom, spanOf, hoursText}
 use Rattle.hourly.specs.Accepted.{Accepted}
 use Rattle.hourly.specs.Bounds.{modest, text-short}
-use Rattle.hourly.specs.Rows.{tailText}
 use Rattle.hourly.specs.Tally.{outside, tallyOf, linesOf, Tells, shownBy, shownOf, rowsBy, textBy, Printable, hoursIn}
 use Rattle.hourly.specs.declared.Hour.{Hour}
 use Rattle.hourly.specs.declared.Hour.the-variants.{Missing}
@@ -54,34 +52,6 @@ put-then {old} {mid} {new} {at} {p} {r} x y room first behind =
     fit-puts (room-is old at (x ++ y) room)
     (b .0 ∙ ap (λ (o : List ℕ). sets o p y) (a .0) ∙ ap (λ (i : ℕ). sets (sets old at x) i y) place ∙ sym (sets-append old at x y))
     (b .1 ∙ omega arith)
-
--- a row is the hour, a tab and its tail
-pub row-is : (h : ℕ) (r : Row) → rowText h r ≡ decimal h ++ TAB ∷ tailText r
-unfolding rowText tailText
-row-is h (measured doses sum bits) = refl
-row-is h idle = refl
-row-is h missing = refl
-
--- how many bytes it has
-pub measured-length : (h doses sum bits : ℕ) → length (rowText h (measured doses sum bits)) ≡ length (decimal h) + 22 + length (decimal doses) + length (decimal sum)
-unfolding rowText
-measured-length h doses sum bits =
-    omega (
-      arith,
-      hex-length 16 bits,
-      length-append (decimal h) (TAB ∷ letterM ∷ TAB ∷ (decimal doses ++ TAB ∷ (decimal sum ++ TAB ∷ (hexOf 16 bits ++ LF ∷ [])))),
-      length-append (decimal doses) (TAB ∷ (decimal sum ++ TAB ∷ (hexOf 16 bits ++ LF ∷ []))),
-      length-append (decimal sum) (TAB ∷ (hexOf 16 bits ++ LF ∷ [])),
-      length-append (hexOf 16 bits) (LF ∷ []),
-    )
-
-pub idle-length : (h : ℕ) → length (rowText h idle) ≡ length (decimal h) + 3
-unfolding rowText
-idle-length h = length-append (decimal h) (TAB ∷ letterI ∷ LF ∷ [])
-
-pub missing-length : (h : ℕ) → length (rowText h missing) ≡ length (decimal h) + 3
-unfolding rowText
-missing-length h = length-append (decimal h) (TAB ∷ letterX ∷ LF ∷ [])
 
 -- a u64 has at most 20 digits
 pub digits-most : (n : ℕ) → n < 2 ^ 64 → length (decimal n) ≤ 20

@@ -12,10 +12,11 @@ use lib.Seq.{take-suc, drop-cons, drop-at, getD-set-same, getD-set-other, length
 use borrow.Author.Tests.{eq-eqb, ne-eqb}
 use Rattle.laws.specs.Pick.{pick-t, pick-f}
 use Rattle.laws.specs.Decimal.{good}
-use Rattle.paper.specs.Answer.{Answer, done, refused, fault, told}
+use Rattle.paper.specs.Answer.{done, told}
 use Rattle.journal.specs.Line.{textOf, inRange, lineOf, placed, lineAt}
 use Rattle.journal.specs.Journal.{hourIn, journalOf, journalText, firstHour, lastHour, summaryOf}
 use Rattle.journal.specs.LineLaws.{read-text, dose-range}
+use Rattle.journal.specs.JournalLaws.{judged-lines}
 use Rattle.journal.specs.Order.{Within}
 use Rattle.journal.specs.Says.{saysAt, at-one}
 use Rattle.journal.specs.declared.Line.{Line}
@@ -205,22 +206,18 @@ pub record Found (s : List ℕ) (found : Summary) : Type 0 where
   pub last : lastHour (linesOf s) ≡ found .last
 
 pub found-of : (s : List ℕ) (found : Summary) → told summaryOf (journalOf s) ≡ done found → Found s found
-unfolding linesOf told summaryOf
-found-of s found e = go (journalOf s) refl e
-  where
-    go : (j : Answer (List Line)) → journalOf s ≡ j → told summaryOf j ≡ done found → Found s found
-    go (done ls) p e =
-        let f : summaryOf ls ≡ found = cc in
-        let q : linesIn (journalOf s) ≡ ls = ap linesIn p in
-        record {
-          journal = p ∙ ap done (sym q);
-          summary = ap summaryOf q ∙ f;
-          lines = ap length q ∙ ap (λ (x : Summary). x .lines) f;
-          first = ap firstHour q ∙ ap (λ (x : Summary). x .first) f;
-          last = ap lastHour q ∙ ap (λ (x : Summary). x .last) f;
-        }
-    go (refused n vs) p e = let z : _≡_ {A = ℕ} 0 1 = cc in absurd (omega arith)
-    go (fault n vs) p e = let z : _≡_ {A = ℕ} 0 1 = cc in absurd (omega arith)
+unfolding linesOf summaryOf
+found-of s found e =
+    let j = judged-lines s found (sym e) in
+    let q : linesIn (journalOf s) ≡ j .0 = ap linesIn (j .1) in
+    let f : summaryOf (j .0) ≡ found = sym (j .2) in
+    record {
+      journal = j .1 ∙ ap done (sym q);
+      summary = ap summaryOf q ∙ f;
+      lines = ap length q ∙ ap (λ (x : Summary). x .lines) f;
+      first = ap firstHour q ∙ ap (λ (x : Summary). x .first) f;
+      last = ap lastHour q ∙ ap (λ (x : Summary). x .last) f;
+    }
 
 pub found-accepted : {s : List ℕ} {found : Summary} → Found s found → Accepted s (linesOf s)
 found-accepted {s} f = accepted s (linesOf s) (f .journal)

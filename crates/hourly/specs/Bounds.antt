@@ -64,6 +64,27 @@ modest h (Dose x c a s ∷ ls) r = go (eqb x h) (modest h ls (r .1)) (dose-range
 
 -- ---- the length of the text
 
+-- how many bytes a row has
+pub measured-length : (h doses sum bits : ℕ) → length (rowText h (measured doses sum bits)) ≡ length (decimal h) + 22 + length (decimal doses) + length (decimal sum)
+unfolding rowText
+measured-length h doses sum bits =
+    omega (
+      arith,
+      hex-length 16 bits,
+      length-append (decimal h) (TAB ∷ letterM ∷ TAB ∷ (decimal doses ++ TAB ∷ (decimal sum ++ TAB ∷ (hexOf 16 bits ++ LF ∷ [])))),
+      length-append (decimal doses) (TAB ∷ (decimal sum ++ TAB ∷ (hexOf 16 bits ++ LF ∷ []))),
+      length-append (decimal sum) (TAB ∷ (hexOf 16 bits ++ LF ∷ [])),
+      length-append (hexOf 16 bits) (LF ∷ []),
+    )
+
+pub idle-length : (h : ℕ) → length (rowText h idle) ≡ length (decimal h) + 3
+unfolding rowText
+idle-length h = length-append (decimal h) (TAB ∷ letterI ∷ LF ∷ [])
+
+pub missing-length : (h : ℕ) → length (rowText h missing) ≡ length (decimal h) + 3
+unfolding rowText
+missing-length h = length-append (decimal h) (TAB ∷ letterX ∷ LF ∷ [])
+
 abbrev RowShort : Row → Type 0
 RowShort (measured doses sum bits) = (doses < 100000) × (sum < 100000000000)
 RowShort idle = Unit
@@ -71,21 +92,10 @@ RowShort missing = Unit
 
 -- a row of an hour, doses and a sum of at most 7, 5 and 11 digits
 row-short : (h : ℕ) (r : Row) → h < 10000000 → RowShort r → length (rowText h r) ≤ 45
-unfolding rowText
 row-short h (measured doses sum bits) a b =
-    omega (
-      arith,
-      decimal-length 7 h a (omega arith),
-      decimal-length 5 doses (b .0) (omega arith),
-      decimal-length 11 sum (b .1) (omega arith),
-      hex-length 16 bits,
-      length-append (decimal h) (TAB ∷ letterM ∷ TAB ∷ (decimal doses ++ TAB ∷ (decimal sum ++ TAB ∷ (hexOf 16 bits ++ LF ∷ [])))),
-      length-append (decimal doses) (TAB ∷ (decimal sum ++ TAB ∷ (hexOf 16 bits ++ LF ∷ []))),
-      length-append (decimal sum) (TAB ∷ (hexOf 16 bits ++ LF ∷ [])),
-      length-append (hexOf 16 bits) (LF ∷ []),
-    )
-row-short h idle a b = omega (arith, decimal-length 7 h a (omega arith), length-append (decimal h) (TAB ∷ letterI ∷ LF ∷ []))
-row-short h missing a b = omega (arith, decimal-length 7 h a (omega arith), length-append (decimal h) (TAB ∷ letterX ∷ LF ∷ []))
+    omega (arith, decimal-length 7 h a (omega arith), decimal-length 5 doses (b .0) (omega arith), decimal-length 11 sum (b .1) (omega arith), measured-length h doses sum bits)
+row-short h idle a b = omega (arith, decimal-length 7 h a (omega arith), idle-length h)
+row-short h missing a b = omega (arith, decimal-length 7 h a (omega arith), missing-length h)
 
 row-of-short : (h : ℕ) (ls : List Line) → length (amountsAt h ls) < 100000 → total (amountsAt h ls) < 100000000000 → RowShort (rowOf ls h)
 unfolding rowOf hourOf rowFrom measuredOrIdle

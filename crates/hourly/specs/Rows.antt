@@ -33,11 +33,15 @@ tailText (measured doses sum bits) = letterM ∷ TAB ∷ (decimal doses ++ TAB �
 tailText idle = letterI ∷ LF ∷ []
 tailText missing = letterX ∷ LF ∷ []
 
-row-tail : (h : ℕ) (r : Row) (x : List ℕ) → rowText h r ++ x ≡ decimal h ++ TAB ∷ (tailText r ++ x)
+-- a row is the hour, a tab and its tail
+pub row-is : (h : ℕ) (r : Row) → rowText h r ≡ decimal h ++ TAB ∷ tailText r
 unfolding rowText tailText
-row-tail h (measured doses sum bits) x = append-assoc (decimal h) _ x
-row-tail h idle x = append-assoc (decimal h) _ x
-row-tail h missing x = append-assoc (decimal h) _ x
+row-is h (measured doses sum bits) = refl
+row-is h idle = refl
+row-is h missing = refl
+
+row-tail : (h : ℕ) (r : Row) (x : List ℕ) → rowText h r ++ x ≡ decimal h ++ TAB ∷ (tailText r ++ x)
+row-tail h r x = ap (λ (t : List ℕ). t ++ x) (row-is h r) ∙ append-assoc (decimal h) (TAB ∷ tailText r) x
 
 -- a measured tail, its parts one behind the other
 measured-tail : (doses sum bits : ℕ) (x : List ℕ) → tailText (measured doses sum bits) ++ x ≡ letterM ∷ TAB ∷ (decimal doses ++ TAB ∷ (decimal sum ++ TAB ∷ (hexOf 16 bits ++ LF ∷ x)))

@@ -5,9 +5,9 @@ use denote.Ref.{now}
 use lib.ListN.{length}
 use Rattle.laws.specs.Decimal.{decimal}
 use Rattle.journal.specs.Line.{TAB}
-use Rattle.hourly.specs.Rows.{tailText}
+use Rattle.hourly.specs.Rows.{tailText, row-is}
 use Rattle.hourly.specs.Tally.{saysShown}
-use Rattle.hourly.proofs.Printing.{put-then, room-then, row-is}
+use Rattle.hourly.proofs.Printing.{put-then, room-then}
 use Rattle.hourly.proofs.put_row.Statement.{statement}
 use Rattle.hourly.proofs.put_row.Tie as tie
 
