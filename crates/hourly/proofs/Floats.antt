@@ -5,7 +5,6 @@ use Prim.Native.Nat.{ℕ, zero, suc, _+_, _*_, _^_, _≤_, _<_}
 use native.Mathlib.Nat.{mul-one, mul-comm, mul-assoc, add-mul, mul-pos, zero-lt-suc, zero-mul}
 use native.Mathlib.Omega.{arith}
 use lib.Dec.{T, ltb, eqb·suc-zero, le→leb}
-use lib.IntN.{pos}
 use lib.Ieee.{Float, nan, inf, fin, Format, binary64, prec, low, emax, up, down, round, units, odd, add, sum, div, ofInt, isNan, ofBits, toUnsigned, inUnsigned}
 use lib.Ieee as ieee
 use lib.Ieee.Fits.{down-pos, round-is}

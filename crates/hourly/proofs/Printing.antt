@@ -2,34 +2,32 @@
 use mathlib.Core.Path.{_≡_, refl, sym, ap, _∙_, subst}
 use mathlib.Core.Bool.{Bool, true, false}
 use mathlib.Core.List.{List, [], _∷_, _++_, map}
-use Prim.Native.Nat.{ℕ, zero, suc, _+_, _-_, _^_, _≤_, _<_}
+use Prim.Native.Nat.{ℕ, suc, _+_, _^_, _≤_, _<_}
 use native.Mathlib.Omega.{arith}
 use native.Mathlib.Numerals.{add-one}
-use native.Mathlib.Nat.{add-zero, add-assoc}
+use native.Mathlib.Nat.{add-zero}
 use lib.Dec.{leb, eqb·suc-zero}
 use lib.ListN.{length, getD, take, drop, length-append, drop-of-length-le}
-use lib.Seq.{sets, length-sets, drop-cons, getD-take, length-take-le, drop-length}
+use lib.Seq.{sets, drop-cons, getD-take, length-take-le}
 use borrow.Author.Tests.{le-leb, lt-leb}
 use Rattle.laws.specs.Pick.{pick, pick-t, pick-f}
 use Rattle.laws.specs.Over.{sets-append, sets-over}
-use Rattle.laws.specs.Decimal.{decimal, hexOf}
-use Rattle.laws.specs.DecimalLaws.{decimal-length, hex-length}
+use Rattle.laws.specs.Decimal.{decimal}
+use Rattle.laws.specs.DecimalLaws.{decimal-length}
 use Rattle.paper.specs.Answer.{Answer, done, refused, told, inRoom, leaves, Fills}
 use Rattle.paper.specs.Numbers.{R8}
 use Rattle.text.specs.Put.{Puts}
 use Rattle.text.specs.PutLaws.{room-is, puts-fit, fit-puts, puts-length}
-use Rattle.journal.specs.Line.{LF, TAB}
-use Rattle.journal.specs.Journal.{firstHour, lastHour, summaryOf}
+use Rattle.journal.specs.Journal.{firstHour, summaryOf}
 use Rattle.journal.specs.declared.Line.{Line}
 use Rattle.journal.specs.declared.Summary.{Summary}
 use Rattle.hourly.specs.Hours.{amountsAt, hasOn, total, greatest, figuresOf, measuredOrIdle, hourOf, inFloat}
-use Rattle.hourly.specs.Text.{Row, measured, idle, missing, letterM, letterI, letterX, HourRow, rowFrom, rowOf, rowText, rowsOf, rowsText, hoursFrom, spanOf, hoursText}
-use Rattle.hourly.specs.Accepted.{Between, Accepted, few-lines}
+use Rattle.hourly.specs.Text.{Row, rowFrom, rowOf, rowText, rowsOf, rowsText, hoursFrom, spanOf, hoursText}
+use Rattle.hourly.specs.Accepted.{Accepted}
 use Rattle.hourly.specs.Bounds.{modest, text-short}
-use Rattle.hourly.specs.Rows.{tailText}
-use Rattle.hourly.specs.Tally.{outside, tallyOf, linesOf, Tells, shownBy, shownOf, rowsBy, textBy, Summed, Printable, hoursIn}
+use Rattle.hourly.specs.Tally.{outside, tallyOf, linesOf, Tells, shownBy, shownOf, rowsBy, textBy, Printable, hoursIn}
 use Rattle.hourly.specs.declared.Hour.{Hour}
-use Rattle.hourly.specs.declared.Hour.the-variants.{Measured, Idle, Missing}
+use Rattle.hourly.specs.declared.Hour.the-variants.{Missing}
 use Rattle.hourly.specs.declared.Tally.{Tally}
 use Rattle.hourly.proofs.Floats.{whole-back}
 use Rattle.hourly.proofs.Answering.{hour-tally}
@@ -54,34 +52,6 @@ put-then {old} {mid} {new} {at} {p} {r} x y room first behind =
     fit-puts (room-is old at (x ++ y) room)
     (b .0 ∙ ap (λ (o : List ℕ). sets o p y) (a .0) ∙ ap (λ (i : ℕ). sets (sets old at x) i y) place ∙ sym (sets-append old at x y))
     (b .1 ∙ omega arith)
-
--- a row is the hour, a tab and its tail
-pub row-is : (h : ℕ) (r : Row) → rowText h r ≡ decimal h ++ TAB ∷ tailText r
-unfolding rowText tailText
-row-is h (measured doses sum bits) = refl
-row-is h idle = refl
-row-is h missing = refl
-
--- how many bytes it has
-pub measured-length : (h doses sum bits : ℕ) → length (rowText h (measured doses sum bits)) ≡ length (decimal h) + 22 + length (decimal doses) + length (decimal sum)
-unfolding rowText
-measured-length h doses sum bits =
-    omega (
-      arith,
-      hex-length 16 bits,
-      length-append (decimal h) (TAB ∷ letterM ∷ TAB ∷ (decimal doses ++ TAB ∷ (decimal sum ++ TAB ∷ (hexOf 16 bits ++ LF ∷ [])))),
-      length-append (decimal doses) (TAB ∷ (decimal sum ++ TAB ∷ (hexOf 16 bits ++ LF ∷ []))),
-      length-append (decimal sum) (TAB ∷ (hexOf 16 bits ++ LF ∷ [])),
-      length-append (hexOf 16 bits) (LF ∷ []),
-    )
-
-pub idle-length : (h : ℕ) → length (rowText h idle) ≡ length (decimal h) + 3
-unfolding rowText
-idle-length h = length-append (decimal h) (TAB ∷ letterI ∷ LF ∷ [])
-
-pub missing-length : (h : ℕ) → length (rowText h missing) ≡ length (decimal h) + 3
-unfolding rowText
-missing-length h = length-append (decimal h) (TAB ∷ letterX ∷ LF ∷ [])
 
 -- a u64 has at most 20 digits
 pub digits-most : (n : ℕ) → n < 2 ^ 64 → length (decimal n) ≤ 20
@@ -183,7 +153,7 @@ hours-few (l ∷ ls) a = rw eqb·suc-zero (omega (arith, a .span))
 
 -- a sum of amounts is a whole number that an f64 holds exactly
 sum-small : {s : List ℕ} (ls : List Line) (h : ℕ) → Accepted s ls → total (amountsAt h ls) ≤ 2 ^ 53
-sum-small ls h a = omega (arith, modest h ls (a .ranged) .sum, few-lines a)
+sum-small ls h a = omega (arith, modest h ls (a .ranged) .sum, a .few)
 
 -- the table of an accepted journal is printed as its text
 pub record Prints (s : List ℕ) (found : Summary) (table : List Tally) : Type 0 where
@@ -233,9 +203,4 @@ prints s found table f t =
 
 -- the first line's hour is no later than the last line's
 pub first-last : {s : List ℕ} {found : Summary} → Found s found → found .first ≤ found .last
-unfolding firstHour lastHour
-first-last {s} f = omega (arith, f .first, f .last, go (linesOf s) (found-accepted f .between))
-  where
-    go : (ls : List Line) → Between (firstHour ls) (lastHour ls) ls → firstHour ls ≤ lastHour ls
-    go [] b = omega arith
-    go (l ∷ ls) b = omega (arith, b .0, b .1)
+first-last f = omega (arith, f .first, f .last, found-accepted f .order)

@@ -2,30 +2,31 @@
 use mathlib.Core.Path.{_≡_, refl, sym, ap, _∙_, subst}
 use mathlib.Core.Bool.{Bool, true, false, _||_}
 use mathlib.Core.List.{List, [], _∷_, _++_, append-assoc, append-nil}
-use Prim.Native.Nat.{ℕ, zero, suc, _+_, _-_, _*_, _^_, _≤_, _<_, max}
+use Prim.Native.Nat.{ℕ, suc, _+_, _-_, _^_, _≤_, _<_, max}
 use native.Mathlib.Omega.{arith}
 use native.Mathlib.Numerals.{add-one}
 use native.Mathlib.Decide.{ℕ-discrete}
-use native.Mathlib.Nat.{le-of-suc-le-suc}
 use lib.Dec.{eqb}
 use lib.ListN.{length, getD, take, drop, set, length-append, length-set, replicate, length-replicate, getD-replicate, take-append-drop}
 use lib.Seq.{take-suc, drop-cons, drop-at, getD-set-same, getD-set-other, length-take-le, take-all}
 use borrow.Author.Tests.{eq-eqb, ne-eqb}
-use Rattle.laws.specs.Pick.{pick, pick-t, pick-f}
-use Rattle.laws.specs.Decimal.{good, bad}
-use Rattle.paper.specs.Answer.{Answer, done, refused, fault, told}
-use Rattle.journal.specs.Line.{textOf, inRange, lineOf, Placed, placed, lineAt}
+use Rattle.laws.specs.Pick.{pick-t, pick-f}
+use Rattle.laws.specs.Decimal.{good}
+use Rattle.paper.specs.Answer.{done, told}
+use Rattle.journal.specs.Line.{textOf, inRange, lineOf, placed, lineAt}
 use Rattle.journal.specs.Journal.{hourIn, journalOf, journalText, firstHour, lastHour, summaryOf}
 use Rattle.journal.specs.LineLaws.{read-text, dose-range}
-use Rattle.journal.specs.Says.{saysAt}
+use Rattle.journal.specs.JournalLaws.{judged-lines}
+use Rattle.journal.specs.Order.{Within}
+use Rattle.journal.specs.Says.{saysAt, at-one}
 use Rattle.journal.specs.declared.Line.{Line}
 use Rattle.journal.specs.declared.Line.the-variants.{Dose, On}
 use Rattle.journal.specs.declared.Summary.{Summary}
 use Rattle.journal.specs.declared.At.{At}
 use Rattle.journal.specs.declared.At.the-variants as A
 use Rattle.hourly.specs.Hours.{doseAt, amountsAt, isOn, hasOn, total, greatest, inFloat}
-use Rattle.hourly.specs.Accepted.{Ranged, Between, Accepted, accepted, few-lines}
-use Rattle.hourly.specs.Bounds.{Modest, modest}
+use Rattle.hourly.specs.Accepted.{InRange, Ranged, Accepted, accepted, each-line, each-take}
+use Rattle.hourly.specs.Bounds.{modest}
 use Rattle.hourly.specs.Tally.{outside, noTally, withDose, withOn, counted, tallyOf, Tells, linesIn, linesOf}
 use Rattle.hourly.specs.declared.Tally.{Tally}
 use Rattle.hourly.proofs.Floats.{add-whole}
@@ -109,22 +110,6 @@ tally-there ls (On x) h d =
 
 -- ---- the line at a place
 
-ranged-at : (ls : List Line) (n : ℕ) (d : Line) → Ranged ls → n < length ls → inRange (getD ls n d) ≡ true
-ranged-at [] n d r h = absurd (omega arith)
-ranged-at (l ∷ ls) zero d r h = r .0
-ranged-at (l ∷ ls) (suc n) d r h = ranged-at ls n d (r .1) (le-of-suc-le-suc h)
-
-ranged-take : (ls : List Line) (n : ℕ) → Ranged ls → Ranged (take n ls)
-ranged-take [] zero r = tt
-ranged-take [] (suc n) r = tt
-ranged-take (l ∷ ls) zero r = tt
-ranged-take (l ∷ ls) (suc n) r = (r .0, ranged-take ls n (r .1))
-
-between-at : (lo hi : ℕ) (ls : List Line) (n : ℕ) (d : Line) → Between lo hi ls → n < length ls → (lo ≤ hourIn (getD ls n d)) × (hourIn (getD ls n d) ≤ hi)
-between-at lo hi [] n d b h = absurd (omega arith)
-between-at lo hi (l ∷ ls) zero d b h = (b .0, b .1)
-between-at lo hi (l ∷ ls) (suc n) d b h = between-at lo hi ls n d (b .2) (le-of-suc-le-suc h)
-
 -- n lines are counted, and the bytes from `at` on are the text of the others
 pub record Counted (s : List ℕ) (ls : List Line) (first : ℕ) (table : List Tally) (at n : ℕ) : Type 0 where
   pub left : drop at s ≡ journalText (drop n ls)
@@ -141,12 +126,6 @@ pub record Turn (s : List ℕ) (ls : List Line) (first : ℕ) (table : List Tall
 abbrev pub Taken : (s : List ℕ) (ls : List Line) (first : ℕ) (table : List Tally) (n : ℕ) → At → Type 0
 Taken s ls first table n (A.Line line next) = Turn s ls first table n line next
 Taken s ls first table n A.R10 = ⊥
-
-at-one : (r : At) (p : Placed) → saysAt r ≡ done p → r ≡ A.Line (p .line) (p .next)
-at-one (A.Line m j) p e =
-    let f : _≡_ {A = Placed} (record { line = m; next = j }) p = cc in
-    ap (λ (q : Placed). A.Line (q .line) (q .next)) f
-at-one A.R10 p e = let z : _≡_ {A = ℕ} 0 1 = cc in absurd (omega arith)
 
 -- what follows some bytes stands where they end
 rest-back : (s x rest : List ℕ) → s ≡ x ++ rest → drop (length s - length rest) s ≡ rest
@@ -168,7 +147,7 @@ module _ (ls : List Line) (first : ℕ) (table : List Tally) (n : ℕ) (h : n < 
   unfolding tallyOf
   old-few low high =
       let e : getD table spot outside .doses ≡ length (amountsAt (hourIn this) (take n ls)) = ap (λ (t : Tally). t .doses) (old low high) in
-      omega (arith, modest (hourIn this) (take n ls) (ranged-take ls n ranged) .few, length-take-le n ls (omega arith))
+      omega (arith, modest (hourIn this) (take n ls) (each-take InRange ls n ranged) .few, length-take-le n ls (omega arith))
 
   tells-again : first ≤ hourIn this → spot < 744 → Tells (set table spot (counted (getD table spot outside) this)) first (take (n + 1) ls)
   tells-again low high = record { size = length-set table spot _ ∙ tells .size; at = λ k b. go k b (ℕ-discrete (hourIn this) (first + k)) }
@@ -182,7 +161,7 @@ module _ (ls : List Line) (first : ℕ) (table : List Tally) (n : ℕ) (h : n < 
           ap (λ (i : ℕ). getD (set table spot (counted (getD table spot outside) this)) i outside) (sym p)
           ∙ getD-set-same table spot (counted (getD table spot outside) this) outside (omega (arith, tells .size))
           ∙ ap (λ (t : Tally). counted t this) (old low high)
-          ∙ sym (tally-here (take n ls) this (ranged-take ls n ranged) (ranged-at ls n (On 0) ranged h) (omega (arith, length-take-le n ls (omega arith))))
+          ∙ sym (tally-here (take n ls) this (each-take InRange ls n ranged) (each-line InRange ls n (On 0) ranged h) (omega (arith, length-take-le n ls (omega arith))))
           ∙ ap (λ (x : List Line). tallyOf x (hourIn this)) (sym snoc)
           ∙ ap (tallyOf (take (n + 1) ls)) e
       go k b (no e) =
@@ -198,23 +177,23 @@ turn s ls first table at n r a f h c e =
     let l = getD ls n (On 0) in
     let rest = journalText (drop (suc n) ls) in
     let text : drop at s ≡ textOf l ++ rest = c .left ∙ ap journalText (drop-cons ls n (On 0) h) in
-    let read : lineOf (drop at s) ≡ good l rest = ap lineOf text ∙ read-text l rest (ranged-at ls n (On 0) (a .ranged) h) in
+    let read : lineOf (drop at s) ≡ good l rest = ap lineOf text ∙ read-text l rest (each-line InRange ls n (On 0) (a .ranged) h) in
     let whole : s ≡ (take at s ++ textOf l) ++ rest = sym (take-append-drop at s) ∙ ap (λ (x : List ℕ). take at s ++ x) text ∙ sym (append-assoc (take at s) (textOf l) rest) in
-    let b = between-at (firstHour ls) (lastHour ls) ls n (On 0) (a .between) h in
-    let low : first ≤ hourIn l = omega (arith, b .0) in
-    let high : hourIn l - first < 744 = omega (arith, b .1, a .span) in
+    let b = each-line (Within ls) ls n (On 0) (a .within) h in
+    let low : first ≤ hourIn l = omega (arith, b .from) in
+    let high : hourIn l - first < 744 = omega (arith, b .near) in
     let taken : Turn s ls first table n l (length s - length rest)
     = record {
       low = low;
       high = high;
-      few = old-few ls first table n h (c .tells) (a .ranged) (few-lines a) low high;
+      few = old-few ls first table n h (c .tells) (a .ranged) (a .few) low high;
       again =
           record {
             left = rest-back s (take at s ++ textOf l) rest whole ∙ ap (λ (k : ℕ). journalText (drop k ls)) (sym (add-one n));
-            tells = tells-again ls first table n h (c .tells) (a .ranged) (few-lines a) low high;
+            tells = tells-again ls first table n h (c .tells) (a .ranged) (a .few) low high;
           };
     } in
-    subst (Taken s ls first table n) (sym (at-one r (record { line = l; next = length s - length rest }) (e ∙ ap (placed (length s)) read))) taken
+    subst (Taken s ls first table n) (sym (at-one r (A.Line l (length s - length rest)) (e ∙ ap (placed (length s)) read))) taken
 
 -- ---- the pass as a whole
 
@@ -227,22 +206,18 @@ pub record Found (s : List ℕ) (found : Summary) : Type 0 where
   pub last : lastHour (linesOf s) ≡ found .last
 
 pub found-of : (s : List ℕ) (found : Summary) → told summaryOf (journalOf s) ≡ done found → Found s found
-unfolding linesOf told summaryOf
-found-of s found e = go (journalOf s) refl e
-  where
-    go : (j : Answer (List Line)) → journalOf s ≡ j → told summaryOf j ≡ done found → Found s found
-    go (done ls) p e =
-        let f : summaryOf ls ≡ found = cc in
-        let q : linesIn (journalOf s) ≡ ls = ap linesIn p in
-        record {
-          journal = p ∙ ap done (sym q);
-          summary = ap summaryOf q ∙ f;
-          lines = ap length q ∙ ap (λ (x : Summary). x .lines) f;
-          first = ap firstHour q ∙ ap (λ (x : Summary). x .first) f;
-          last = ap lastHour q ∙ ap (λ (x : Summary). x .last) f;
-        }
-    go (refused n vs) p e = let z : _≡_ {A = ℕ} 0 1 = cc in absurd (omega arith)
-    go (fault n vs) p e = let z : _≡_ {A = ℕ} 0 1 = cc in absurd (omega arith)
+unfolding linesOf summaryOf
+found-of s found e =
+    let j = judged-lines s found (sym e) in
+    let q : linesIn (journalOf s) ≡ j .0 = ap linesIn (j .1) in
+    let f : summaryOf (j .0) ≡ found = sym (j .2) in
+    record {
+      journal = j .1 ∙ ap done (sym q);
+      summary = ap summaryOf q ∙ f;
+      lines = ap length q ∙ ap (λ (x : Summary). x .lines) f;
+      first = ap firstHour q ∙ ap (λ (x : Summary). x .first) f;
+      last = ap lastHour q ∙ ap (λ (x : Summary). x .last) f;
+    }
 
 pub found-accepted : {s : List ℕ} {found : Summary} → Found s found → Accepted s (linesOf s)
 found-accepted {s} f = accepted s (linesOf s) (f .journal)

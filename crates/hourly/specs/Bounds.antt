@@ -1,57 +1,50 @@
 -- Hours outside a journal's are missing, what an hour's lines come to is bounded, and 33,480 bytes hold the text of every journal. Assumes nothing.
-use mathlib.Core.Path.{_≡_, refl, sym, ap, _∙_, subst}
-use mathlib.Core.Bool.{Bool, true, false, _&&_, _||_}
+use mathlib.Core.Path.{_≡_, refl}
+use mathlib.Core.Bool.{Bool, true, false}
 use mathlib.Core.List.{List, [], _∷_, _++_, map}
 use mathlib.Core.Logic.{_⊎_, inl, inr}
-use Prim.Native.Nat.{ℕ, zero, suc, _+_, _-_, _*_, _≤_, _<_, max}
+use Prim.Native.Nat.{ℕ, zero, suc, _+_, _-_, _*_, _≤_, _<_}
 use native.Mathlib.Omega.{arith}
-use native.Mathlib.Decide.{decLt}
 use lib.Dec.{leb, eqb}
 use lib.ListN.{length, length-append}
-use borrow.Author.Tests.{leb-true, le-leb, ne-eqb}
+use borrow.Author.Tests.{le-leb, ne-eqb}
 use Rattle.laws.specs.Pick.{pick, pick-t, pick-all, pick-false}
 use Rattle.laws.specs.Decimal.{decimal, hexOf}
 use Rattle.laws.specs.DecimalLaws.{decimal-length, hex-length}
-use Rattle.paper.specs.Answer.{Answer, done, refused, onDone, inRoom}
+use Rattle.paper.specs.Answer.{done, refused, onDone, inRoom}
 use Rattle.paper.specs.Numbers.{R8}
-use Rattle.journal.specs.Line.{LF, TAB, inRange}
+use Rattle.journal.specs.Line.{LF, TAB}
 use Rattle.journal.specs.Journal.{hourIn, journalOf, firstHour, lastHour}
-use Rattle.journal.specs.LineLaws.{dose-range, on-range}
+use Rattle.journal.specs.LineLaws.{dose-range}
+use Rattle.journal.specs.JournalLaws.{Each, hour-range}
+use Rattle.journal.specs.Order.{Within}
 use Rattle.journal.specs.declared.Line.{Line}
 use Rattle.journal.specs.declared.Line.the-variants.{Dose, On}
-use Rattle.hourly.specs.Hours.{doseAt, amountsAt, isOn, hasOn, total, greatest, figuresOf, measuredOrIdle, hourOf, inFloat}
-use Rattle.hourly.specs.Text.{Row, measured, idle, missing, letterM, letterI, letterX, HourRow, rowFrom, rowOf, rowText, rowsOf, rowsText, hoursFrom, spanOf, hoursText, printOf}
-use Rattle.hourly.specs.Accepted.{Ranged, Between, Accepted, accepted, few-lines}
+use Rattle.hourly.specs.Hours.{doseAt, amountsAt, isOn, hasOn, total, greatest, measuredOrIdle, hourOf}
+use Rattle.hourly.specs.Text.{Row, measured, idle, missing, letterM, letterI, letterX, rowFrom, rowOf, rowText, rowsOf, rowsText, hoursFrom, spanOf, hoursText, printOf}
+use Rattle.hourly.specs.Accepted.{Ranged, Accepted, accepted}
 use Rattle.hourly.specs.declared.Hour.{Hour}
-use Rattle.hourly.specs.declared.Hour.the-variants.{Measured, Idle, Missing}
+use Rattle.hourly.specs.declared.Hour.the-variants.{Missing}
 
 -- ---- outside first..last
 
-abbrev Outside : ℕ → ℕ → ℕ → Type 0
-Outside lo hi h = (h < lo) ⊎ (hi < h)
+-- no line between lo and hi is of an hour outside
+apart : (lo hi h x : ℕ) → (h < lo) ⊎ (hi < h) → lo ≤ x → x ≤ hi → x ≡ h → ⊥
+apart lo hi h x (inl l) a b e = omega arith
+apart lo hi h x (inr l) a b e = omega arith
 
-outside-apart : (lo hi h x : ℕ) → Outside lo hi h → lo ≤ x → x ≤ hi → x ≡ h → ⊥
-outside-apart lo hi h x (inl l) a b e = omega arith
-outside-apart lo hi h x (inr l) a b e = omega arith
-
-outside-off : (lo hi h : ℕ) (ls : List Line) → Outside lo hi h → Between lo hi ls → hasOn h ls ≡ false
+outside-off : (whole ls : List Line) (h : ℕ) → (h < firstHour whole) ⊎ (lastHour whole < h) → Each (Within whole) ls → hasOn h ls ≡ false
 unfolding hasOn isOn hourIn
-outside-off lo hi h [] o b = refl
-outside-off lo hi h (Dose x c a s ∷ ls) o b = outside-off lo hi h ls o (b .2)
-outside-off lo hi h (On x ∷ ls) o b = rw (ne-eqb x h (outside-apart lo hi h x o (b .0) (b .1))) (outside-off lo hi h ls o (b .2))
+outside-off whole [] h o w = refl
+outside-off whole (Dose x c a s ∷ ls) h o w = outside-off whole ls h o (w .1)
+outside-off whole (On x ∷ ls) h o w = rw (ne-eqb x h (apart (firstHour whole) (lastHour whole) h x o (w .0 .from) (w .0 .to))) (outside-off whole ls h o (w .1))
 
 -- an hour before the first line's or after the last line's is missing
 pub outside-missing : {s : List ℕ} (ls : List Line) (h : ℕ) → Accepted s ls → (h < firstHour ls) ⊎ (lastHour ls < h) → hourOf ls h ≡ Missing
 unfolding hourOf
-outside-missing ls h a o = rw (outside-off (firstHour ls) (lastHour ls) h ls o (a .between)) (pick-false _ _)
+outside-missing ls h a o = rw (outside-off ls ls h o (a .within)) (pick-false _ _)
 
 -- ---- what an hour's lines come to
-
--- a line's hour is at most 9,999,999
-hour-most : (l : Line) → inRange l ≡ true → hourIn l ≤ 9999999
-unfolding hourIn
-hour-most (Dose h c a s) e = dose-range h c a s e .0
-hour-most (On h) e = on-range h e
 
 -- an hour has at most as many doses as there are lines, of at most 1,800,000 each
 pub record Modest (n : ℕ) (amounts : List ℕ) : Type 0 where
@@ -71,6 +64,27 @@ modest h (Dose x c a s ∷ ls) r = go (eqb x h) (modest h ls (r .1)) (dose-range
 
 -- ---- the length of the text
 
+-- how many bytes a row has
+pub measured-length : (h doses sum bits : ℕ) → length (rowText h (measured doses sum bits)) ≡ length (decimal h) + 22 + length (decimal doses) + length (decimal sum)
+unfolding rowText
+measured-length h doses sum bits =
+    omega (
+      arith,
+      hex-length 16 bits,
+      length-append (decimal h) (TAB ∷ letterM ∷ TAB ∷ (decimal doses ++ TAB ∷ (decimal sum ++ TAB ∷ (hexOf 16 bits ++ LF ∷ [])))),
+      length-append (decimal doses) (TAB ∷ (decimal sum ++ TAB ∷ (hexOf 16 bits ++ LF ∷ []))),
+      length-append (decimal sum) (TAB ∷ (hexOf 16 bits ++ LF ∷ [])),
+      length-append (hexOf 16 bits) (LF ∷ []),
+    )
+
+pub idle-length : (h : ℕ) → length (rowText h idle) ≡ length (decimal h) + 3
+unfolding rowText
+idle-length h = length-append (decimal h) (TAB ∷ letterI ∷ LF ∷ [])
+
+pub missing-length : (h : ℕ) → length (rowText h missing) ≡ length (decimal h) + 3
+unfolding rowText
+missing-length h = length-append (decimal h) (TAB ∷ letterX ∷ LF ∷ [])
+
 abbrev RowShort : Row → Type 0
 RowShort (measured doses sum bits) = (doses < 100000) × (sum < 100000000000)
 RowShort idle = Unit
@@ -78,21 +92,10 @@ RowShort missing = Unit
 
 -- a row of an hour, doses and a sum of at most 7, 5 and 11 digits
 row-short : (h : ℕ) (r : Row) → h < 10000000 → RowShort r → length (rowText h r) ≤ 45
-unfolding rowText
 row-short h (measured doses sum bits) a b =
-    omega (
-      arith,
-      decimal-length 7 h a (omega arith),
-      decimal-length 5 doses (b .0) (omega arith),
-      decimal-length 11 sum (b .1) (omega arith),
-      hex-length 16 bits,
-      length-append (decimal h) (TAB ∷ letterM ∷ TAB ∷ (decimal doses ++ TAB ∷ (decimal sum ++ TAB ∷ (hexOf 16 bits ++ LF ∷ [])))),
-      length-append (decimal doses) (TAB ∷ (decimal sum ++ TAB ∷ (hexOf 16 bits ++ LF ∷ []))),
-      length-append (decimal sum) (TAB ∷ (hexOf 16 bits ++ LF ∷ [])),
-      length-append (hexOf 16 bits) (LF ∷ []),
-    )
-row-short h idle a b = omega (arith, decimal-length 7 h a (omega arith), length-append (decimal h) (TAB ∷ letterI ∷ LF ∷ []))
-row-short h missing a b = omega (arith, decimal-length 7 h a (omega arith), length-append (decimal h) (TAB ∷ letterX ∷ LF ∷ []))
+    omega (arith, decimal-length 7 h a (omega arith), decimal-length 5 doses (b .0) (omega arith), decimal-length 11 sum (b .1) (omega arith), measured-length h doses sum bits)
+row-short h idle a b = omega (arith, decimal-length 7 h a (omega arith), idle-length h)
+row-short h missing a b = omega (arith, decimal-length 7 h a (omega arith), missing-length h)
 
 row-of-short : (h : ℕ) (ls : List Line) → length (amountsAt h ls) < 100000 → total (amountsAt h ls) < 100000000000 → RowShort (rowOf ls h)
 unfolding rowOf hourOf rowFrom measuredOrIdle
@@ -116,7 +119,7 @@ rows-short ls h (suc n) f =
 last-most : (ls : List Line) → Ranged ls → lastHour ls ≤ 9999999
 unfolding lastHour
 last-most [] r = omega arith
-last-most (l ∷ []) r = hour-most l (r .0)
+last-most (l ∷ []) r = hour-range l (r .0)
 last-most (l ∷ m ∷ ls) r = last-most (m ∷ ls) (r .1)
 
 -- the text of an accepted journal is at most 744 rows of 45 bytes
@@ -124,10 +127,9 @@ pub text-short : {s : List ℕ} (ls : List Line) → Accepted s ls → length (h
 unfolding hoursText rowsOf spanOf rowsText
 text-short [] a = omega arith
 text-short (l ∷ ls) a =
-    let lines = few-lines a in
+    let lines = a .few in
     let last = last-most (l ∷ ls) (a .ranged) in
-    let low = a .between .0 in
-    let high = a .between .1 in
+    let order = a .order in
     let span = a .span in
     omega (
       arith,

@@ -1,5 +1,5 @@
 -- The figures of a measured hour: the sum and the largest amount are exact, the mean is one division. Assumes nothing.
-use mathlib.Core.Path.{_≡_, refl, sym, ap, _∙_, subst}
+use mathlib.Core.Path.{_≡_, refl, subst}
 use mathlib.Core.Bool.{Bool, true, false}
 use mathlib.Core.List.{List, [], _∷_}
 use Prim.Native.Nat.{ℕ, _^_, _≤_}
@@ -11,10 +11,10 @@ use lib.Ieee.Back.{round-whole}
 use Rattle.laws.specs.Pick.{pick}
 use Rattle.journal.specs.declared.Line.{Line}
 use Rattle.hourly.specs.Hours.{amountsAt, hasOn, total, greatest, inFloat, figuresOf, measuredOrIdle, hourOf}
-use Rattle.hourly.specs.Accepted.{Accepted, few-lines}
+use Rattle.hourly.specs.Accepted.{Accepted}
 use Rattle.hourly.specs.Bounds.{modest}
 use Rattle.hourly.specs.declared.Figures.{Figures}
-use Rattle.hourly.specs.declared.Hour.the-variants.{Measured, Idle, Missing}
+use Rattle.hourly.specs.declared.Hour.the-variants.{Measured, Missing}
 
 -- the first two exact, the mean one division of the sum by the number of doses
 pub record Exact (amounts : List ℕ) (f : Figures) : Type 0 where
@@ -40,7 +40,7 @@ pub figures-exact : {s : List ℕ} (ls : List Line) (h : ℕ) (f : Figures) → 
 unfolding figuresOf
 figures-exact ls h f a e =
     let m = modest h ls (a .ranged) in
-    let lines = few-lines a in
+    let lines = a .few in
     subst (Exact (amountsAt h ls)) (measured-figures ls h f e)
     (record {
       sum = whole-exact (total (amountsAt h ls)) (omega (arith, m .sum));

@@ -8,14 +8,14 @@ use native.Mathlib.Omega.{arith}
 use lib.Dec.{eqb}
 use lib.ListN.{length}
 use lib.Ieee.{binary64, toBits}
-use borrow.Author.Tests.{eqb-true, eqb-false, eq-eqb}
+use borrow.Author.Tests.{eqb-true, eq-eqb}
 use Rattle.laws.specs.Pick.{pick}
-use Rattle.laws.specs.Whole.{true-false, false-true}
+use Rattle.laws.specs.Whole.{false-true}
 use Rattle.journal.specs.declared.Line.{Line}
 use Rattle.journal.specs.declared.Line.the-variants.{Dose, On}
 use Rattle.hourly.specs.Hours.{doseAt, amountsAt, isOn, hasOn, total, figuresOf, measuredOrIdle, hourOf}
 use Rattle.hourly.specs.Text.{Row, measured, idle, missing, rowFrom, rowOf}
-use Rattle.hourly.specs.declared.Hour.the-variants.{Measured, Idle, Missing}
+use Rattle.hourly.specs.declared.Hour.the-variants.{Missing}
 
 -- each of the two follows from the other
 abbrev pub Exactly : Type 0 → Type 0 → Type 0

@@ -19,6 +19,7 @@ use Rattle.text.specs.Put.{Puts}
 use Rattle.text.specs.PutLaws.{room-is, room-not, puts-fit, puts-none, puts-length}
 use Rattle.journal.specs.Line.{LF, TAB, lineOf}
 use Rattle.journal.specs.Journal.{hourIn, outOfOrder, tooFar, pastAfter, noPast, ordered, onLine, readFrom, journalOf}
+use Rattle.journal.specs.LineLaws.{refused-done}
 use Rattle.journal.specs.declared.Line.{Line}
 use Rattle.journal.specs.declared.Past.{Past}
 use Rattle.journal.specs.declared.Refusal.{Refusal}
@@ -69,19 +70,16 @@ named m r ws k vs h l e =
     let q : ws ≡ vs = cc in
     record { number = omega arith; line = omega (arith, ap (λ (x : List ℕ). getD x 0 0) q) }
 
-done-refused : {X Y : Type 0} {x : X} {n : ℕ} {vs : List ℕ} → done x ≡ refused n vs → Y
-done-refused e = let z : _≡_ {A = ℕ} 0 1 = cc in absurd (omega arith)
-
 told-refused : {A B : Type 0} (g : A → B) (a : Answer A) (n : ℕ) (vs : List ℕ) → told g a ≡ refused n vs → a ≡ refused n vs
 unfolding told
-told-refused g (done x) n vs e = done-refused e
+told-refused g (done x) n vs e = refused-done (sym e)
 told-refused g (refused m ws) n vs e = let p : m ≡ n = cc in let q : ws ≡ vs = cc in cc
 told-refused g (fault m ws) n vs e = let z : _≡_ {A = ℕ} 0 1 = cc in absurd (omega arith)
 
 read-named : (f : ℕ) (p : Past) (n : ℕ) (s : List ℕ) (k : ℕ) (vs : List ℕ) → readFrom f p n s ≡ refused k vs → Named (n + f) k vs
 unfolding readFrom onLine ordered pick
-read-named zero p n s k vs e = done-refused e
-read-named (suc f) p n [] k vs e = done-refused e
+read-named zero p n s k vs e = refused-done (sym e)
+read-named (suc f) p n [] k vs e = refused-done (sym e)
 read-named (suc f) p n (b ∷ bs) k vs e = go (lineOf (b ∷ bs)) (λ l rest. read-named f (pastAfter p l) (suc n) rest k vs) e
   where
     judged : (l : Line) (u v : Bool) (a : Answer (List Line)) → (a ≡ refused k vs → Named (suc n + f) k vs)
@@ -97,16 +95,12 @@ read-named (suc f) p n (b ∷ bs) k vs e = go (lineOf (b ∷ bs)) (λ l rest. re
         (behind l rest) e
     go bad behind e = named (n + suc f) R10 (n ∷ []) k vs (omega arith) (omega arith) e
 
-refusal-short : (number line : ℕ) → number ≤ 13 → line ≤ 65537 → length (refusalText number line) ≤ 33480
+pub refusal-length : (number line : ℕ) → length (refusalText number line) ≡ length (decimal number) + length (decimal line) + 4
 unfolding refusalText
-refusal-short number line h l =
-    omega (
-      arith,
-      decimal-length 2 number (omega arith) (omega arith),
-      decimal-length 5 line (omega arith) (omega arith),
-      length-append (decimal number) (TAB ∷ (decimal line ++ LF ∷ [])),
-      length-append (decimal line) (LF ∷ []),
-    )
+refusal-length number line = omega (arith, length-append (decimal number) (TAB ∷ (decimal line ++ LF ∷ [])), length-append (decimal line) (LF ∷ []))
+
+refusal-short : (number line : ℕ) → number ≤ 13 → line ≤ 65537 → length (refusalText number line) ≤ 33480
+refusal-short number line h l = omega (arith, refusal-length number line, decimal-length 2 number (omega arith) (omega arith), decimal-length 5 line (omega arith) (omega arith))
 
 journal-named : (s : List ℕ) (k : ℕ) (vs : List ℕ) → journalOf s ≡ refused k vs → Named 65537 k vs
 unfolding journalOf pick

@@ -1,24 +1,21 @@
 -- The text determines the rows: two journals with the same text have the same rows. Assumes nothing.
 use mathlib.Core.Path.{_≡_, refl, sym, ap, _∙_}
-use mathlib.Core.Bool.{Bool, true, false}
 use mathlib.Core.List.{List, [], _∷_, _++_, append-assoc, map}
-use Prim.Native.Nat.{ℕ, suc, _+_, _^_, _≤_, _<_}
+use Prim.Native.Nat.{ℕ, _^_, _<_}
 use native.Mathlib.Omega.{arith}
-use lib.Dec.{T}
 use lib.ListN.{length, length-append, take, drop}
 use lib.Seq.{take-at, drop-at}
-use lib.Ieee.{binary64, toBits, fits, top, hid, ones}
+use lib.Ieee.{binary64}
 use lib.Ieee.Bits.{toBits-lt}
 use lib.Ieee.Fits.{div-fits}
-use Rattle.laws.specs.Pick.{pick, pick-all}
+use Rattle.laws.specs.Pick.{pick-all}
 use Rattle.laws.specs.Decimal.{decimal, hexOf}
-use Rattle.laws.specs.DecimalLaws.{decimal-apart, decimal-some, hex-apart, hex-length}
+use Rattle.laws.specs.DecimalLaws.{decimal-apart, hex-apart, hex-length}
 use Rattle.journal.specs.Line.{LF, TAB}
 use Rattle.journal.specs.declared.Line.{Line}
 use Rattle.hourly.specs.Hours.{amountsAt, hasOn, total, figuresOf, measuredOrIdle, hourOf, inFloat}
 use Rattle.hourly.specs.Text.{Row, measured, idle, missing, letterM, letterI, letterX, HourRow, rowFrom, rowOf, rowText, rowsOf, rowsText, hoursText, spanOf}
 use Rattle.hourly.specs.declared.Hour.{Hour}
-use Rattle.hourly.specs.declared.Hour.the-variants.{Measured, Idle, Missing}
 
 -- the mean's bits are 64
 abbrev pub RowFits : Row → Type 0
@@ -36,11 +33,15 @@ tailText (measured doses sum bits) = letterM ∷ TAB ∷ (decimal doses ++ TAB �
 tailText idle = letterI ∷ LF ∷ []
 tailText missing = letterX ∷ LF ∷ []
 
-row-tail : (h : ℕ) (r : Row) (x : List ℕ) → rowText h r ++ x ≡ decimal h ++ TAB ∷ (tailText r ++ x)
+-- a row is the hour, a tab and its tail
+pub row-is : (h : ℕ) (r : Row) → rowText h r ≡ decimal h ++ TAB ∷ tailText r
 unfolding rowText tailText
-row-tail h (measured doses sum bits) x = append-assoc (decimal h) _ x
-row-tail h idle x = append-assoc (decimal h) _ x
-row-tail h missing x = append-assoc (decimal h) _ x
+row-is h (measured doses sum bits) = refl
+row-is h idle = refl
+row-is h missing = refl
+
+row-tail : (h : ℕ) (r : Row) (x : List ℕ) → rowText h r ++ x ≡ decimal h ++ TAB ∷ (tailText r ++ x)
+row-tail h r x = ap (λ (t : List ℕ). t ++ x) (row-is h r) ∙ append-assoc (decimal h) (TAB ∷ tailText r) x
 
 -- a measured tail, its parts one behind the other
 measured-tail : (doses sum bits : ℕ) (x : List ℕ) → tailText (measured doses sum bits) ++ x ≡ letterM ∷ TAB ∷ (decimal doses ++ TAB ∷ (decimal sum ++ TAB ∷ (hexOf 16 bits ++ LF ∷ x)))

@@ -1,11 +1,11 @@
 -- What the code keeps of each hour while it goes through the lines, and the rows that come of it. Assumes nothing.
 use mathlib.Core.Path.{_≡_}
-use mathlib.Core.Bool.{Bool, true, false}
-use mathlib.Core.List.{List, [], _∷_, _++_}
+use mathlib.Core.Bool.{true, false}
+use mathlib.Core.List.{List, [], _∷_}
 use Prim.Native.Nat.{ℕ, suc, _+_, _-_, _^_, _≤_, _<_, max}
 use lib.Dec.{eqb}
 use lib.ListN.{length, getD, take}
-use lib.Ieee.{Float, nan, binary64, add, div, toBits, toUnsigned}
+use lib.Ieee.{nan, binary64, add, div, toBits, toUnsigned}
 use Rattle.laws.specs.Pick.{pick}
 use Rattle.paper.specs.Answer.{Answer, done, refused, fault}
 use Rattle.journal.specs.Journal.{journalOf}

@@ -396,7 +396,7 @@ fn put_lines(out: &mut [u8], bytes: &[u8], found: Summary) -> usize
 {
     let printed = print_lines(bytes, found, out);
     match printed {
-        Printed::Text(n) => n,
+        Printed::Text(size) => size,
         Printed::Refused(_) => 0,
         Printed::R8 => 0,
     }

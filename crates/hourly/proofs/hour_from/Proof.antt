@@ -5,7 +5,6 @@ use borrow.Author.Tests.{not-true, not-false, eq-eqb, ne-eqb}
 use Rattle.laws.specs.Pick.{pick-t, pick-f}
 use Rattle.hourly.specs.Hours.{inFloat}
 use Rattle.hourly.specs.Tally.{hourFrom, figuresFrom}
-use Rattle.hourly.specs.declared.Hour.the-variants.{Measured}
 use Rattle.hourly.proofs.hour_from.Statement.{statement}
 use Rattle.hourly.proofs.hour_from.Tie as tie
 

@@ -1,8 +1,8 @@
-use mathlib.Core.Path.{_≡_, ap, sym, _∙_}
+use mathlib.Core.Path.{ap, sym, _∙_}
 use mathlib.Core.List.{List}
 use borrow.Author.Needs.{needs}
 use denote.Ref.{now}
-use Rattle.paper.specs.Answer.{Answer, done, told}
+use Rattle.paper.specs.Answer.{done, told}
 use Rattle.journal.specs.Journal.{journalOf, summaryOf}
 use Rattle.journal.specs.Says.{saysJudged}
 use Rattle.journal.specs.declared.Line.{Line}

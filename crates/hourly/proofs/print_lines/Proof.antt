@@ -1,12 +1,12 @@
-use mathlib.Core.Path.{_≡_, ap, sym, _∙_, subst}
-use Prim.Native.Nat.{ℕ, _≤_, _<_}
+use mathlib.Core.Path.{_≡_, ap, _∙_}
+use Prim.Native.Nat.{ℕ}
 use native.Mathlib.Omega.{arith}
 use borrow.Author.Needs.{needs}
 use denote.Ref.{now}
 use lib.ListN.{length}
 use lib.Seq.{sets}
 use Rattle.hourly.specs.Text.{hoursText}
-use Rattle.hourly.specs.Tally.{linesOf, textBy, Printable}
+use Rattle.hourly.specs.Tally.{linesOf, textBy}
 use Rattle.hourly.proofs.Tallying.{found-of}
 use Rattle.hourly.proofs.Printing.{prints, first-last, fills-none, fills-text}
 use Rattle.hourly.proofs.print_lines.Statement.{statement}

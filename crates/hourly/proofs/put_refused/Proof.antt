@@ -1,4 +1,3 @@
-use mathlib.Core.Path.{_≡_, refl, _∙_}
 use mathlib.Core.List.{List, [], _∷_, _++_}
 use Prim.Native.Nat.{ℕ, _+_, _≤_}
 use native.Mathlib.Omega.{arith}
@@ -8,9 +7,8 @@ use lib.ListN.{length}
 use Rattle.laws.specs.Decimal.{decimal}
 use Rattle.text.specs.PutLaws.{room-not, none-puts}
 use Rattle.journal.specs.Line.{LF, TAB}
-use Rattle.hourly.specs.Report.{letterR, refusalText}
+use Rattle.hourly.specs.Report.{letterR, refusalText, refusal-length}
 use Rattle.hourly.proofs.Printing.{digits-most, put-then}
-use Rattle.hourly.proofs.Reporting.{refusal-length}
 use Rattle.hourly.proofs.put_refused.Statement.{statement}
 use Rattle.hourly.proofs.put_refused.Tie as tie
 

@@ -1,15 +1,13 @@
-use mathlib.Core.Path.{_≡_, sym, subst}
-use mathlib.Core.List.{List, [], _∷_, _++_}
-use Prim.Native.Nat.{ℕ, _+_, _≤_}
+use mathlib.Core.List.{[], _∷_, _++_}
+use Prim.Native.Nat.{_+_, _≤_}
 use borrow.Author.Needs.{needs}
 use denote.Ref.{now}
 use lib.ListN.{length}
 use Rattle.laws.specs.Decimal.{decimal}
-use Rattle.text.specs.Put.{Puts}
 use Rattle.journal.specs.Line.{TAB}
-use Rattle.hourly.specs.Rows.{tailText}
+use Rattle.hourly.specs.Rows.{tailText, row-is}
 use Rattle.hourly.specs.Tally.{saysShown}
-use Rattle.hourly.proofs.Printing.{put-then, room-then, row-is}
+use Rattle.hourly.proofs.Printing.{put-then, room-then}
 use Rattle.hourly.proofs.put_row.Statement.{statement}
 use Rattle.hourly.proofs.put_row.Tie as tie
 

@@ -1,12 +1,13 @@
-use mathlib.Core.Path.{_≡_, ap, sym, _∙_, subst}
-use Prim.Native.Nat.{ℕ, _+_, _^_, _<_}
+use mathlib.Core.Path.{_≡_, sym, subst}
+use Prim.Native.Nat.{_+_}
 use native.Mathlib.Omega.{arith}
 use borrow.Author.Needs.{needs}
 use lib.ListN.{length}
 use Rattle.hourly.specs.Text.{rowText}
 use Rattle.hourly.specs.Tally.{saysShown}
 use Rattle.hourly.specs.declared.Shown.{Shown}
-use Rattle.hourly.proofs.Printing.{digits-most, measured-length, idle-length, missing-length}
+use Rattle.hourly.specs.Bounds.{measured-length, idle-length, missing-length}
+use Rattle.hourly.proofs.Printing.{digits-most}
 use Rattle.hourly.proofs.row_len.Statement.{statement}
 use Rattle.hourly.proofs.row_len.Tie as tie
 

@@ -1,7 +1,6 @@
 use mathlib.Core.Path.{ap, sym, _∙_}
 use borrow.Author.Needs.{needs}
-use native.Mathlib.Omega.{arith}
-use Rattle.hourly.specs.Tally.{hourFrom, shownOf, shownBy}
+use Rattle.hourly.specs.Tally.{shownOf, shownBy}
 use Rattle.hourly.specs.declared.Hour.{Hour}
 use Rattle.hourly.proofs.Answering.{sum-whole, mean-number}
 use Rattle.hourly.proofs.shown_from.Statement.{statement}

@@ -1,23 +1,14 @@
 -- The pass over the lines: n of them are counted, and the bytes from `at` on are the others'. Assumes nothing.
-use Prim.Native.Nat.{ℕ, _≤_, _<_, _-_}
-use mathlib.Core.Path.{_≡_, refl, sym, ap, _∙_, subst}
+use Prim.Native.Nat.{_≤_, _<_, _-_}
+use mathlib.Core.Path.{subst}
 use native.Mathlib.Omega.{arith}
 use borrow.Author.Needs.{needs}
 use denote.Ref.{now}
 use lib.ListN.{length}
-use Rattle.journal.specs.Journal.{summaryOf, firstHour}
-use Rattle.journal.specs.declared.Summary.{Summary}
-use Rattle.hourly.specs.Accepted.{Accepted, accepted}
 use Rattle.hourly.specs.Tally.{linesOf}
 use Rattle.hourly.proofs.Tallying.{Counted, Turn, Taken, turn, found-of, found-accepted, counted-none, counted-all}
 use Rattle.hourly.proofs.tallies.Statement.{statement}
 use Rattle.hourly.proofs.tallies.Tie as tie
-use Rattle.hourly.proofs.tallies.Reads as reads
-use Rattle.hourly.proofs.tallies.Lts as lts
-use Rattle.hourly.proofs.no_tallies.Reads as no-tallies-reads
-use Rattle.hourly.proofs.place.Reads as place-reads
-use Rattle.hourly.proofs.with_line.Reads as with-line-reads
-use Rattle.journal.proofs.line_at.Reads as line-at-reads
 
 abbrev Inv-loop : tie.InvT-loop
 Inv-loop bytes lines first table₀ at₀ n₀ table at n = Counted bytes (linesOf bytes) first table at n × (n ≤ lines)

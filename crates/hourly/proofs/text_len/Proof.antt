@@ -1,10 +1,9 @@
 use mathlib.Core.Path.{_≡_, ap}
-use Prim.Native.Nat.{ℕ, _+_, _-_, _≤_}
+use Prim.Native.Nat.{_+_, _-_, _≤_}
 use native.Mathlib.Omega.{arith}
 use borrow.Author.Needs.{needs}
-use lib.ListN.{length, getD}
-use Rattle.hourly.specs.Text.{rowText}
-use Rattle.hourly.specs.Tally.{outside, saysShown, textBy}
+use lib.ListN.{length}
+use Rattle.hourly.specs.Tally.{saysShown, textBy}
 use Rattle.hourly.proofs.Printing.{restBy, rest-whole, rest-length, rest-none}
 use Rattle.hourly.proofs.text_len.Statement.{statement}
 use Rattle.hourly.proofs.text_len.Tie as tie

@@ -1,6 +1,5 @@
 use mathlib.Core.Path.{ap, sym, _∙_}
 use borrow.Author.Needs.{needs}
-use Rattle.journal.specs.declared.Line.{Line}
 use Rattle.hourly.specs.Tally.{counted, withOn}
 use Rattle.hourly.proofs.with_line.Statement.{statement}
 use Rattle.hourly.proofs.with_line.Tie as tie
