@@ -1,31 +1,33 @@
 -- What an answer has to say for a call's contract to be met. Assumes nothing.
-use mathlib.Core.Path.{_≡_, refl, sym, ap, subst, _∙_}
-use mathlib.Core.Bool.{false}
+use mathlib.Core.Path.{_≡_, refl, sym, ap, ap₂, subst, _∙_}
+use mathlib.Core.Bool.{Bool, false}
 use mathlib.Core.List.{[], _∷_}
 use Prim.Native.Nat.{ℕ}
 use types.Run.{OneOf, miss}
 use denote.Enum.Declared.{tagOf}
 use Rattle.laws.specs.Pick.{pick}
 use Rattle.paper.specs.Answer.{Answer, done, refused, fault, told, onDone}
-use Rattle.paper.specs.Numbers.{R2, R15}
+use Rattle.paper.specs.Numbers.{R2, R3, R15}
 use Rattle.settings.specs.Table.{firstBad}
 use Rattle.settings.specs.declared.Settings.{Settings}
-use Rattle.dosing.proofs.Phase.{the-type}
+use Rattle.dosing.proofs.Phase.{the-type as phase-type}
 use Rattle.dosing.specs.declared.Phase.{Phase}
 use Rattle.dosing.specs.declared.Phase.the-variants.{Ready, Coarse, Fine, Hold, Settle, Discharge, Load, Calm, DoseCoarse, DoseFine, DoseSettle}
 use Rattle.controller.specs.State.{counters, restarted, withCounters}
-use Rattle.controller.specs.Calls.{atReady, storedBad, restartOf, controllerIn, taken, after, settingsAnswer, settingsOf, resetAnswer, resetOf}
+use Rattle.controller.specs.Calls.{atReady, isReady, storedBad, restartOf, controllerIn, taken, after, settingsAnswer, settingsOf, resetAnswer, resetOf}
 use Rattle.controller.specs.Sound.{Sound}
 use Rattle.controller.specs.Done.{refused-done, fault-done}
 use Rattle.controller.specs.Keeps.{restart-sound, settings-sound, reset-sound}
 use Rattle.controller.specs.Says.{saysSet, saysReset, saysRestart, Sets, Resets, Restarts}
 use Rattle.controller.specs.declared.Controller.{Controller}
+use Rattle.controller.proofs.SetAnswer.{the-type as set-type}
 use Rattle.controller.specs.declared.SetAnswer.{SetAnswer}
+use Rattle.controller.specs.declared.SetAnswer.the-variants as S
 use Rattle.controller.specs.declared.ResetAnswer.{ResetAnswer}
 use Rattle.controller.specs.declared.RestartAnswer.{RestartAnswer}
 
 -- the phases that are not Ready
-pub not-ready : (p : Phase) → OneOf (1 ∷ 2 ∷ 3 ∷ 4 ∷ 5 ∷ 6 ∷ 7 ∷ 8 ∷ 9 ∷ 10 ∷ []) (tagOf the-type p) → false ≡ atReady p
+pub not-ready : (p : Phase) → OneOf (1 ∷ 2 ∷ 3 ∷ 4 ∷ 5 ∷ 6 ∷ 7 ∷ 8 ∷ 9 ∷ 10 ∷ []) (tagOf phase-type p) → false ≡ atReady p
 unfolding atReady
 not-ready Ready h = absurd (miss (1 ∷ 2 ∷ 3 ∷ 4 ∷ 5 ∷ 6 ∷ 7 ∷ 8 ∷ 9 ∷ 10 ∷ []) 0 tt h)
 not-ready (Coarse w0) h = refl
@@ -66,6 +68,18 @@ restarts set count total x e n h =
       says = h ∙ ap (told noValue) (sym e);
       sound = λ d. subst Sound (sym n) (restarted-sound set count total x e (sym h ∙ d));
     }
+
+-- an answer that refuses changes nothing
+pub not-taken : (a : SetAnswer) (changed same : Controller) → OneOf (1 ∷ 2 ∷ []) (tagOf set-type a) → same ≡ after (saysSet a) changed same
+unfolding after
+not-taken S.Taken changed same h = absurd (miss (1 ∷ 2 ∷ []) 0 tt h)
+not-taken S.R3 changed same h = refl
+not-taken (S.R2 row) changed same h = refl
+
+pub set-answers : (c : Controller) (set : Settings) {ready : Bool} {checked : Answer (Unit {0})} → ready ≡ isReady c → checked ≡ firstBad set
+    → pick ready checked (refused R3 []) ≡ settingsAnswer c set
+unfolding settingsAnswer
+set-answers c set e f = ap₂ (λ (b : Bool) (a : Answer (Unit {0})). pick b a (refused R3 [])) e f
 
 pub sets : (c : Controller) (set : Settings) {next : Controller} {answer : SetAnswer} → Sound c → saysSet answer ≡ settingsAnswer c set
     → next ≡ after (saysSet answer) (taken set c) c → Sets c set (record { next = next; answer = answer })

@@ -16,10 +16,15 @@ use settings::Checked;
 use settings::Settings;
 use window::Window;
 ghost use mathlib.Core.Path.{_≡_};
+ghost use mathlib.Core.List.{[]};
+ghost use Rattle.laws.specs.Pick.{pick};
+ghost use Rattle.paper.specs.Answer.{refused};
+ghost use Rattle.paper.specs.Numbers.{R3};
+ghost use Rattle.settings.specs.Says.{says};
 ghost use Rattle.controller.specs.State.{noRuns, restarted};
 ghost use Rattle.controller.specs.Calls.{isReady, storedBad, freshOf, noController, taken, linkOf};
 ghost use Rattle.controller.specs.Sound.{Sound};
-ghost use Rattle.controller.specs.Says.{Sets, Resets, Restarts};
+ghost use Rattle.controller.specs.Says.{saysSet, Sets, Resets, Restarts};
 ghost use Rattle.controller.specs.Made.{Made};
 
 impl Controller {
@@ -63,22 +68,16 @@ impl Controller {
         requires { ⌜ Sound self ⌝ }
         ensures { λ r. ⌜ Sets self set r ⌝ }
     {
-        if !is_ready(self) {
-            return SetTo {
+        let answer = set_answer(is_ready(self), set.check());
+        match answer {
+            SetAnswer::Taken => SetTo {
+                next: taken(set, self),
+                answer: answer,
+            },
+            SetAnswer::R3 | SetAnswer::R2(_) => SetTo {
                 next: self,
-                answer: SetAnswer::R3,
-            };
-        }
-        let checked = set.check();
-        if let Checked::R2(row) = checked {
-            return SetTo {
-                next: self,
-                answer: SetAnswer::R2(row),
-            };
-        }
-        SetTo {
-            next: taken(set, self),
-            answer: SetAnswer::Taken,
+                answer: answer,
+            },
         }
     }
 
@@ -134,11 +133,31 @@ pub fn is_ready(c: Controller) -> bool
     }
 }
 
+// What a set answers: R3 before R2.
+fn set_answer(ready: bool, checked: Checked) -> SetAnswer
+    ensures { λ r. ⌜ saysSet r ≡ pick ready (says checked) (refused R3 []) ⌝ }
+{
+    match checked {
+        Checked::Good => in_ready(ready, SetAnswer::Taken),
+        Checked::R2(row) => in_ready(ready, SetAnswer::R2(row)),
+    }
+}
+
+// The answer in Ready, else R3.
+fn in_ready(ready: bool, answer: SetAnswer) -> SetAnswer
+    ensures { λ r. ⌜ r ≡ pick ready answer SetAnswer.R3 ⌝ }
+{
+    if ready { answer } else { SetAnswer::R3 }
+}
+
 // R15: the stored count or total is too great.
 fn stored_bad(count: u32, total: u32) -> bool
     ensures { λ r. ⌜ r ≡ storedBad count total ⌝ }
 {
-    Controller::COUNT_MOST < count || Controller::TOTAL_MOST < total
+    if Controller::COUNT_MOST < count {
+        return true;
+    }
+    Controller::TOTAL_MOST < total
 }
 
 // A controller in Ready with an empty filter, Z at 0, no fault, no link start and all outputs closed.
@@ -199,9 +218,10 @@ fn no_controller() -> Controller
 fn taken(set: Settings, c: Controller) -> Controller
     ensures { λ r. ⌜ r ≡ taken set c ⌝ }
 {
+    let emptied = Window::new();
     Controller {
         set: set,
-        window: Window::new(),
+        window: emptied,
         z: Units { v: 0 },
         f: Units { v: 0 },
         s: 0,

@@ -1,10 +1,8 @@
-use mathlib.Core.Path.{_∙_, ap}
-use Rattle.settings.specs.declared.Settings.{Settings}
-use Rattle.controller.specs.State.{restarted}
+use mathlib.Core.Path.{_∙_}
+use borrow.Author.Needs.{needs}
 use Rattle.controller.specs.Calls.{freshOf}
 use Rattle.controller.specs.Keeps.{fresh-sound}
 use Rattle.controller.specs.Made.{made}
-use borrow.Author.Needs.{needs}
 use Rattle.controller.proofs.Controller.fresh.Statement.{statement}
 use Rattle.controller.proofs.Controller.fresh.Tie as tie
 
@@ -16,7 +14,7 @@ restarted-requires c κs = search needs
 
 returns : tie.Need-returns
 unfolding freshOf
-returns c = made (c .restarted .ensures ∙ ap (λ (s : Settings). restarted s 0 0) (c .before .default .ensures)) fresh-sound
+returns c = made (c .restarted .ensures ∙ rw (c .before .default .ensures)) fresh-sound
 
 pub fresh-spec : {M : Type 1} → statement M
 fresh-spec = tie.close (tie.spec default-requires restarted-requires returns)

@@ -1,36 +1,18 @@
-use mathlib.Core.Path.{refl, sym, ap, _∙_}
-use borrow.Author.Tests.{not-true, not-false}
+use mathlib.Core.Path.{_∙_}
 use borrow.Author.Needs.{needs}
-use Rattle.laws.specs.Pick.{pick-t, pick-f, so}
-use Rattle.settings.specs.Says.{says}
-use Rattle.controller.specs.Calls.{settingsAnswer, after}
-use Rattle.controller.proofs.Contracts.{sets}
+use Rattle.controller.specs.Calls.{after}
+use Rattle.controller.proofs.Contracts.{sets, set-answers, not-taken}
 use Rattle.controller.proofs.Controller.settings.Statement.{statement}
 use Rattle.controller.proofs.Controller.settings.Tie as tie
 
 is-ready-requires : tie.Need-is-ready-requires
 is-ready-requires c κs = search needs
 
-returns : tie.Need-returns
-unfolding settingsAnswer after
-returns c =
-    let p = c .before .before in
-    sets (p .args .self) (p .args .set) (p .pre) (sym (pick-f _ _ _ (so (c .before .is-ready .ensures) (not-true _ (c .if1 .taken))))) refl
-
 check-requires : tie.Need-check-requires
 check-requires c κs = search needs
 
-enum-known-checked : tie.Need-enum-known-checked
-enum-known-checked c = search needs
-
-returns-2 : tie.Need-returns-2
-unfolding settingsAnswer after
-returns-2 c =
-    let k = c .before .before .before in
-    let b = k .before in
-    let p = b .before .before in
-    let ready = pick-t _ _ _ (so (b .before .is-ready .ensures) (not-false _ (b .if1 .left))) in
-    sets (p .args .self) (p .args .set) (p .pre) (sym (ready ∙ sym (k .check .ensures) ∙ ap says (c .before .checked .given .1))) refl
+set-answer-requires : tie.Need-set-answer-requires
+set-answer-requires c κs = search needs
 
 enum-told : tie.Need-enum-told
 enum-told c = search needs
@@ -38,24 +20,31 @@ enum-told c = search needs
 taken-requires : tie.Need-taken-requires
 taken-requires c κs = search needs
 
-returns-3 : tie.Need-returns-3
-unfolding settingsAnswer after
-returns-3 c =
+returns : tie.Need-returns
+unfolding after
+returns c =
     let k = c .before .before .before in
-    let b = k .before in
-    let p = b .before .before in
-    let ready = pick-t _ _ _ (so (b .before .is-ready .ensures) (not-false _ (b .if1 .left))) in
-    sets (p .args .self) (p .args .set) (p .pre) (sym (ready ∙ sym (k .check .ensures) ∙ ap says (c .before .enum-told .given .1))) (c .taken .ensures)
+    let p = k .before .before .before in
+    sets (p .args .self) (p .args .set) (p .pre)
+    (k .set-answer .ensures ∙ set-answers (p .args .self) (p .args .set) (k .before .before .is-ready .ensures) (k .before .check .ensures))
+    (rw (c .before .enum-told .given .1) (c .taken .ensures))
+
+returns-2 : tie.Need-returns-2
+returns-2 c =
+    let k = c .before in
+    let p = k .before .before .before in
+    sets (p .args .self) (p .args .set) (p .pre)
+    (k .set-answer .ensures ∙ set-answers (p .args .self) (p .args .set) (k .before .before .is-ready .ensures) (k .before .check .ensures))
+    (not-taken (k .set-answer .result) _ _ (c .match .keys2))
 
 pub settings-spec : {M : Type 1} → statement M
 settings-spec =
     tie.close
     (tie.spec
     is-ready-requires
-    returns
     check-requires
-    enum-known-checked
-    returns-2
+    set-answer-requires
     enum-told
     taken-requires
-    returns-3)
+    returns
+    returns-2)

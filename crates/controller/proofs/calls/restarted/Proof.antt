@@ -11,7 +11,7 @@ no-runs-requires c κs = search needs
 
 returns : tie.Need-returns
 unfolding restarted
-returns c = rw (c .before .new .ensures, c .no-runs .ensures)
+returns c = simp (c .before .new .ensures, c .no-runs .ensures)
 
 pub restarted-spec : {M : Type 1} → statement M
 restarted-spec = tie.close (tie.spec new-requires no-runs-requires returns)
