@@ -28,7 +28,7 @@ use Rattle.dosing.specs.declared.Dose.the-variants.{Nothing, Complete}
 use Rattle.dosing.specs.declared.Moved.{Moved}
 use Rattle.message.specs.Message.{partsOf}
 use Rattle.frame.specs.Read.{readOf}
-use Rattle.controller.specs.State.{counters, noRuns, restarted, withZ, withCounters}
+use Rattle.controller.specs.State.{noRuns, restarted, withZ}
 use Rattle.controller.specs.Tick.{Result, overCapacity, changed, countedOf, countersAfter, step8, step7, seenOf, wOf, none, tickOf}
 use Rattle.controller.specs.Calls.{isReady, storedBad, restartOf, freshOf, noSet, noController, taken, settingsAnswer, after, settingsOf, resetAnswer, resetOf, linkOf}
 use Rattle.controller.specs.Line.{filtered, Asked, addressed, zeroable, allowed, askedOf, zeroedBy, replied, repliesTo, requestOf}
@@ -61,7 +61,7 @@ counted-most n amount = (omega arith, omega arith)
 pub after-most : (n : Counters) (d : Dose) → n .count ≤ 999999 → n .total ≤ 999999999 → (countersAfter n d .count ≤ 999999) × (countersAfter n d .total ≤ 999999999)
 unfolding countersAfter
 after-most n Nothing a b = (a, b)
-after-most n (Complete amount settled) a b = counted-most n amount
+after-most n (Complete amount settled) a b = counted-most _ amount
 
 abandoned-clear : (k : Condition) (p : Phase) (four : Bool) → k ≡ Clear → Abandoned k p four
 abandoned-clear Clear p four e = tt
@@ -124,10 +124,10 @@ unfolding restartOf storedBad
 restart-sound set count total c e =
     on-done (firstBad set) _ c e
     (λ u good k.
-    let p = failed (storedBad count total) (restarted set count total) R15 [] c k in
+    let p = failed (storedBad count total) _ R15 [] c k in
     let a : count ≤ 999999 = ltb-false 999999 count (or-left (ltb 999999 count) _ (p .0)) in
     let b : total ≤ 999999999 = ltb-false 999999999 total (or-right (ltb 999999 count) _ (p .0)) in
-    subst Sound (p .1) (restarted-sound set count total good a b))
+    subst Sound (p .1) (restarted-sound set _ _ good (omega arith) (omega arith)))
 
 -- what stands in the place of a refused restart's controller is of a set that is not good
 pub no-controller : Sound noController → ⊥
@@ -168,8 +168,7 @@ settings-sound c set s = after-sound (settingsAnswer c set) (taken set c) c s (s
 pub reset-sound : (c : Controller) → Sound c → Sound (resetOf c .next)
 unfolding resetOf
 reset-sound c s =
-    after-sound (resetAnswer c) (withCounters (counters 0 0) c) c s
-    (λ e. counters-sound c s (counters 0 0) (omega arith) (omega arith))
+    after-sound (resetAnswer c) _ c s (λ e. counters-sound c s _ (omega arith) (omega arith))
 
 -- the link start is set or cleared
 pub link-sound : (c : Controller) (on : Bool) → Sound c → Sound (linkOf c on)

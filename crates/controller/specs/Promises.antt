@@ -1,4 +1,4 @@
--- What every sound controller promises beside the calls: doses and weights that can always be written, shut gates, and refusals that change nothing. Assumes nothing.
+-- What every sound controller promises beside the calls: doses and weights that can always be written, shut gates, refusals that change nothing, and counters that a tick, a reset and a restart alone change. Assumes nothing.
 use mathlib.Core.Path.{_≡_, refl, sym, ap, _∙_}
 use mathlib.Core.Bool.{Bool, true, false, _&&_}
 use mathlib.Core.List.{List, [], _∷_}
@@ -11,8 +11,9 @@ use borrow.Author.Tests.{le-leb}
 use Rattle.laws.specs.Pick.{pick, pick-all}
 use Rattle.laws.specs.Whole.{true-false}
 use Rattle.paper.specs.Answer.{Answer, done, refused, fault, onDone}
+use Rattle.paper.specs.Numbers.{R15}
 use Rattle.settings.specs.declared.Settings.{Settings}
-use Rattle.settings.specs.Table.{defaultSet, default-good}
+use Rattle.settings.specs.Table.{firstBad, defaultSet, default-good}
 use Rattle.settings.specs.Good.{good-ranges}
 use Rattle.window.specs.Window.{samplesOf}
 use Rattle.field.specs.Field.{writable}
@@ -24,11 +25,12 @@ use Rattle.dosing.specs.Laws.{ready-shut, never-both, over-unfilled, step-amoun
 use Rattle.dosing.specs.declared.Phase.the-variants.{Ready}
 use Rattle.dosing.specs.declared.Dose.{Dose}
 use Rattle.dosing.specs.declared.Dose.the-variants.{Nothing, Complete}
+use Rattle.controller.specs.State.{counters, restarted}
 use Rattle.controller.specs.Tick.{Result, Told, saysFault, faulted, overCapacity, countersAfter, recordsOf, step8, step7, seenOf, wOf, none, tickOf, step2}
-use Rattle.controller.specs.Calls.{isReady, storedBad, restartOf, freshOf, taken, after, settingsAnswer, settingsOf, resetAnswer, resetOf}
+use Rattle.controller.specs.Calls.{isReady, storedBad, restartOf, freshOf, taken, after, settingsAnswer, settingsOf, resetAnswer, resetOf, linkOf}
 use Rattle.controller.specs.Line.{filtered, weightFrom, weightBy, Asked, Replied, askedOf, replyFrame, zeroedBy, replied, repliesTo, requestOf}
 use Rattle.controller.specs.Sound.{Sound, Abandoned}
-use Rattle.controller.specs.Done.{refused-done, fault-done, done-refused, fault-refused}
+use Rattle.controller.specs.Done.{refused-done, fault-done, done-refused, fault-refused, on-done, failed}
 use Rattle.controller.specs.Bounds.{weight-within, clear-faulted, ready-is}
 use Rattle.controller.specs.Ways.{tick-ways}
 use Rattle.controller.specs.Keeps.{after-most}
@@ -216,3 +218,44 @@ replies-still c room a h =
 pub request-still : (c : Controller) (bytes : List ℕ) (room : ℕ) (a : Asked) → askedOf c bytes ≡ done a → eqb (a .operation) 0xC0 ≡ false → requestOf c bytes room .next ≡ c
 unfolding requestOf repliesTo
 request-still c bytes room a e h = rw e (replies-still c room a h)
+
+-- ---- counters
+
+-- an accepted restart carries the count and the total given
+pub restart-counters : (set : Settings) (count total : ℕ) (c : Controller) → restartOf set count total ≡ done c → c .counters ≡ counters count total
+unfolding restartOf restarted
+restart-counters set count total c e =
+    on-done (firstBad set) _ c e (λ u good k. ap (λ (d : Controller). d .counters) (sym (failed (storedBad count total) _ R15 [] c k .1)))
+
+-- an accepted counter reset puts both to 0
+pub reset-counters : (c : Controller) → resetOf c .answer ≡ done tt → resetOf c .next .counters ≡ counters 0 0
+unfolding resetOf after
+reset-counters c e = rw e
+
+after-counters : (a : Answer (Unit {0})) (changed same : Controller) → changed .counters ≡ same .counters → after a changed same .counters ≡ same .counters
+unfolding after
+after-counters (done u) changed same e = e
+after-counters (refused n vs) changed same e = refl
+after-counters (fault n vs) changed same e = refl
+
+-- settings, the link start and a line request keep both
+pub settings-counters : (c : Controller) (set : Settings) → settingsOf c set .next .counters ≡ c .counters
+unfolding settingsOf taken
+settings-counters c set = after-counters (settingsAnswer c set) _ c refl
+
+pub link-counters : (c : Controller) (on : Bool) → linkOf c on .counters ≡ c .counters
+unfolding linkOf
+link-counters c on = refl
+
+replies-counters : (c : Controller) (room : ℕ) (a : Answer Asked) → repliesTo c room a .next .counters ≡ c .counters
+unfolding repliesTo replied zeroedBy
+replies-counters c room (done a) =
+    pick-all (λ (r : Result Replied). r .next .counters ≡ c .counters) _
+    (pick-all (λ (d : Controller). d .counters ≡ c .counters) _ refl refl)
+    refl
+replies-counters c room (refused n vs) = refl
+replies-counters c room (fault n vs) = refl
+
+pub request-counters : (c : Controller) (bytes : List ℕ) (room : ℕ) → requestOf c bytes room .next .counters ≡ c .counters
+unfolding requestOf
+request-counters c bytes room = replies-counters c room (askedOf c bytes)

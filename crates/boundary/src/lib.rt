@@ -1,1 +1,0 @@
-// The boundary table of document 01. The cases marked P are one statement: see specs/.
