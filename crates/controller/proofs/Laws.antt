@@ -18,6 +18,7 @@ use Rattle.settings.specs.declared.Settings.{Settings}
 use Rattle.settings.specs.Ranges.{Ranges}
 use Rattle.controller.specs.Tick.{worth, overCapacity, equalZ, outside, none}
 
+-- a difference of two tests, by the first
 pub xor-t : (b : Bool) → not b ≡ xor true b
 unfolding xor
 xor-t true = refl
@@ -28,6 +29,7 @@ unfolding xor
 xor-f true = refl
 xor-f false = refl
 
+-- an output is worth at most its bit
 pub worth-most : (on : Bool) (n : ℕ) → worth on n ≤ n
 unfolding worth
 worth-most on n = pick-all (λ (x : ℕ). x ≤ n) on (omega arith) (omega arith)
@@ -45,6 +47,15 @@ module _ (a b : ℤ) (ha : natAbs a ≤ 900000) (hb : natAbs b ≤ 24998) where
 
   pub minus-is : toZ w32 (ofZ w32 (toZ w32 (ofZ w32 a) -ℤ toZ w32 (ofZ w32 b))) ≡ a -ℤ b
   minus-is = rw same-minus (toZ-ofZ small-fits)
+
+-- a number below 2 ^ 31 as an i32
+pos-is : (n : ℕ) → n < 2 ^ 31 → toZ w32 n ≡ pos n
+pos-is n h = toZ-pos w32 (omega arith)
+
+-- w > C+9, in i32
+pub over-is : (set : Settings) {w : ℤ} → Ranges set → SFits w32 w → ltZ (toZ w32 (set .capacity + 9)) (toZ w32 (ofZ w32 w)) ≡ overCapacity set w
+unfolding overCapacity
+over-is set r f = rw (toZ-ofZ f, pos-is (set .capacity + 9) (omega arith))
 
 -- two i32 compared both ways
 module _ {a b : ℤ} (fa : SFits w32 a) (fb : SFits w32 b) where
@@ -72,11 +83,3 @@ unfolding none
 none-held zero xs h = refl
 none-held (suc n) (x ∷ xs) h = sym (ne-eqb (suc n) 0 (λ e. omega arith))
 none-held (suc n) [] h = absurd (omega arith)
-
--- w > C+9
-pos-is : (n : ℕ) → n < 2 ^ 31 → toZ w32 n ≡ pos n
-pos-is n h = toZ-pos w32 (omega arith)
-
-pub over-is : (set : Settings) {w : ℤ} → Ranges set → SFits w32 w → ltZ (toZ w32 (set .capacity + 9)) (toZ w32 (ofZ w32 w)) ≡ overCapacity set w
-unfolding overCapacity
-over-is set r f = rw (toZ-ofZ f, pos-is (set .capacity + 9) (omega arith))

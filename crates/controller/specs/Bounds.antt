@@ -25,6 +25,7 @@ use Rattle.controller.specs.Calls.{atReady, readyIn, isReady}
 use Rattle.controller.specs.Line.{filtered}
 use Rattle.controller.specs.Sound.{Sound}
 use Rattle.controller.specs.declared.Controller.{Controller}
+use Rattle.controller.specs.declared.Fault.{Fault}
 use Rattle.controller.specs.declared.Condition.{Condition}
 use Rattle.controller.specs.declared.Condition.the-variants.{Clear, Faulted}
 
@@ -109,6 +110,9 @@ near-most set f r a h =
     omega (arith, near-below set f h, filling-level set r (leb-true (set .algorithm) 1 a), r .capacity)
 
 -- ---- Ready
+
+pub clear-faulted : {Q : Type 0} {why : Fault} → Clear ≡ Faulted why → Q
+clear-faulted e = let z : _≡_ {A = ℕ} 0 1 = cc in let n : ⊥ = omega arith in absurd n
 
 at-ready : (p : Phase) → atReady p ≡ true → p ≡ Ready
 unfolding atReady

@@ -13,6 +13,12 @@ refused-done e = let z : _≡_ {A = ℕ} 0 1 = cc in let f : ⊥ = omega arith i
 pub fault-done : {X Q : Type 0} {n : ℕ} {vs : List ℕ} {x : X} → fault n vs ≡ done x → Q
 fault-done e = let z : _≡_ {A = ℕ} 0 1 = cc in let f : ⊥ = omega arith in absurd f
 
+pub done-refused : {X Q : Type 0} {x : X} {n : ℕ} {vs : List ℕ} → done x ≡ refused n vs → Q
+done-refused e = let z : _≡_ {A = ℕ} 0 1 = cc in let f : ⊥ = omega arith in absurd f
+
+pub fault-refused : {X Q : Type 0} {m n : ℕ} {us vs : List ℕ} → _≡_ {A = Answer X} (fault m us) (refused n vs) → Q
+fault-refused e = let z : _≡_ {A = ℕ} 0 1 = cc in let f : ⊥ = omega arith in absurd f
+
 -- where going on with an answer's values is done, the answer was done
 pub on-done : {A B Q : Type 0} (a : Answer A) (next : A → Answer B) (y : B) → onDone a next ≡ done y → ((x : A) → a ≡ done x → next x ≡ done y → Q) → Q
 unfolding onDone

@@ -1,11 +1,12 @@
 -- Every call keeps `Sound`, and only a set that was taken makes a sound controller. Assumes nothing.
-use mathlib.Core.Path.{_≡_, refl, subst, _∙_, ap}
+use mathlib.Core.Path.{_≡_, refl, sym, subst, _∙_, ap}
 use mathlib.Core.Bool.{Bool, true, false, not, _&&_}
 use mathlib.Core.List.{List, [], _∷_}
-use Prim.Native.Nat.{ℕ, zero, _≤_}
+use Prim.Native.Nat.{ℕ, _≤_}
 use native.Mathlib.Omega.{arith}
 use lib.Dec.{leb, ltb, eqb}
-use lib.IntN.{ℤ, natAbs}
+use lib.IntN.{ℤ, pos, natAbs, _-ℤ_}
+use borrow.Author.Needs.{needs}
 use borrow.Author.Tests.{ltb-false}
 use Rattle.laws.specs.Pick.{pick, pick-all}
 use Rattle.laws.specs.Whole.{false-true}
@@ -28,14 +29,14 @@ use Rattle.dosing.specs.declared.Moved.{Moved}
 use Rattle.message.specs.Message.{partsOf}
 use Rattle.frame.specs.Read.{readOf}
 use Rattle.controller.specs.State.{counters, noRuns, restarted, withZ, withCounters}
-use Rattle.controller.specs.Tick.{Result, changed, countedOf, countersAfter, step8, step7, seenOf, wOf, none, tickOf}
+use Rattle.controller.specs.Tick.{Result, overCapacity, changed, countedOf, countersAfter, step8, step7, seenOf, wOf, none, tickOf}
 use Rattle.controller.specs.Calls.{isReady, storedBad, restartOf, freshOf, noSet, noController, taken, settingsAnswer, after, settingsOf, resetAnswer, resetOf, linkOf}
 use Rattle.controller.specs.Line.{filtered, Asked, addressed, zeroable, allowed, askedOf, zeroedBy, replied, repliesTo, requestOf}
 use Rattle.controller.specs.Sound.{Sound, Abandoned}
 use Rattle.controller.specs.Setters.{zero-sound, counters-sound}
 use Rattle.controller.specs.Ways.{tick-ways, clear-watched}
 use Rattle.controller.specs.Done.{refused-done, on-done, passed, failed}
-use Rattle.controller.specs.Bounds.{and-left, and-right, or-left, or-right, within-at, near-most, ready-is}
+use Rattle.controller.specs.Bounds.{and-left, and-right, or-left, or-right, within-at, near-most, clear-faulted, ready-is}
 use Rattle.controller.specs.declared.Controller.{Controller}
 use Rattle.controller.specs.declared.Counters.{Counters}
 use Rattle.controller.specs.declared.Condition.{Condition}
@@ -64,29 +65,15 @@ after-most n (Complete amount settled) a b = counted-most n amount
 
 abandoned-clear : (k : Condition) (p : Phase) (four : Bool) → k ≡ Clear → Abandoned k p four
 abandoned-clear Clear p four e = tt
-abandoned-clear (Faulted why) p four e = let z : _≡_ {A = ℕ} 0 1 = cc in let n : ⊥ = omega arith in absurd n
+abandoned-clear (Faulted why) p four e = clear-faulted (sym e)
 
 pub step8-sound : (c : Controller) (m : Moved) → Sound c → c .condition ≡ Clear → Follows c m → Sound (step8 c m .next)
 unfolding step8
 step8-sound c m s e f =
     let n = after-most (c .counters) (m .dose) (s .count) (s .total) in
-    record {
-      set = s .set;
-      places = s .places;
-      held = s .held;
-      samples = s .samples;
-      zero = f .zero;
-      previous = s .previous;
-      calm = pick-all (λ (k : ℕ). k ≤ 4032) _ (omega arith) (s .calm);
-      runs = s .runs;
-      phase = f .phase;
-      kept = f .kept;
-      gates = f .gates;
-      abandoned = abandoned-clear (c .condition) (m .phase) _ e;
-      inputs = s .inputs;
-      count = n .0;
-      total = n .1;
-    }
+    let calm : pick (changed (c .gates) (m .gates)) 0 (c .s) ≤ 4032 = pick-all (λ (k : ℕ). k ≤ 4032) _ (omega arith) (s .calm) in
+    let left = abandoned-clear (c .condition) (m .phase) (overCapacity (c .set) (c .f .v -ℤ m .z .v)) e in
+    search needs
 
 -- ---- step 7
 
@@ -123,23 +110,10 @@ empty-within = rw samples-empty (within-nil 900000)
 pub restarted-sound : (set : Settings) (count total : ℕ) → firstBad set ≡ done tt → count ≤ 999999 → total ≤ 999999999 → Sound (restarted set count total)
 unfolding restarted gatesOf belongs
 restarted-sound set count total g a b =
-    record {
-      set = g;
-      places = empty-length;
-      held = empty-held;
-      samples = within-at 900000 (samplesOf emptyWindow) empty-within;
-      zero = omega arith;
-      previous = omega arith;
-      calm = omega arith;
-      runs = (omega arith, omega arith, omega arith);
-      phase = refl;
-      kept = tt;
-      gates = refl;
-      abandoned = tt;
-      inputs = omega arith;
-      count = a;
-      total = b;
-    }
+    let places = empty-length in
+    let held = empty-held in
+    let samples = within-at 900000 (samplesOf emptyWindow) empty-within in
+    search needs
 
 pub fresh-sound : Sound freshOf
 unfolding freshOf
@@ -172,23 +146,14 @@ taken-sound : (c : Controller) (set : Settings) → Sound c → isReady c ≡ tr
 unfolding taken gatesOf belongs
 taken-sound c set s e good =
     let r = ready-is c e in
-    record {
-      set = good;
-      places = empty-length;
-      held = empty-held;
-      samples = within-at 900000 (samplesOf emptyWindow) empty-within;
-      zero = omega arith;
-      previous = omega arith;
-      calm = omega arith;
-      runs = clear-watched (c .condition) noRuns (r .0) (omega arith, omega arith, omega arith);
-      phase = rw (r .1) refl;
-      kept = rw (r .1) tt;
-      gates = s .gates ∙ rw (r .1) refl;
-      abandoned = s .abandoned;
-      inputs = s .inputs;
-      count = s .count;
-      total = s .total;
-    }
+    let places = empty-length in
+    let held = empty-held in
+    let samples = within-at 900000 (samplesOf emptyWindow) empty-within in
+    let runs = clear-watched (c .condition) noRuns (r .0) (omega arith, omega arith, omega arith) in
+    let phase : belongs (set .algorithm) (c .phase) ≡ true = rw (r .1) in
+    let kept : Kept (pos 0) (c .phase) = rw (r .1) tt in
+    let gates : c .gates ≡ gatesOf set (c .phase) = s .gates ∙ rw (r .1) in
+    search needs
 
 settings-taken : (c : Controller) (set : Settings) → Sound c → settingsAnswer c set ≡ done tt → Sound (taken set c)
 unfolding settingsAnswer
@@ -209,8 +174,7 @@ reset-sound c s =
 -- the link start is set or cleared
 pub link-sound : (c : Controller) (on : Bool) → Sound c → Sound (linkOf c on)
 unfolding linkOf
-link-sound c on s =
-    record { set = s .set; places = s .places; held = s .held; samples = s .samples; zero = s .zero; previous = s .previous; calm = s .calm; runs = s .runs; phase = s .phase; kept = s .kept; gates = s .gates; abandoned = s .abandoned; inputs = s .inputs; count = s .count; total = s .total }
+link-sound c on s = search needs
 
 -- ---- a line request
 

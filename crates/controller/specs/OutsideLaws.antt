@@ -15,11 +15,10 @@ use Rattle.window.specs.Mean.{meanOf}
 use Rattle.window.specs.Window.{samplesOf, pushOf}
 use Rattle.window.specs.Laws.{samples-push}
 use Rattle.settings.specs.declared.Settings.{Settings}
-use Rattle.dosing.specs.Rules.{gates, shut, to, complete, nearZero, zeroed, full, notBelowZero, amountOf, coarseStage, doseCoarse, stepOf}
+use Rattle.dosing.specs.Rules.{complete, nearZero, zeroed, notBelowZero, amountOf, coarseStage, fineStage, dischargeOpens, doseCoarse, doseFine, stepOf}
 use Rattle.dosing.specs.Gates.{gatesOf, belongs}
-use Rattle.dosing.specs.Ways.{pick-if, coarse-ways, fine-ways, fill-ways, hold-ways, settle-ways, discharge-ways, load-ways, calm-ways, dose-coarse-ways, dose-fine-ways, dose-settle-ways, ready-ways}
+use Rattle.dosing.specs.Ways.{pick-if, on, coarse-ways, fine-ways, fill-ways, hold-ways, settle-ways, discharge-ways, load-ways, calm-ways, dose-coarse-ways, dose-fine-ways, dose-settle-ways, ready-ways}
 use Rattle.dosing.specs.declared.Units.{Units}
-use Rattle.dosing.specs.declared.Gates.{Gates}
 use Rattle.dosing.specs.declared.Phase.{Phase}
 use Rattle.dosing.specs.declared.Phase.the-variants.{Ready, Coarse, Fine, Hold, Settle, Discharge, Load, Calm, DoseCoarse, DoseFine, DoseSettle}
 use Rattle.dosing.specs.declared.Seen.{Seen}
@@ -122,12 +121,12 @@ quiet al leaves shuts a b = pick-all (λ (t : Bool). t ≡ false) (leb 2 al) a (
 
 module _ (set : Settings) (f : ℤ) (m : Noted) (t : Seen) where
   -- a step that completes nothing
-  silent : (p q : Phase) (g : Gates) → Agrees q (notes set p f (to q g t) m) → ends set p (to q g t) ≡ false → Matches set p f m (to q g t)
+  silent : (p q : Phase) → Agrees q (notes set p f (on set q t) m) → ends set p (on set q t) ≡ false → Matches set p f m (on set q t)
   unfolding amountsIn
-  silent p q g a e = record { agrees = a; doses = sym (pick-f _ _ _ e) }
+  silent p q a e = record { agrees = a; doses = sym (pick-f _ _ _ e) }
 
-  goes : (p q : Phase) (g : Gates) → Agrees q (notes set p f (to q g t) m) → (inDoseSettle p && atReady q) ≡ false → (gatesOf set p .three && not (g .three)) ≡ false → Matches set p f m (to q g t)
-  goes p q g a l s = silent p q g a (quiet (set .algorithm) _ _ l s)
+  goes : (p q : Phase) → Agrees q (notes set p f (on set q t) m) → (inDoseSettle p && atReady q) ≡ false → (gatesOf set p .three && not (gatesOf set q .three)) ≡ false → Matches set p f m (on set q t)
+  goes p q a l s = silent p q a (quiet (set .algorithm) _ _ l s)
 
   -- a step that completes a dose
   completed : (p : Phase) (amount : ℕ) (settled : Bool) → ends set p (complete amount settled t) ≡ true → amount ≡ amountSeen set m (f -ℤ t .z .v) → Matches set p f m (complete amount settled t)
@@ -146,36 +145,27 @@ zeroed-net set t e = pick-all (Net (t .f .v)) (nearZero set (t .f .v)) (sym (+�
 module _ (set : Settings) (f : ℤ) (m : Noted) (t : Seen) (p : Phase) (w : Units)
     (leaves : inDoseSettle p ≡ false) (shuts : gatesOf set p .three ≡ false)
     (began : w .v ≡ pick (atReady p && true) (f -ℤ t .z .v) (m .began)) where
-  full-matches : Matches set p f m (to (full set w) shut t)
-  unfolding full Agrees atReady
-  full-matches =
-      pick-all (λ (q : Phase). Matches set p f m (to q shut t)) (eqb (set .algorithm) 0)
-      (goes set f m t p Hold shut tt (rw leaves) (rw shuts))
-      (goes set f m t p (Settle w 0) shut began (rw leaves) (rw shuts))
-
-  fine-matches : Matches set p f m (to (Fine w) (gates false true false) t)
-  unfolding Agrees atReady
-  fine-matches = goes set f m t p (Fine w) _ began (rw leaves) (rw shuts)
+  stage : (q : Phase) → Agrees q (notes set p f (on set q t) m) → Matches set p f m (on set q t)
+  stage q a = goes set f m t p q a (rw leaves) (rw shuts)
 
   coarse-matches : Matches set p f m (coarseStage set w t)
   unfolding Agrees atReady
   coarse-matches =
-      coarse-ways (Matches set p f m) set t w full-matches (λ h. fine-matches)
-      (λ h. goes set f m t p (Coarse w) _ began (rw leaves) (rw shuts))
+      coarse-ways (Matches set p f m) set t w (λ e. stage Hold tt) (λ e. stage (Settle w 0) began) (λ e. stage (Fine w) began) (λ e. stage (Coarse w) began)
 
-  dose-settle-matches : Matches set p f m (to (DoseSettle w 0) shut t)
+  fine-matches : Matches set p f m (fineStage set w t)
   unfolding Agrees atReady
-  dose-settle-matches = goes set f m t p (DoseSettle w 0) shut began (rw leaves) (rw shuts)
-
-  dose-fine-matches : Matches set p f m (to (DoseFine w) (gates false true false) t)
-  unfolding Agrees atReady
-  dose-fine-matches = goes set f m t p (DoseFine w) _ began (rw leaves) (rw shuts)
+  fine-matches =
+      fine-ways (Matches set p f m) set t w (λ e. stage Hold tt) (λ e. stage (Settle w 0) began) (λ e. stage (Fine w) began)
 
   dose-coarse-matches : Matches set p f m (doseCoarse set w t)
   unfolding Agrees atReady
   dose-coarse-matches =
-      dose-coarse-ways (Matches set p f m) set t w dose-settle-matches dose-fine-matches
-      (goes set f m t p (DoseCoarse w) _ began (rw leaves) (rw shuts))
+      dose-coarse-ways (Matches set p f m) set t w (stage (DoseSettle w 0) began) (stage (DoseFine w) began) (stage (DoseCoarse w) began)
+
+  dose-fine-matches : Matches set p f m (doseFine set w t)
+  unfolding Agrees atReady
+  dose-fine-matches = dose-fine-ways (Matches set p f m) set t w (stage (DoseSettle w 0) began) (stage (DoseFine w) began)
 
 -- the amount by what the phase keeps is the amount by what was noted
 module _ (set : Settings) (m : Noted) (w : Units) (w' : ℤ) (e : w .v ≡ w') where
@@ -188,44 +178,41 @@ module _ (set : Settings) (m : Noted) (w : Units) (w' : ℤ) (e : w .v ≡ w') w
   amount-dose wH high a = rw (high, a, e)
 
 step-matches : (set : Settings) (p : Phase) (m : Noted) (t : Seen) → Net (t .f .v) t → belongs (set .algorithm) p ≡ true → Agrees p m → Matches set p (t .f .v) m (stepOf set p t)
-unfolding stepOf Agrees atReady inDoseSettle gatesOf belongs pick
+unfolding stepOf dischargeOpens Agrees atReady inDoseSettle gatesOf belongs pick
 step-matches set Ready m t e b a =
-    ready-ways (Matches set Ready (t .f .v) m) set t (goes set _ m t Ready Ready shut tt refl refl)
+    ready-ways (Matches set Ready (t .f .v) m) set t (goes set _ m t Ready Ready tt refl refl)
     (λ low. coarse-matches set (t .f .v) m (zeroed set t) Ready (zeroed set t .w) refl refl (zeroed-net set t e))
-    (λ high h. goes set _ m t Ready Load _ tt refl refl)
+    (λ high h. goes set _ m t Ready Load tt refl refl)
     (λ high. dose-coarse-matches set _ m t Ready (t .w) refl refl e)
 step-matches set (Coarse w0) m t e b a =
-    fill-ways (Matches set (Coarse w0) (t .f .v) m) set t _ (goes set _ m t (Coarse w0) Ready shut tt refl refl)
+    fill-ways (Matches set (Coarse w0) (t .f .v) m) set t _ (goes set _ m t (Coarse w0) Ready tt refl refl)
     (coarse-matches set _ m t (Coarse w0) w0 refl refl a)
 step-matches set (Fine w0) m t e b a =
-    fill-ways (Matches set (Fine w0) (t .f .v) m) set t _ (goes set _ m t (Fine w0) Ready shut tt refl refl)
-    (fine-ways (Matches set (Fine w0) (t .f .v) m) set t w0 (full-matches set _ m t (Fine w0) w0 refl refl a)
-    (λ h. fine-matches set _ m t (Fine w0) w0 refl refl a))
+    fill-ways (Matches set (Fine w0) (t .f .v) m) set t _ (goes set _ m t (Fine w0) Ready tt refl refl)
+    (fine-matches set _ m t (Fine w0) w0 refl refl a)
 step-matches set Hold m t e b a =
-    hold-ways (Matches set Hold (t .f .v) m) set t (goes set _ m t Hold Hold shut tt refl refl) (goes set _ m t Hold Ready shut tt refl refl)
+    hold-ways (Matches set Hold (t .f .v) m) set t (goes set _ m t Hold Hold tt refl refl) (goes set _ m t Hold Ready tt refl refl)
 step-matches set (Settle w0 n) m t e b a =
     settle-ways (Matches set (Settle w0 n) (t .f .v) m) set t w0 (n + 1)
-    (goes set _ m t (Settle w0 n) (Discharge w0 (t .w) (t .stable)) _ (a, e) refl refl)
-    (λ h. goes set _ m t (Settle w0 n) (Settle w0 (n + 1)) shut a refl refl)
+    (goes set _ m t (Settle w0 n) (Discharge w0 (t .w) (t .stable)) (a, e) refl refl)
+    (λ h. goes set _ m t (Settle w0 n) (Settle w0 (n + 1)) a refl refl)
 step-matches set (Discharge w0 wS settled) m t e b a =
     let low = one-low (set .algorithm) b in
     discharge-ways (Matches set (Discharge w0 wS settled) (t .f .v) m) set t w0 wS settled
     (completed set _ m t (Discharge w0 wS settled) _ settled (rw (low, b)) (amount-fill set m (t .w) _ e w0 wS low (a .0) (a .1)))
-    (goes set _ m t (Discharge w0 wS settled) (Discharge w0 wS settled) _ a refl refl)
+    (goes set _ m t (Discharge w0 wS settled) (Discharge w0 wS settled) a refl refl)
 step-matches set Load m t e b a =
-    load-ways (Matches set Load (t .f .v) m) set t (silent set _ m t Load (Calm 0) shut tt (rw b))
-    (λ h. goes set _ m t Load Load _ tt refl refl)
+    load-ways (Matches set Load (t .f .v) m) set t (silent set _ m t Load (Calm 0) tt (rw b))
+    (λ h. goes set _ m t Load Load tt refl refl)
 step-matches set (Calm n) m t e b a =
-    calm-ways (Matches set (Calm n) (t .f .v) m) set t (n + 1) (goes set _ m t (Calm n) Ready shut tt refl refl)
-    (λ h. goes set _ m t (Calm n) (Calm (n + 1)) shut tt refl refl)
+    calm-ways (Matches set (Calm n) (t .f .v) m) set t (n + 1) (goes set _ m t (Calm n) Ready tt refl refl)
+    (λ h. goes set _ m t (Calm n) (Calm (n + 1)) tt refl refl)
 step-matches set (DoseCoarse wH) m t e b a = dose-coarse-matches set _ m t (DoseCoarse wH) wH refl refl a
-step-matches set (DoseFine wH) m t e b a =
-    dose-fine-ways (Matches set (DoseFine wH) (t .f .v) m) set t wH (dose-settle-matches set _ m t (DoseFine wH) wH refl refl a)
-    (dose-fine-matches set _ m t (DoseFine wH) wH refl refl a)
+step-matches set (DoseFine wH) m t e b a = dose-fine-matches set _ m t (DoseFine wH) wH refl refl a
 step-matches set (DoseSettle wH n) m t e b a =
     dose-settle-ways (Matches set (DoseSettle wH n) (t .f .v) m) set t wH (n + 1)
     (completed set _ m t (DoseSettle wH n) _ (t .stable) (rw b) (amount-dose set m (t .w) _ e wH b a))
-    (λ h. goes set _ m t (DoseSettle wH n) (DoseSettle wH (n + 1)) shut a refl refl)
+    (λ h. goes set _ m t (DoseSettle wH n) (DoseSettle wH (n + 1)) a refl refl)
 
 -- ---- a tick
 

@@ -8,10 +8,11 @@ use lib.Dec.{leb, ltb, eqb}
 use lib.IntN.{ℤ, natAbs, _-ℤ_}
 use lib.ListN.{length}
 use borrow.Author.Tests.{le-leb}
-use Rattle.laws.specs.Pick.{pick-all}
+use Rattle.laws.specs.Pick.{pick, pick-all}
 use Rattle.laws.specs.Whole.{true-false}
-use Rattle.paper.specs.Answer.{Answer, done, refused, fault}
+use Rattle.paper.specs.Answer.{Answer, done, refused, fault, onDone}
 use Rattle.settings.specs.declared.Settings.{Settings}
+use Rattle.settings.specs.Table.{defaultSet, default-good}
 use Rattle.settings.specs.Good.{good-ranges}
 use Rattle.window.specs.Window.{samplesOf}
 use Rattle.field.specs.Field.{writable}
@@ -24,11 +25,11 @@ use Rattle.dosing.specs.declared.Phase.the-variants.{Ready}
 use Rattle.dosing.specs.declared.Dose.{Dose}
 use Rattle.dosing.specs.declared.Dose.the-variants.{Nothing, Complete}
 use Rattle.controller.specs.Tick.{Result, Told, saysFault, faulted, overCapacity, countersAfter, recordsOf, step8, step7, seenOf, wOf, none, tickOf, step2}
-use Rattle.controller.specs.Calls.{isReady, taken, after, settingsAnswer, settingsOf, resetAnswer, resetOf}
+use Rattle.controller.specs.Calls.{isReady, storedBad, restartOf, freshOf, taken, after, settingsAnswer, settingsOf, resetAnswer, resetOf}
 use Rattle.controller.specs.Line.{filtered, weightFrom, weightBy, Asked, Replied, askedOf, replyFrame, zeroedBy, replied, repliesTo, requestOf}
 use Rattle.controller.specs.Sound.{Sound, Abandoned}
-use Rattle.controller.specs.Done.{refused-done, fault-done}
-use Rattle.controller.specs.Bounds.{weight-within, ready-is}
+use Rattle.controller.specs.Done.{refused-done, fault-done, done-refused, fault-refused}
+use Rattle.controller.specs.Bounds.{weight-within, clear-faulted, ready-is}
 use Rattle.controller.specs.Ways.{tick-ways}
 use Rattle.controller.specs.Keeps.{after-most}
 use Rattle.controller.specs.declared.Controller.{Controller}
@@ -38,6 +39,13 @@ use Rattle.controller.specs.declared.Fault.{Fault}
 use Rattle.controller.specs.declared.Fault.the-variants as F
 use Rattle.controller.specs.declared.Condition.{Condition}
 use Rattle.controller.specs.declared.Condition.the-variants.{Clear, Faulted}
+
+-- ---- restart
+
+-- a fresh controller is a restart with both at 0 and a default set
+pub fresh-restarts : restartOf defaultSet 0 0 ≡ done freshOf
+unfolding restartOf onDone storedBad freshOf pick
+fresh-restarts = rw default-good
 
 -- ---- doses
 
@@ -125,14 +133,14 @@ shut-unfilled set = pick-all (λ (b : Bool). b ≡ false) _ refl refl
 pub fault-unfilled : (c : Controller) (why : Fault) → Sound c → c .condition ≡ Faulted why → fillingOpen (c .set) (c .gates) ≡ false
 fault-unfilled c why s e = rw (fault-gates c s why e .0) (shut-unfilled (c .set))
 
-abbrev OverUnfilled : Controller → Type 0
+abbrev pub OverUnfilled : Controller → Type 0
 OverUnfilled c = overCapacity (c .set) (c .f .v -ℤ c .z .v) ≡ true → fillingOpen (c .set) (c .gates) ≡ false
 
 step7-unfilled : (c : Controller) (start : Bool) → Sound c → OverUnfilled (step7 c start .next)
 unfolding step7 step8 seenOf wOf overCapacity
 step7-unfilled c start s e = over-unfilled (c .set) (c .phase) (seenOf c start) (good-ranges (c .set) (s .set)) (s .phase) refl e
 
--- after a tick that is not refused, no filling gate is open where w is above C+9
+-- after a tick that is not refused (inputs of at most 15), no filling gate is open where w is above C+9
 pub tick-unfilled : (c : Controller) (x : ℤ) (i : ℕ) → Sound c → i ≤ 15 → OverUnfilled (tickOf c x i .next)
 unfolding faulted
 tick-unfilled c x i s h =
@@ -147,11 +155,8 @@ tick-unfilled c x i s h =
 
 fault-unrefused : {X Q : Type 0} (why : Fault) (n : ℕ) (vs : List ℕ) → _≡_ {A = Answer X} (saysFault why) (refused n vs) → Q
 unfolding saysFault
-fault-unrefused (F.F14 channel) n vs e = let z : _≡_ {A = ℕ} 0 1 = cc in let f : ⊥ = omega arith in absurd f
-fault-unrefused F.F21 n vs e = let z : _≡_ {A = ℕ} 0 1 = cc in let f : ⊥ = omega arith in absurd f
-
-done-unrefused : {X Q : Type 0} (x : X) (n : ℕ) (vs : List ℕ) → done x ≡ refused n vs → Q
-done-unrefused x n vs e = let z : _≡_ {A = ℕ} 0 1 = cc in let f : ⊥ = omega arith in absurd f
+fault-unrefused (F.F14 channel) n vs e = fault-refused e
+fault-unrefused F.F21 n vs e = fault-refused e
 
 -- a tick is refused only with R1, and changes nothing then
 pub tick-refused : (c : Controller) (x : ℤ) (i n : ℕ) (vs : List ℕ) → Sound c → tickOf c x i .answer ≡ refused n vs → (15 < i) × (tickOf c x i .next ≡ c)
@@ -162,11 +167,11 @@ tick-refused c x i n vs s =
     c x i s
     (λ a e. (a, refl))
     (λ why k e. fault-unrefused why n vs e)
-    (λ d start r e. done-unrefused _ n vs e)
+    (λ d start r e. done-refused e)
 
 again-still : (k : Condition) (c : Controller) (x : ℤ) (i : ℕ) (why : Fault) → k ≡ Faulted why → step2 k c x i .next ≡ c
 unfolding step2
-again-still Clear c x i why e = let z : _≡_ {A = ℕ} 0 1 = cc in let f : ⊥ = omega arith in absurd f
+again-still Clear c x i why e = clear-faulted e
 again-still (Faulted other) c x i why e = refl
 
 -- nor does a tick in a fault change anything
@@ -176,7 +181,7 @@ tick-faulted c x i why e = pick-all (λ (r : Result Told). r .next ≡ c) (ltb 1
 
 after-refused : (a : Answer (Unit {0})) (changed same : Controller) (n : ℕ) (vs : List ℕ) → a ≡ refused n vs → after a changed same ≡ same
 unfolding after
-after-refused (done u) changed same n vs e = done-unrefused u n vs e
+after-refused (done u) changed same n vs e = done-refused e
 after-refused (refused m us) changed same n vs e = refl
 after-refused (fault m us) changed same n vs e = refl
 
@@ -192,7 +197,7 @@ replies-refused : (c : Controller) (room : ℕ) (a : Answer Asked) (n : ℕ) (vs
 unfolding repliesTo replied
 replies-refused c room (done a) n vs e =
     pick-all (λ (r : Result Replied). r .answer ≡ refused n vs → r .next ≡ c) (leb (length (replyFrame c a)) room)
-    (λ k. done-unrefused _ n vs k) (λ k. refl) e
+    (λ k. done-refused k) (λ k. refl) e
 replies-refused c room (refused m us) n vs e = refl
 replies-refused c room (fault m us) n vs e = refl
 

@@ -1,6 +1,7 @@
 -- What changing a field of a sound controller keeps. Assumes nothing.
-use mathlib.Core.Path.{_≡_, refl}
-use Prim.Native.Nat.{ℕ, zero, _≤_}
+use mathlib.Core.Path.{_≡_}
+use Prim.Native.Nat.{ℕ, _≤_}
+use borrow.Author.Needs.{needs}
 use lib.IntN.{natAbs}
 use lib.ListN.{length}
 use Rattle.window.specs.declared.Window.{Window}
@@ -20,32 +21,25 @@ use Rattle.controller.specs.declared.Condition.the-variants.{Faulted}
 
 module _ (c : Controller) (s : Sound c) where
   pub inputs-sound : (x : ℕ) → x ≤ 15 → Sound (withInputs x c)
-  inputs-sound x h =
-      record { set = s .set; places = s .places; held = s .held; samples = s .samples; zero = s .zero; previous = s .previous; calm = s .calm; runs = s .runs; phase = s .phase; kept = s .kept; gates = s .gates; abandoned = s .abandoned; inputs = h; count = s .count; total = s .total }
+  inputs-sound x h = search needs
 
   pub calm-sound : (n : ℕ) → n ≤ 4032 → Sound (withS n c)
-  calm-sound n h =
-      record { set = s .set; places = s .places; held = s .held; samples = s .samples; zero = s .zero; previous = s .previous; calm = h; runs = s .runs; phase = s .phase; kept = s .kept; gates = s .gates; abandoned = s .abandoned; inputs = s .inputs; count = s .count; total = s .total }
+  calm-sound n h = search needs
 
   pub runs-sound : (r : Runs) → Watched (c .condition) r → Sound (withRuns r c)
-  runs-sound r h =
-      record { set = s .set; places = s .places; held = s .held; samples = s .samples; zero = s .zero; previous = s .previous; calm = s .calm; runs = h; phase = s .phase; kept = s .kept; gates = s .gates; abandoned = s .abandoned; inputs = s .inputs; count = s .count; total = s .total }
+  runs-sound r h = search needs
 
   pub zero-sound : (z : Units) → natAbs (z .v) ≤ 24998 → Kept (z .v) (c .phase) → Sound (withZ z c)
-  zero-sound z h k =
-      record { set = s .set; places = s .places; held = s .held; samples = s .samples; zero = h; previous = s .previous; calm = s .calm; runs = s .runs; phase = s .phase; kept = k; gates = s .gates; abandoned = s .abandoned; inputs = s .inputs; count = s .count; total = s .total }
+  zero-sound z h k = search needs
 
   pub counters-sound : (n : Counters) → n .count ≤ 999999 → n .total ≤ 999999999 → Sound (withCounters n c)
-  counters-sound n a b =
-      record { set = s .set; places = s .places; held = s .held; samples = s .samples; zero = s .zero; previous = s .previous; calm = s .calm; runs = s .runs; phase = s .phase; kept = s .kept; gates = s .gates; abandoned = s .abandoned; inputs = s .inputs; count = a; total = b }
+  counters-sound n a b = search needs
 
   -- the filter with F
   pub filter-sound : (w : Window) (f : Units) → length (w .samples) ≡ 128 → w .held ≤ 128 → Within 900000 (samplesOf w) → natAbs (f .v) ≤ 900000 → Sound (withF f (withWindow w c))
-  filter-sound w f a b e g =
-      record { set = s .set; places = a; held = b; samples = within-at 900000 (samplesOf w) e; zero = s .zero; previous = g; calm = s .calm; runs = s .runs; phase = s .phase; kept = s .kept; gates = s .gates; abandoned = s .abandoned; inputs = s .inputs; count = s .count; total = s .total }
+  filter-sound w f a b e g = let all = within-at 900000 (samplesOf w) e in search needs
 
   -- a fault with runs of at most 64
   pub faulted-sound : (why : Fault) (r : Runs) → Watched (Faulted why) r → Sound (faulted why (withRuns r c) .next)
   unfolding faulted gatesOf belongs
-  faulted-sound why r h =
-      record { set = s .set; places = s .places; held = s .held; samples = s .samples; zero = s .zero; previous = s .previous; calm = s .calm; runs = h; phase = refl; kept = tt; gates = refl; abandoned = (refl, refl); inputs = s .inputs; count = s .count; total = s .total }
+  faulted-sound why r h = search needs

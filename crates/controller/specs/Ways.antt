@@ -74,6 +74,17 @@ pub record Reaches (c d : Controller) : Type 0 where
   pub gates : d .gates ≡ c .gates
   pub counters : d .counters ≡ c .counters
 
+-- the same, each part in its place
+abbrev Agrees : Controller → Controller → Type 0
+Agrees c d =
+    Sound d
+    × (d .condition ≡ Clear)
+    × (d .set ≡ c .set)
+    × (d .z ≡ c .z)
+    × (d .phase ≡ c .phase)
+    × (d .gates ≡ c .gates)
+    × (d .counters ≡ c .counters)
+
 module _ (Q : Result Told → Type 0) (faults : (why : Fault) (d : Controller) → Sound (faulted why d .next) → Q (faulted why d)) where
   mismatched-ways : (c : Controller) → Sound c → (r : Runs) (next : Result Told) → (r .one ≤ 64) × (r .two ≤ 64) × (r .three ≤ 64) → (Watched Clear r → Q next) → Q (mismatched r (withRuns r c) next)
   unfolding mismatched
@@ -85,17 +96,17 @@ module _ (Q : Result Told → Type 0) (faults : (why : Fault) (d : Controller) �
       (λ three. go (omega (arith, leb-false 64 (r .one) one, leb-false 64 (r .two) two, leb-false 64 (r .three) three)))))
 
   steps6to8-ways : (c : Controller) (start : Bool) (n : ℕ) → Sound c → c .condition ≡ Clear → n ≤ 4032
-      → ((d : Controller) → Reaches c d → Q (step7 d start)) → Q (steps6to8 c start n)
+      → ((d : Controller) → Agrees c d → Q (step7 d start)) → Q (steps6to8 c start n)
   unfolding steps6to8
   steps6to8-ways c start n s e h go =
       let t = calm-sound c s n h in
       let r = runsAfter c in
       let d = withRuns r (withS n c) in
       mismatched-ways (withS n c) t r (step7 d start) (runs-most c (watched-clear (c .condition) (c .runs) e (s .runs)))
-      (λ w. go d (record { sound = runs-sound (withS n c) t r (clear-watched (c .condition) r e w); clear = e; set = refl; z = refl; phase = refl; gates = refl; counters = refl }))
+      (λ w. go d (runs-sound (withS n c) t r (clear-watched (c .condition) r e w), e, refl, refl, refl, refl, refl))
 
   steps4and5-ways : (c : Controller) (x : ℤ) → Sound c → c .condition ≡ Clear → natAbs x ≤ 900000
-      → ((d : Controller) (start : Bool) → Reaches c d → Q (step7 d start)) → Q (steps4and5 c x)
+      → ((d : Controller) (start : Bool) → Agrees c d → Q (step7 d start)) → Q (steps4and5 c x)
   unfolding steps4and5
   steps4and5-ways c x s e h go =
       let held = pushOf (c .window) x in
@@ -103,21 +114,20 @@ module _ (Q : Result Told → Type 0) (faults : (why : Fault) (d : Controller) �
       let w = push-within c s x h in
       let t = filter-sound c s held (units f) (push-length (c .window) x (s .places)) (held-most (c .window) x) w (mean-most (filterOf c) (samplesOf held) w) in
       steps6to8-ways (withF (units f) (withWindow held c)) (startOf c) (calmRun c f) t e (calm-most c f)
-      (λ d r. go d (startOf c) (record { sound = r .sound; clear = r .clear; set = r .set; z = r .z; phase = r .phase; gates = r .gates; counters = r .counters }))
+      (λ d a. go d (startOf c) a)
 
   step3-ways : (c : Controller) (x : ℤ) (i : ℕ) → Sound c → c .condition ≡ Clear → i ≤ 15
-      → ((d : Controller) (start : Bool) → Reaches c d → Q (step7 d start)) → Q (step3 c x i)
+      → ((d : Controller) (start : Bool) → Agrees c d → Q (step7 d start)) → Q (step3 c x i)
   unfolding step3
   step3-ways c x i s e h go =
       let t = inputs-sound c s i h in
       pick-if Q (outside x)
       (λ a. faults F.F21 (withInputs i c) (faulted-sound (withInputs i c) t F.F21 (c .runs) (watched-most (c .condition) (c .runs) (s .runs))))
-      (λ a. steps4and5-ways (withInputs i c) x t e (inside-within x a)
-      (λ d start r. go d start (record { sound = r .sound; clear = r .clear; set = r .set; z = r .z; phase = r .phase; gates = r .gates; counters = r .counters })))
+      (λ a. steps4and5-ways (withInputs i c) x t e (inside-within x a) go)
 
   step2-ways : (k : Condition) (c : Controller) (x : ℤ) (i : ℕ) → Sound c → c .condition ≡ k → i ≤ 15
       → ((why : Fault) → c .condition ≡ Faulted why → Q (still c (saysFault why)))
-      → ((d : Controller) (start : Bool) → Reaches c d → Q (step7 d start)) → Q (step2 k c x i)
+      → ((d : Controller) (start : Bool) → Agrees c d → Q (step7 d start)) → Q (step2 k c x i)
   unfolding step2
   step2-ways Clear c x i s e h again go = step3-ways c x i s e h go
   step2-ways (Faulted why) c x i s e h again go = again why e
@@ -131,4 +141,5 @@ module _ (Q : Result Told → Type 0) (faults : (why : Fault) (d : Controller) �
   unfolding tickOf
   tick-ways c x i s above again go =
       pick-if Q (ltb 15 i) (λ a. above (ltb-true 15 i a))
-      (λ a. step2-ways (c .condition) c x i s refl (omega (arith, ltb-false 15 i a)) again go)
+      (λ a. step2-ways (c .condition) c x i s refl (omega (arith, ltb-false 15 i a)) again
+      (λ d start a. go d start (record { sound = a .0; clear = a .1; set = a .2; z = a .3; phase = a .4; gates = a .5; counters = a .6 })))

@@ -1,3 +1,11 @@
 pub mod Hours
 pub mod Text
 pub mod Says
+pub mod Tally
+pub mod Kinds
+pub mod Rows
+pub mod Determined
+pub mod Accepted
+pub mod Bounds
+pub mod Exact
+pub mod Report

@@ -1,10 +1,22 @@
 // The hours of a journal: one hour's answer, and the hour program's text.
+use journal::At;
+use journal::Judged;
+use journal::Line;
 use journal::Refusal;
+use journal::Summary;
 ghost use mathlib.Core.Path.{_≡_};
-ghost use lib.ListN.{length};
-ghost use Rattle.paper.specs.Answer.{Fills};
-ghost use Rattle.hourly.specs.Hours.{askOf};
-ghost use Rattle.hourly.specs.Text.{printOf};
+ghost use mathlib.Core.List.{[], _∷_};
+ghost use Prim.Native.Nat.{_+_, _-_, _≤_, _<_, max};
+ghost use lib.ListN.{length, replicate};
+ghost use lib.Seq.{sets};
+ghost use Rattle.paper.specs.Answer.{done, told, inRoom, Fills};
+ghost use Rattle.journal.specs.Journal.{journalOf, summaryOf, hourIn};
+ghost use Rattle.hourly.specs.Hours.{askOf, hourOf};
+ghost use Rattle.hourly.specs.Text.{measured, rowText, hoursText, printOf};
+ghost use Rattle.hourly.specs.Tally.{noTally, withDose, counted, linesOf, Tells, hourFrom, saysShown, Summed, shownOf, textBy, Printable, hoursIn};
+ghost use Rattle.hourly.specs.Rows.{tailText};
+ghost use Rattle.hourly.specs.Report.{refusalText, refusalOf, reportOf};
+ghost use Rattle.text.specs.Put.{Puts};
 ghost use Rattle.hourly.specs.Says.{saysAsked, saysPrinted};
 
 // What a measured hour hands to the predictor: the sum and the largest amount, both exact, and the mean.
@@ -32,4 +44,371 @@ pub enum Printed {
     Text(usize),
     Refused(Refusal),
     R8,
+}
+
+// So many bytes hold what is printed of any journal.
+pub const ENOUGH: usize = 33480;
+
+// A journal has at most so many hours.
+const SPAN: usize = 744;
+
+const TAB: u8 = 9;
+
+const LF: u8 = 10;
+
+// What the lines so far tell of one hour: the number of its doses, their sum, the largest amount, and whether its H was there.
+struct Tally {
+    doses: u32,
+    sum: f64,
+    largest: u32,
+    on: bool,
+}
+
+// What is printed of an hour: its doses, their sum and the mean's bits; or I; or X.
+enum Shown {
+    Measured { doses: u32, sum: u64, bits: u64 },
+    Idle,
+    Missing,
+}
+
+// ---- the lines counted
+
+// Every hour before the first line.
+fn no_tallies() -> [Tally; SPAN]
+    ensures { λ r. ⌜ r ≡ replicate 744 noTally ⌝ }
+{
+    [Tally {
+        doses: 0,
+        sum: 0.0f64,
+        largest: 0,
+        on: false,
+    }; SPAN]
+}
+
+// The larger of two amounts.
+fn larger(a: u32, b: u32) -> u32
+    ensures { λ r. ⌜ r ≡ max a b ⌝ }
+{
+    if a < b {
+        return b;
+    }
+    a
+}
+
+// One dose more: its amount is added up in f64.
+fn with_dose(t: Tally, amount: u32) -> Tally
+    requires { ⌜ t .doses < 16384 ⌝ }
+    ensures { λ r. ⌜ r ≡ withDose t amount ⌝ }
+{
+    Tally {
+        doses: t.doses + 1,
+        sum: t.sum + amount as f64,
+        largest: larger(t.largest, amount),
+        on: t.on,
+    }
+}
+
+// One line more of the hour.
+fn with_line(t: Tally, line: Line) -> Tally
+    requires { ⌜ t .doses < 16384 ⌝ }
+    ensures { λ r. ⌜ r ≡ counted t line ⌝ }
+{
+    match line {
+        Line::Dose {
+            hour: _,
+            count: _,
+            amount,
+            settled: _,
+        } => with_dose(t, amount),
+        Line::On { hour: _ } => Tally { on: true, ..t },
+    }
+}
+
+// How many hours a line is behind the first line.
+fn place(line: Line, first: u32) -> usize
+    requires { ⌜ first ≤ hourIn line ⌝ }
+    ensures { λ r. ⌜ r ≡ hourIn line - first ⌝ }
+{
+    match line {
+        Line::Dose {
+            hour,
+            count: _,
+            amount: _,
+            settled: _,
+        } => (hour - first) as usize,
+        Line::On { hour } => (hour - first) as usize,
+    }
+}
+
+// The tallies of the hours from the first on, in one pass over the lines of a journal that was accepted.
+fn tallies(bytes: &[u8], found: Summary) -> [Tally; SPAN]
+    requires { ⌜ told summaryOf (journalOf (now bytes)) ≡ done found ⌝ }
+    ensures { λ r. ⌜ Tells r (found .first) (linesOf (now (bytes .entry))) ⌝ }
+{
+    let lines = found.lines;
+    let first = found.first;
+    let mut table = no_tallies();
+    let mut at: usize = 0;
+    let mut n: usize = 0;
+    while n < lines {
+        let At::Line { line, next } = journal::line_at(bytes, at) else {
+            return table;
+        };
+        let k = place(line, first);
+        let tally = table[k];
+        table[k] = with_line(tally, line);
+        at = next;
+        n += 1;
+    }
+    table
+}
+
+// ---- an hour's answer
+
+// With an H the hour is measured if it has a dose, else idle; without one it is missing.
+fn hour_from(t: Tally) -> Hour
+    ensures { λ r. ⌜ r ≡ hourFrom t ⌝ }
+{
+    if !t.on {
+        return Hour::Missing;
+    }
+    if t.doses == 0 {
+        return Hour::Idle;
+    }
+    Hour::Measured(Figures {
+        sum: t.sum,
+        largest: t.largest as f64,
+        mean: t.sum / t.doses as f64,
+    })
+}
+
+// One hour of an accepted journal; outside its hours it is missing.
+fn hour_among(bytes: &[u8], found: Summary, hour: u32) -> Hour
+    requires { ⌜ told summaryOf (journalOf (now bytes)) ≡ done found ⌝ }
+    ensures { λ r. ⌜ r ≡ hourOf (linesOf (now (bytes .entry))) hour ⌝ }
+{
+    if hour < found.first {
+        return Hour::Missing;
+    }
+    if found.last < hour {
+        return Hour::Missing;
+    }
+    let table = tallies(bytes, found);
+    let k = (hour - found.first) as usize;
+    let tally = table[k];
+    hour_from(tally)
+}
+
+// The hour of a journal, or the journal's refusal.
+pub fn hour_of(bytes: &[u8], hour: u32) -> Asked
+    ensures { λ r. ⌜ saysAsked r ≡ askOf (now (bytes .entry)) hour ⌝ }
+{
+    let judged = journal::read(bytes);
+    match judged {
+        Judged::Lines(found) => Asked::Hour(hour_among(bytes, found, hour)),
+        Judged::Refused(refusal) => Asked::Refused(refusal),
+    }
+}
+
+// ---- the text
+
+// What is printed of an hour.
+fn shown_from(t: Tally) -> Shown
+    requires { ⌜ Summed t ⌝ }
+    ensures { λ r. ⌜ saysShown r ≡ shownOf t ⌝ }
+{
+    let hour = hour_from(t);
+    match hour {
+        Hour::Measured(f) => Shown::Measured {
+            doses: t.doses,
+            sum: f.sum as u64,
+            bits: f64::to_bits(f.mean),
+        },
+        Hour::Idle => Shown::Idle,
+        Hour::Missing => Shown::Missing,
+    }
+}
+
+// How many bytes a row has.
+fn row_len(hour: u64, row: Shown) -> usize
+    ensures { λ r. ⌜ r ≡ length (rowText hour (saysShown row)) ⌝ }
+{
+    let n = text::decimal_len(hour);
+    match row {
+        Shown::Measured {
+            doses,
+            sum,
+            bits: _,
+        } => n + 22 + text::decimal_len(doses as u64) + text::decimal_len(sum),
+        Shown::Idle => n + 3,
+        Shown::Missing => n + 3,
+    }
+}
+
+// M and the figures of a measured hour, behind the hour and its tab.
+fn put_measured(out: &mut [u8], at: usize, doses: u64, sum: u64, bits: u64) -> usize
+    requires { ⌜ at + length (tailText (measured doses sum bits)) ≤ length (now out) ⌝ }
+    ensures { λ r. ⌜ Puts (now (out .entry)) at (tailText (measured doses sum bits)) (now (out .exit)) r ⌝ }
+{
+    let mut p = text::put_byte(out, at, b'M');
+    p = text::put_byte(out, p, TAB);
+    p = text::put_decimal(out, p, doses);
+    p = text::put_byte(out, p, TAB);
+    p = text::put_decimal(out, p, sum);
+    p = text::put_byte(out, p, TAB);
+    p = text::put_hex16(out, p, bits);
+    text::put_byte(out, p, LF)
+}
+
+// I or X.
+fn put_letter(out: &mut [u8], at: usize, letter: u8) -> usize
+    requires { ⌜ at + 2 ≤ length (now out) ⌝ }
+    ensures { λ r. ⌜ Puts (now (out .entry)) at (letter ∷ 10 ∷ []) (now (out .exit)) r ⌝ }
+{
+    let p = text::put_byte(out, at, letter);
+    text::put_byte(out, p, LF)
+}
+
+// What stands behind the hour and its tab.
+fn put_tail(out: &mut [u8], at: usize, row: Shown) -> usize
+    requires { ⌜ at + length (tailText (saysShown row)) ≤ length (now out) ⌝ }
+    ensures { λ r. ⌜ Puts (now (out .entry)) at (tailText (saysShown row)) (now (out .exit)) r ⌝ }
+{
+    match row {
+        Shown::Measured { doses, sum, bits } => put_measured(out, at, doses as u64, sum, bits),
+        Shown::Idle => put_letter(out, at, b'I'),
+        Shown::Missing => put_letter(out, at, b'X'),
+    }
+}
+
+// An hour's row.
+fn put_row(out: &mut [u8], at: usize, hour: u64, row: Shown) -> usize
+    requires { ⌜ at + length (rowText hour (saysShown row)) ≤ length (now out) ⌝ }
+    ensures { λ r. ⌜ Puts (now (out .entry)) at (rowText hour (saysShown row)) (now (out .exit)) r ⌝ }
+{
+    let p = text::put_decimal(out, at, hour);
+    let q = text::put_byte(out, p, TAB);
+    put_tail(out, q, row)
+}
+
+// How many bytes the rows of the first hours of a table have.
+fn text_len(table: [Tally; SPAN], first: u32, hours: usize) -> usize
+    requires { ⌜ Printable table first hours ⌝ }
+    ensures { λ r. ⌜ r ≡ length (textBy table first hours) ⌝ }
+{
+    let mut n: usize = 0;
+    let mut k: usize = 0;
+    while k < hours {
+        let tally = table[k];
+        n += row_len(first as u64 + k as u64, shown_from(tally));
+        k += 1;
+    }
+    n
+}
+
+// The rows of the first hours of a table, stored from the buffer's start.
+fn put_rows(out: &mut [u8], table: [Tally; SPAN], first: u32, hours: usize)
+    requires printable { ⌜ Printable table first hours ⌝ }
+    requires room { ⌜ length (textBy table first hours) ≤ length (now out) ⌝ }
+    ensures { λ _. ⌜ now (out .exit) ≡ sets (now (out .entry)) 0 (textBy table first hours) ⌝ }
+{
+    let mut at: usize = 0;
+    let mut k: usize = 0;
+    while k < hours {
+        let tally = table[k];
+        at = put_row(out, at, first as u64 + k as u64, shown_from(tally));
+        k += 1;
+    }
+}
+
+// How many hours are printed: none of an empty journal.
+fn hours_in(found: Summary) -> usize
+    requires { ⌜ found .first ≤ found .last ⌝ }
+    ensures { λ r. ⌜ r ≡ hoursIn found ⌝ }
+{
+    if found.lines == 0 {
+        return 0;
+    }
+    (found.last - found.first) as usize + 1
+}
+
+// The text of an accepted journal, if it has room.
+fn print_lines(bytes: &[u8], found: Summary, out: &mut [u8]) -> Printed
+    requires { ⌜ told summaryOf (journalOf (now bytes)) ≡ done found ⌝ }
+    ensures { λ r. ⌜ Fills (saysPrinted r) (inRoom [] (length (now (out .entry))) (hoursText (linesOf (now (bytes .entry))))) (now (out .entry)) (now (out .exit)) ⌝ }
+{
+    let table = tallies(bytes, found);
+    let first = found.first;
+    let hours = hours_in(found);
+    let n = text_len(table, first, hours);
+    if out.len() < n {
+        return Printed::R8;
+    }
+    put_rows(out, table, first, hours);
+    Printed::Text(n)
+}
+
+// The hour program's text, from the buffer's start, or a refusal that leaves the buffer as it was.
+pub fn print(bytes: &[u8], out: &mut [u8]) -> Printed
+    ensures { λ r. ⌜ Fills (saysPrinted r) (printOf (now (bytes .entry)) (length (now (out .entry)))) (now (out .entry)) (now (out .exit)) ⌝ }
+{
+    let judged = journal::read(bytes);
+    match judged {
+        Judged::Lines(found) => print_lines(bytes, found, out),
+        Judged::Refused(refusal) => Printed::Refused(refusal),
+    }
+}
+
+// ---- the program
+
+// R, a refusal's number and its line, if they have room.
+fn put_refused(out: &mut [u8], number: u64, line: u64) -> usize
+    ensures { λ r. ⌜ Puts (now (out .entry)) 0 (refusalText number line) (now (out .exit)) r ⌝ }
+{
+    let size = text::decimal_len(number) + text::decimal_len(line) + 4;
+    if out.len() < size {
+        return 0;
+    }
+    let mut p = text::put_byte(out, 0, b'R');
+    p = text::put_byte(out, p, TAB);
+    p = text::put_decimal(out, p, number);
+    p = text::put_byte(out, p, TAB);
+    p = text::put_decimal(out, p, line);
+    text::put_byte(out, p, LF)
+}
+
+// The one line of a journal's refusal.
+fn put_refusal(out: &mut [u8], refusal: Refusal) -> usize
+    ensures { λ r. ⌜ Puts (now (out .entry)) 0 (refusalOf refusal) (now (out .exit)) r ⌝ }
+{
+    match refusal {
+        Refusal::R10(line) => put_refused(out, 10, line as u64),
+        Refusal::R11(line) => put_refused(out, 11, line as u64),
+        Refusal::R12(line) => put_refused(out, 12, line as u64),
+        Refusal::R13 => put_refused(out, 13, 0),
+    }
+}
+
+// The text of an accepted journal, if it has room, and its length.
+fn put_lines(out: &mut [u8], bytes: &[u8], found: Summary) -> usize
+    requires { ⌜ told summaryOf (journalOf (now bytes)) ≡ done found ⌝ }
+    ensures { λ r. ⌜ Puts (now (out .entry)) 0 (hoursText (linesOf (now (bytes .entry)))) (now (out .exit)) r ⌝ }
+{
+    let printed = print_lines(bytes, found, out);
+    match printed {
+        Printed::Text(n) => n,
+        Printed::Refused(_) => 0,
+        Printed::R8 => 0,
+    }
+}
+
+// What the hour program prints for a journal, if it has room: its text, or the line of its refusal.
+pub fn report(bytes: &[u8], out: &mut [u8]) -> usize
+    ensures { λ r. ⌜ Puts (now (out .entry)) 0 (reportOf (now (bytes .entry))) (now (out .exit)) r ⌝ }
+{
+    let judged = journal::read(bytes);
+    match judged {
+        Judged::Lines(found) => put_lines(out, bytes, found),
+        Judged::Refused(refusal) => put_refusal(out, refusal),
+    }
 }

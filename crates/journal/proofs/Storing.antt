@@ -19,6 +19,10 @@ stores-then {old} {mid} {new} {xs} {ys} {at} {r} {q} a b = record {
 pub stores-length : {old text new : List ℕ} {at r : ℕ} → Stores old at text new r → length new ≡ length old
 stores-length {old} {text} {new} {at} {r} a = ap length (a .left) ∙ length-sets old at text
 
+-- n bytes more have room behind a text, where a buffer holds the whole
+pub room-for : {old text new : List ℕ} {r : ℕ} (n whole : ℕ) → Stores old 0 text new r → length text + n ≤ whole → whole ≤ length old → r + n ≤ length new
+room-for n whole a h k = omega (arith, a .next, stores-length a)
+
 -- what has room is stored
 pub stored : {old text new : List ℕ} {at r : ℕ} → at + length text ≤ length old → Puts old at text new r → Stores old at text new r
 stored {old} {text} {new} {at} {r} h p = let f = puts-fit (room-is old at text h) p in record { left = f .0; next = f .1 }

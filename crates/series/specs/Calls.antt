@@ -1,5 +1,5 @@
 -- What each public call hands back is what its event makes of the controller: so a series of events is a series of calls. Assumes nothing.
-use mathlib.Core.Path.{_≡_, refl, sym, _∙_}
+use mathlib.Core.Path.{_≡_, refl, sym, ap, _∙_}
 use mathlib.Core.Bool.{Bool}
 use mathlib.Core.List.{List, []}
 use Prim.Native.Nat.{ℕ}
@@ -7,6 +7,7 @@ use lib.IntN.{ℤ}
 use Rattle.paper.specs.Answer.{Answer, done, refused, fault, told}
 use Rattle.settings.specs.declared.Settings.{Settings}
 use Rattle.controller.specs.declared.Controller.{Controller}
+use Rattle.controller.specs.declared.Counters.{Counters}
 use Rattle.controller.specs.declared.Ticked.{Ticked}
 use Rattle.controller.specs.declared.Requested.{Requested}
 use Rattle.controller.specs.declared.SetTo.{SetTo}
@@ -16,7 +17,7 @@ use Rattle.controller.specs.Calls.{restartOf, controllerIn, freshOf, linkOf}
 use Rattle.controller.specs.Says.{saysRestart, Ticks, Sets, Resets, Restarts, Replies}
 use Rattle.controller.specs.Made.{Made}
 use Rattle.controller.specs.Done.{refused-done, fault-done}
-use Rattle.series.specs.Events.{tick, link, request, settings, reset, restart, restartedFrom, eventOf, run}
+use Rattle.series.specs.Events.{tick, link, request, settings, reset, restart, restartedFrom, eventOf, run, Carried}
 
 pub fresh-is : (r : Controller) → Made freshOf r → r ≡ run freshOf []
 unfolding run
@@ -64,3 +65,8 @@ stays-in f c (fault m us) n vs e = refl
 pub restart-stays : (c : Controller) (set : Settings) (count total : ℕ) (r : Restarted) (n : ℕ) (vs : List ℕ) → Restarts set count total r → saysRestart (r .answer) ≡ refused n vs → eventOf c (restart set count total) ≡ c
 unfolding eventOf
 restart-stays c set count total r n vs h e = stays-in _ c (restartOf set count total) n vs (sym (h .says) ∙ e)
+
+-- a restart with the numbers that the counters' call answers just before it is one that a series may have
+pub restart-carries : (c : Controller) (set : Settings) (n : Counters) → n ≡ c .counters → Carried c (restart set (n .count) (n .total))
+unfolding Carried
+restart-carries c set n e d h = (ap (λ (m : Counters). m .count) e, ap (λ (m : Counters). m .total) e)

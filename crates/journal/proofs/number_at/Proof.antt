@@ -139,7 +139,11 @@ loop-again c =
     let h = head c .loop in
     let s = S (head c .before .before) in
     let m = head c .before .before .before .before .before .before .args .most in
-    (omega arith, omega arith, h .inv .2 ∙ pick-f _ _ _ (le-ltb _ _ (c .before .before .before .loop-test .taken)) ∙ digits-digit m (h .v) s (h .i) (ap isDigit (sym e) ∙ digit c) ∙ ap (λ (b : ℕ). onward m (h .v * 10 + (b - 48)) (drop (h .i + 1) s)) (sym e))
+    let d = ap isDigit (sym e) ∙ digit c in (
+      omega arith,
+      omega arith,
+      h .inv .2 ∙ pick-f _ _ _ (le-ltb _ _ (c .before .before .before .loop-test .taken)) ∙ digits-digit m (h .v) s (h .i) d ∙ ap (λ (b : ℕ). onward m (h .v * 10 + (b - 48)) (drop (h .i + 1) s)) (sym e),
+    )
 
 returns-4 : tie.Need-returns-4 Inv-loop μ-loop
 unfolding onward

@@ -86,7 +86,10 @@ next c = drop (fields-of c .fields .p + 1) (S (top-of c))
 read-line : (c : tie.After-line-from Inv-fields μ-fields Inv-lines μ-lines) → lineOf (here (letter (fields-of c))) ≡ good (c .line-from .result) (next c)
 read-line c =
     let a = fields-of c in
-    line-read (S (top-of c)) (a .fields .got) (top-of c .lines .at) (letter a .fields-after .result) (a .fields .p) (letter a .fields-after .ensures) (some a) (read-fields (c .before .before .before)) (sym (c .before .before .byte-at .ensures) ∙ c .before .if4 .left)
+    let f = a .fields in
+    let n = letter a .fields-after in
+    let lf = sym (c .before .before .byte-at .ensures) ∙ c .before .if4 .left in
+    line-read (S (top-of c)) (f .got) (top-of c .lines .at) (n .result) (f .p) (n .ensures) (some a) (read-fields (c .before .before .before)) lf
     ∙ ap (λ (l : Line). good l (next c)) (sym (c .line-from .ensures))
 
 judged : (c : tie.After-line-from Inv-fields μ-fields Inv-lines μ-lines) → told summaryOf (journalOf (S (top-of c)))
@@ -217,7 +220,12 @@ lines-again c =
     let r = c .before .before .before .before .before .before in
     let l = top-of r .lines in
     let e = past-end r in
-    (omega arith, omega (arith, l .inv .1), judged r ∙ order-kept (l .past) (r .line-from .result) (l .lines + 1) _ (order-is (c .before .before .before .before) false (c .before .before .before .if5 .left)) (far-is (c .before .before) false (c .before .if6 .left)) ∙ ap (λ (p : Past). sumFrom p (l .lines + 1) (next r)) (sym (c .past-after .ensures)))
+    let order = order-is (c .before .before .before .before) false (c .before .before .before .if5 .left) in
+    let far = far-is (c .before .before) false (c .before .if6 .left) in (
+      omega arith,
+      omega (arith, l .inv .1),
+      judged r ∙ order-kept (l .past) (r .line-from .result) (l .lines + 1) _ order far ∙ ap (λ (p : Past). sumFrom p (l .lines + 1) (next r)) (sym (c .past-after .ensures)),
+    )
 
 returns-2 : tie.Need-returns-2 Inv-fields μ-fields Inv-lines μ-lines
 returns-2 c =
@@ -233,14 +241,18 @@ unfolding mostOfD
 returns-4 c =
     let a = c .before .before .before .before in
     let f = a .fields in
-    let n = letter a .fields-after .result in
-    malformed (letter a) (line-broken (S (top (letter a))) (top (letter a) .lines .at) n (letter a .fields-after .ensures) (some a) (sym (f .inv .3) ∙ fields-stop (S (top (letter a))) (take (f .k) (f .got)) n (f .k) (f .p) (c .before .before .before .fields-test .taken) (at-most (letter a)) (c .before .before .field-at .ensures) (c .enum-told .given .1)))
+    let n = letter a .fields-after in
+    let s = S (top (letter a)) in
+    let stop = fields-stop s (take (f .k) (f .got)) (n .result) (f .k) (f .p) (c .before .before .before .fields-test .taken) (at-most (letter a)) (c .before .before .field-at .ensures) (c .enum-told .given .1) in
+    malformed (letter a) (line-broken s (top (letter a) .lines .at) (n .result) (n .ensures) (some a) (sym (f .inv .3) ∙ stop))
 
 returns-5 : tie.Need-returns-5 Inv-fields μ-fields Inv-lines μ-lines
 returns-5 c =
     let a = c .before .before .before in
     let f = a .fields in
-    malformed (letter a) (line-torn (S (top (letter a))) (f .got) (top (letter a) .lines .at) (letter a .fields-after .result) (f .p) (letter a .fields-after .ensures) (some a) (read-fields (c .before .before)) (λ e. c .if4 .taken (c .before .byte-at .ensures ∙ e)))
+    let n = letter a .fields-after in
+    let s = S (top (letter a)) in
+    malformed (letter a) (line-torn s (f .got) (top (letter a) .lines .at) (n .result) (f .p) (n .ensures) (some a) (read-fields (c .before .before)) (λ e. c .if4 .taken (c .before .byte-at .ensures ∙ e)))
 
 returns-6 : tie.Need-returns-6 Inv-fields μ-fields Inv-lines μ-lines
 returns-6 c =

@@ -18,9 +18,10 @@ same-length c = search needs
 
 returns : tie.Need-returns
 returns c =
-    let a = c .before .before .before .before .before .before .store-byte .ensures in
-    let room : c .before .before .before .before .before .before .store-byte .result + length (decimal (c .before .before .before .before .before .before .before .before .before .args .v)) ≤ length (c .before .before .before .before .before .before .store-byte .last .0) = omega (arith, a .next, stores-length a, c .before .before .before .before .before .before .before .before .before .pre) in
-    stores-then a (stored room (c .before .before .put-decimal .ensures))
+    let b = c .before .before .before .before .before .before .store-byte in
+    let start = c .before .before .before .before .before .before .before .before .before in
+    let room : b .result + length (decimal (start .args .v)) ≤ length (b .last .0) = omega (arith, b .ensures .next, stores-length (b .ensures), start .pre) in
+    stores-then (b .ensures) (stored room (c .before .before .put-decimal .ensures))
 
 pub store-field-spec : {M : Type 1} → statement M
 store-field-spec =

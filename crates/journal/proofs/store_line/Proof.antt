@@ -25,13 +25,19 @@ same-length : tie.Need-same-length
 same-length c = search needs
 
 returns : tie.Need-returns
-returns c = subst (λ (l : Line). Stores (now (c .before .before .before .before .before .before .before .before .args .out)) 0 (textOf l) (c .before .before .store-dose .last .0) (c .before .before .store-dose .result)) (sym (c .before .before .before .before .before .line .given .1)) (c .before .before .store-dose .ensures)
+returns c =
+    let d = c .before .before .store-dose in
+    let old = now (c .before .before .before .before .before .before .before .before .args .out) in
+    subst (λ (l : Line). Stores old 0 (textOf l) (d .last .0) (d .result)) (sym (c .before .before .before .before .before .line .given .1)) (d .ensures)
 
 same-length-2 : tie.Need-same-length-2
 same-length-2 c = search needs
 
 returns-2 : tie.Need-returns-2
-returns-2 c = subst (λ (l : Line). Stores (now (c .before .before .before .before .before .before .before .before .args .out)) 0 (textOf l) (c .before .before .store-on .last .0) (c .before .before .store-on .result)) (sym (c .before .before .before .before .before .line2 .given .1)) (c .before .before .store-on .ensures)
+returns-2 c =
+    let o = c .before .before .store-on in
+    let old = now (c .before .before .before .before .before .before .before .before .args .out) in
+    subst (λ (l : Line). Stores old 0 (textOf l) (o .last .0) (o .result)) (sym (c .before .before .before .before .before .line2 .given .1)) (o .ensures)
 
 pub store-line-spec : {M : Type 1} → statement M
 store-line-spec =

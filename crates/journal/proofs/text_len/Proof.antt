@@ -45,10 +45,15 @@ add-result-5 : tie.Need-add-result-5
 add-result-5 c = search needs
 
 returns : tie.Need-returns
-returns c = omega (arith, ap (λ (l : Line). length (textOf l)) (c .before .before .before .before .before .line .given .1), dose-length (c .before .before .before .before .before .line .given .0 .0) (c .before .before .before .before .before .line .given .0 .1 .0) (c .before .before .before .before .before .line .given .0 .1 .1 .0) (c .before .before .before .before .before .line .given .0 .1 .1 .1 .0), c .field-len4 .ensures .is, c .before .field-len3 .ensures .is, c .before .before .field-len2 .ensures .is, c .before .before .before .field-len .ensures .is)
+returns c =
+    let g = c .before .before .before .before .before .line .given in
+    let d = dose-length (g .0 .0) (g .0 .1 .0) (g .0 .1 .1 .0) (g .0 .1 .1 .1 .0) in
+    omega (arith, ap (λ (l : Line). length (textOf l)) (g .1), c .field-len4 .ensures .is, c .before .field-len3 .ensures .is, c .before .before .field-len2 .ensures .is, c .before .before .before .field-len .ensures .is)
 
 returns-2 : tie.Need-returns-2
-returns-2 c = omega (arith, ap (λ (l : Line). length (textOf l)) (c .before .before .line2 .given .1), on-length (c .before .before .line2 .given .0 .0), c .field-len5 .ensures .is)
+returns-2 c =
+    let g = c .before .before .line2 .given in
+    omega (arith, ap (λ (l : Line). length (textOf l)) (g .1), on-length (g .0 .0), c .field-len5 .ensures .is)
 
 pub text-len-spec : {M : Type 1} → statement M
 text-len-spec =

@@ -1,0 +1,106 @@
+-- From a tally to the hour's answer and its row, and from the journal's refusal to the call's. Assumes nothing.
+use mathlib.Core.Path.{_≡_, refl, sym, ap, _∙_, subst}
+use mathlib.Core.Bool.{Bool, true, false, not}
+use mathlib.Core.List.{List, [], _∷_}
+use Prim.Native.Nat.{ℕ, suc, _+_, _^_, _≤_, _<_}
+use native.Mathlib.Omega.{arith}
+use lib.Dec.{T, eqb, eqb·suc-zero}
+use lib.ListN.{length}
+use lib.Ieee.{Float, binary64, div, isNan, inUnsigned, toUnsigned}
+use borrow.Author.Tests.{eqb-false}
+use Rattle.laws.specs.Pick.{pick}
+use Rattle.paper.specs.Answer.{Answer, done, refused, fault, told, onDone, leaves, Fills}
+use Rattle.journal.specs.Says.{saysRefusal}
+use Rattle.journal.specs.declared.Line.{Line}
+use Rattle.journal.specs.declared.Refusal.{Refusal}
+use Rattle.journal.specs.declared.Refusal.the-variants as R
+use Rattle.hourly.specs.Hours.{amountsAt, hasOn, total, greatest, figuresOf, measuredOrIdle, hourOf, inFloat}
+use Rattle.hourly.specs.Tally.{tallyOf, figuresFrom, hourFrom, Summed}
+use Rattle.hourly.specs.declared.Figures.{Figures}
+use Rattle.hourly.specs.declared.Hour.{Hour}
+use Rattle.hourly.specs.declared.Hour.the-variants.{Measured, Idle, Missing}
+use Rattle.hourly.specs.declared.Tally.{Tally}
+use Rattle.hourly.proofs.Floats.{whole-back, mean-no-nan}
+
+-- the tally of an hour answers as the hour does
+pub hour-tally : (ls : List Line) (h : ℕ) → hourFrom (tallyOf ls h) ≡ hourOf ls h
+unfolding hourFrom tallyOf figuresFrom hourOf measuredOrIdle figuresOf pick
+hour-tally ls h = ap (λ (x : Hour). pick (hasOn h ls) x Missing) (go (amountsAt h ls))
+  where
+    go : (amounts : List ℕ) → pick (eqb (length amounts) 0) Idle (Measured (record { sum = inFloat (total amounts); largest = inFloat (greatest amounts); mean = div binary64 (inFloat (total amounts)) (inFloat (length amounts)) })) ≡ measuredOrIdle amounts
+    go [] = refl
+    go (a ∷ as') = rw eqb·suc-zero
+
+-- a measured hour has the figures of its tally, and a dose
+measured-from : (t : Tally) (f : Figures) → hourFrom t ≡ Measured f → (figuresFrom t ≡ f) × (0 < t .doses)
+unfolding hourFrom pick
+measured-from t f e = go (t .on) (eqb (t .doses) 0) refl e
+  where
+    go : (on none : Bool) → eqb (t .doses) 0 ≡ none → pick on (pick none Idle (Measured (figuresFrom t))) Missing ≡ Measured f → (figuresFrom t ≡ f) × (0 < t .doses)
+    go true true p e = let z : _≡_ {A = ℕ} 0 1 = cc in absurd (omega arith)
+    go true false p e = (cc, omega (arith, eqb-false (t .doses) 0 p))
+    go false none p e = let z : _≡_ {A = ℕ} 0 1 = cc in absurd (omega arith)
+
+-- its sum goes back to a whole number, and its mean is a number
+pub sum-whole : (t : Tally) (f : Figures) → Summed t → hourFrom t ≡ Measured f → T (inUnsigned binary64 64 (f .sum))
+unfolding figuresFrom
+sum-whole t f s e =
+    let g : t .sum ≡ f .sum = ap (λ (x : Figures). x .sum) (measured-from t f e .0) in
+    subst (λ (x : Float). T (inUnsigned binary64 64 x)) (sym (s .exact) ∙ g) (whole-back (s .whole) (s .small) .0)
+
+pub mean-number : (t : Tally) (f : Figures) → Summed t → t .doses ≤ 2 ^ 53 → hourFrom t ≡ Measured f → T (not (isNan (f .mean)))
+unfolding figuresFrom
+mean-number t f s d e =
+    let m = measured-from t f e in
+    let g : div binary64 (t .sum) (inFloat (t .doses)) ≡ f .mean = ap (λ (x : Figures). x .mean) (m .0) in
+    subst (λ (x : Float). T (not (isNan x))) (ap (λ (x : Float). div binary64 x (inFloat (t .doses))) (sym (s .exact)) ∙ g) (mean-no-nan (s .whole) (t .doses) (s .small) d (m .1))
+
+-- ---- the journal's refusal
+
+-- d where an answer is done, else its refusal
+abbrev orElse : {X Y : Type 0} → Answer Y → Answer X → Answer Y
+orElse d (done x) = d
+orElse d (refused n vs) = refused n vs
+orElse d (fault n vs) = fault n vs
+
+else-refusal : (X : Type 0) {Y : Type 0} (d : Answer Y) (r : Refusal) → orElse d (saysRefusal {X = X} r) ≡ saysRefusal r
+else-refusal X d (R.R10 n) = refl
+else-refusal X d (R.R11 n) = refl
+else-refusal X d (R.R12 n) = refl
+else-refusal X d R.R13 = refl
+
+else-told : {A X Y : Type 0} (f : A → X) (g : A → Y) (a : Answer A) → orElse (told g a) (told f a) ≡ told g a
+unfolding told
+else-told f g (done x) = refl
+else-told f g (refused n vs) = refl
+else-told f g (fault n vs) = refl
+
+-- a refusal is the same, whatever would have been told of the lines
+pub refused-told : {A X Y : Type 0} (f : A → X) (g : A → Y) (a : Answer A) (r : Refusal) → saysRefusal r ≡ told f a → saysRefusal r ≡ told g a
+refused-told {X = X} f g a r e = sym (else-refusal X (told g a) r) ∙ ap (orElse (told g a)) e ∙ else-told f g a
+
+else-done : {A X Y : Type 0} (f : A → X) (next : A → Answer Y) (a : Answer A) → orElse (onDone a next) (told f a) ≡ onDone a next
+unfolding told onDone
+else-done f next (done x) = refl
+else-done f next (refused n vs) = refl
+else-done f next (fault n vs) = refl
+
+refusal-says : (r : Refusal) → saysRefusal r ≡ told length (saysRefusal {X = List ℕ} r)
+unfolding told
+refusal-says (R.R10 n) = refl
+refusal-says (R.R11 n) = refl
+refusal-says (R.R12 n) = refl
+refusal-says R.R13 = refl
+
+refusal-leaves : (r : Refusal) (old : List ℕ) → old ≡ leaves (saysRefusal r) old
+unfolding leaves
+refusal-leaves (R.R10 n) old = refl
+refusal-leaves (R.R11 n) old = refl
+refusal-leaves (R.R12 n) old = refl
+refusal-leaves R.R13 old = refl
+
+-- and the buffer is as it was
+pub refused-fills : {A X : Type 0} (f : A → X) (next : A → Answer (List ℕ)) (a : Answer A) (r : Refusal) (old : List ℕ) → saysRefusal r ≡ told f a → Fills (saysRefusal r) (onDone a next) old old
+refused-fills {X = X} f next a r old e =
+    let g : saysRefusal r ≡ onDone a next = sym (else-refusal X (onDone a next) r) ∙ ap (orElse (onDone a next)) e ∙ else-done f next a in
+    record { says = refusal-says r ∙ ap (told length) g; left = refusal-leaves r old ∙ ap (λ (x : Answer (List ℕ)). leaves x old) g }

@@ -1,0 +1,5 @@
+pub mod Floats
+pub mod Tallying
+pub mod Answering
+pub mod Printing
+pub mod Reporting

@@ -1,0 +1,31 @@
+use mathlib.Core.Path.{sym, _∙_}
+use lib.Dec.{eqb}
+use borrow.Author.Needs.{needs}
+use borrow.Author.Tests.{not-true, not-false, eq-eqb, ne-eqb}
+use Rattle.laws.specs.Pick.{pick-t, pick-f}
+use Rattle.hourly.specs.Hours.{inFloat}
+use Rattle.hourly.specs.Tally.{hourFrom, figuresFrom}
+use Rattle.hourly.specs.declared.Hour.the-variants.{Measured}
+use Rattle.hourly.proofs.hour_from.Statement.{statement}
+use Rattle.hourly.proofs.hour_from.Tie as tie
+
+returns : tie.Need-returns
+unfolding hourFrom
+returns c = sym (pick-f (c .before .before .args .t .on) _ _ (not-true _ (c .if1 .taken)))
+
+returns-2 : tie.Need-returns-2
+unfolding hourFrom
+returns-2 c = sym (pick-t (c .before .before .before .before .args .t .on) _ _ (not-false _ (c .before .before .if1 .left)) ∙ pick-t (eqb (c .before .before .before .before .args .t .doses) 0) _ _ (eq-eqb _ 0 (c .if2 .taken)))
+
+int-to-float-t3 : tie.Need-int-to-float-t3
+int-to-float-t3 c = search needs
+
+int-to-float-t4 : tie.Need-int-to-float-t4
+int-to-float-t4 c = search needs
+
+returns-3 : tie.Need-returns-3
+unfolding hourFrom figuresFrom inFloat
+returns-3 c = sym (pick-t (c .before .before .before .before .before .before .before .args .t .on) _ _ (not-false _ (c .before .before .before .before .before .if1 .left)) ∙ pick-f (eqb (c .before .before .before .before .before .before .before .args .t .doses) 0) _ _ (ne-eqb _ 0 (c .before .before .before .if2 .left)))
+
+pub hour-from-spec : {M : Type 1} → statement M
+hour-from-spec = tie.close (tie.spec returns returns-2 int-to-float-t3 int-to-float-t4 returns-3)

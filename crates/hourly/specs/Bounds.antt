@@ -1,0 +1,143 @@
+-- Hours outside a journal's are missing, what an hour's lines come to is bounded, and 33,480 bytes hold the text of every journal. Assumes nothing.
+use mathlib.Core.Path.{_≡_, refl, sym, ap, _∙_, subst}
+use mathlib.Core.Bool.{Bool, true, false, _&&_, _||_}
+use mathlib.Core.List.{List, [], _∷_, _++_, map}
+use mathlib.Core.Logic.{_⊎_, inl, inr}
+use Prim.Native.Nat.{ℕ, zero, suc, _+_, _-_, _*_, _≤_, _<_, max}
+use native.Mathlib.Omega.{arith}
+use native.Mathlib.Decide.{decLt}
+use lib.Dec.{leb, eqb}
+use lib.ListN.{length, length-append}
+use borrow.Author.Tests.{leb-true, le-leb, ne-eqb}
+use Rattle.laws.specs.Pick.{pick, pick-t, pick-all, pick-false}
+use Rattle.laws.specs.Decimal.{decimal, hexOf}
+use Rattle.laws.specs.DecimalLaws.{decimal-length, hex-length}
+use Rattle.paper.specs.Answer.{Answer, done, refused, onDone, inRoom}
+use Rattle.paper.specs.Numbers.{R8}
+use Rattle.journal.specs.Line.{LF, TAB, inRange}
+use Rattle.journal.specs.Journal.{hourIn, journalOf, firstHour, lastHour}
+use Rattle.journal.specs.LineLaws.{dose-range, on-range}
+use Rattle.journal.specs.declared.Line.{Line}
+use Rattle.journal.specs.declared.Line.the-variants.{Dose, On}
+use Rattle.hourly.specs.Hours.{doseAt, amountsAt, isOn, hasOn, total, greatest, figuresOf, measuredOrIdle, hourOf, inFloat}
+use Rattle.hourly.specs.Text.{Row, measured, idle, missing, letterM, letterI, letterX, HourRow, rowFrom, rowOf, rowText, rowsOf, rowsText, hoursFrom, spanOf, hoursText, printOf}
+use Rattle.hourly.specs.Accepted.{Ranged, Between, Accepted, accepted, few-lines}
+use Rattle.hourly.specs.declared.Hour.{Hour}
+use Rattle.hourly.specs.declared.Hour.the-variants.{Measured, Idle, Missing}
+
+-- ---- outside first..last
+
+abbrev Outside : ℕ → ℕ → ℕ → Type 0
+Outside lo hi h = (h < lo) ⊎ (hi < h)
+
+outside-apart : (lo hi h x : ℕ) → Outside lo hi h → lo ≤ x → x ≤ hi → x ≡ h → ⊥
+outside-apart lo hi h x (inl l) a b e = omega arith
+outside-apart lo hi h x (inr l) a b e = omega arith
+
+outside-off : (lo hi h : ℕ) (ls : List Line) → Outside lo hi h → Between lo hi ls → hasOn h ls ≡ false
+unfolding hasOn isOn hourIn
+outside-off lo hi h [] o b = refl
+outside-off lo hi h (Dose x c a s ∷ ls) o b = outside-off lo hi h ls o (b .2)
+outside-off lo hi h (On x ∷ ls) o b = rw (ne-eqb x h (outside-apart lo hi h x o (b .0) (b .1))) (outside-off lo hi h ls o (b .2))
+
+-- an hour before the first line's or after the last line's is missing
+pub outside-missing : {s : List ℕ} (ls : List Line) (h : ℕ) → Accepted s ls → (h < firstHour ls) ⊎ (lastHour ls < h) → hourOf ls h ≡ Missing
+unfolding hourOf
+outside-missing ls h a o = rw (outside-off (firstHour ls) (lastHour ls) h ls o (a .between)) (pick-false _ _)
+
+-- ---- what an hour's lines come to
+
+-- a line's hour is at most 9,999,999
+hour-most : (l : Line) → inRange l ≡ true → hourIn l ≤ 9999999
+unfolding hourIn
+hour-most (Dose h c a s) e = dose-range h c a s e .0
+hour-most (On h) e = on-range h e
+
+-- an hour has at most as many doses as there are lines, of at most 1,800,000 each
+pub record Modest (n : ℕ) (amounts : List ℕ) : Type 0 where
+  pub few : length amounts ≤ n
+  pub sum : total amounts ≤ 1800000 * n
+  pub most : greatest amounts ≤ 1800000
+
+pub modest : (h : ℕ) (ls : List Line) → Ranged ls → Modest (length ls) (amountsAt h ls)
+unfolding amountsAt doseAt total greatest pick
+modest h [] r = record { few = omega arith; sum = omega arith; most = omega arith }
+modest h (On x ∷ ls) r = let m = modest h ls (r .1) in record { few = omega (arith, m .few); sum = omega (arith, m .sum); most = m .most }
+modest h (Dose x c a s ∷ ls) r = go (eqb x h) (modest h ls (r .1)) (dose-range x c a s (r .0) .2)
+  where
+    go : (b : Bool) → Modest (length ls) (amountsAt h ls) → a ≤ 1800000 → Modest (suc (length ls)) (pick b (a ∷ []) [] ++ amountsAt h ls)
+    go true m k = record { few = omega (arith, m .few); sum = omega (arith, m .sum); most = omega (arith, m .most) }
+    go false m k = record { few = omega (arith, m .few); sum = omega (arith, m .sum); most = m .most }
+
+-- ---- the length of the text
+
+abbrev RowShort : Row → Type 0
+RowShort (measured doses sum bits) = (doses < 100000) × (sum < 100000000000)
+RowShort idle = Unit
+RowShort missing = Unit
+
+-- a row of an hour, doses and a sum of at most 7, 5 and 11 digits
+row-short : (h : ℕ) (r : Row) → h < 10000000 → RowShort r → length (rowText h r) ≤ 45
+unfolding rowText
+row-short h (measured doses sum bits) a b =
+    omega (
+      arith,
+      decimal-length 7 h a (omega arith),
+      decimal-length 5 doses (b .0) (omega arith),
+      decimal-length 11 sum (b .1) (omega arith),
+      hex-length 16 bits,
+      length-append (decimal h) (TAB ∷ letterM ∷ TAB ∷ (decimal doses ++ TAB ∷ (decimal sum ++ TAB ∷ (hexOf 16 bits ++ LF ∷ [])))),
+      length-append (decimal doses) (TAB ∷ (decimal sum ++ TAB ∷ (hexOf 16 bits ++ LF ∷ []))),
+      length-append (decimal sum) (TAB ∷ (hexOf 16 bits ++ LF ∷ [])),
+      length-append (hexOf 16 bits) (LF ∷ []),
+    )
+row-short h idle a b = omega (arith, decimal-length 7 h a (omega arith), length-append (decimal h) (TAB ∷ letterI ∷ LF ∷ []))
+row-short h missing a b = omega (arith, decimal-length 7 h a (omega arith), length-append (decimal h) (TAB ∷ letterX ∷ LF ∷ []))
+
+row-of-short : (h : ℕ) (ls : List Line) → length (amountsAt h ls) < 100000 → total (amountsAt h ls) < 100000000000 → RowShort (rowOf ls h)
+unfolding rowOf hourOf rowFrom measuredOrIdle
+row-of-short h ls d t = pick-all (λ (x : Hour). RowShort (rowFrom x (amountsAt h ls))) (hasOn h ls) (either (amountsAt h ls) d t) tt
+  where
+    either : (amounts : List ℕ) → length amounts < 100000 → total amounts < 100000000000 → RowShort (rowFrom (measuredOrIdle amounts) amounts)
+    either [] d t = tt
+    either (a ∷ as') d t = (d, t)
+
+rows-short : (ls : List Line) (h n : ℕ) → ((k : ℕ) → k < h + n → length (rowText k (rowOf ls k)) ≤ 45) → length (rowsText (map (λ k. record { hour = k; row = rowOf ls k }) (hoursFrom h n))) ≤ 45 * n
+unfolding rowsText hoursFrom
+rows-short ls h zero f = omega arith
+rows-short ls h (suc n) f =
+    omega (
+      arith,
+      f h (omega arith),
+      rows-short ls (suc h) n (λ k l. f k (omega arith)),
+      length-append (rowText h (rowOf ls h)) (rowsText (map (λ k. record { hour = k; row = rowOf ls k }) (hoursFrom (suc h) n))),
+    )
+
+last-most : (ls : List Line) → Ranged ls → lastHour ls ≤ 9999999
+unfolding lastHour
+last-most [] r = omega arith
+last-most (l ∷ []) r = hour-most l (r .0)
+last-most (l ∷ m ∷ ls) r = last-most (m ∷ ls) (r .1)
+
+-- the text of an accepted journal is at most 744 rows of 45 bytes
+pub text-short : {s : List ℕ} (ls : List Line) → Accepted s ls → length (hoursText ls) ≤ 33480
+unfolding hoursText rowsOf spanOf rowsText
+text-short [] a = omega arith
+text-short (l ∷ ls) a =
+    let lines = few-lines a in
+    let last = last-most (l ∷ ls) (a .ranged) in
+    let low = a .between .0 in
+    let high = a .between .1 in
+    let span = a .span in
+    omega (
+      arith,
+      rows-short (l ∷ ls) (firstHour (l ∷ ls)) (suc (lastHour (l ∷ ls) - firstHour (l ∷ ls))) (λ k h. row k (omega arith) lines (modest k (l ∷ ls) (a .ranged))),
+    )
+  where
+    row : (k : ℕ) → k < 10000000 → length (l ∷ ls) ≤ 16384 → Modest (length (l ∷ ls)) (amountsAt k (l ∷ ls)) → length (rowText k (rowOf (l ∷ ls) k)) ≤ 45
+    row k h n m = row-short k (rowOf (l ∷ ls) k) h (row-of-short k (l ∷ ls) (omega (arith, m .few)) (omega (arith, m .sum)))
+
+-- so with that room the text is never refused with R8
+pub room-enough : (s : List ℕ) (ls : List Line) (room : ℕ) → journalOf s ≡ done ls → 33480 ≤ room → printOf s room ≡ done (hoursText ls)
+unfolding printOf onDone inRoom
+room-enough s ls room e h = rw e (pick-t (leb (length (hoursText ls)) room) (done (hoursText ls)) (refused R8 []) (le-leb (length (hoursText ls)) room (omega (arith, text-short ls (accepted s ls e)))))

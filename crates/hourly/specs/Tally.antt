@@ -1,0 +1,113 @@
+-- What the code keeps of each hour while it goes through the lines, and the rows that come of it. Assumes nothing.
+use mathlib.Core.Path.{_≡_}
+use mathlib.Core.Bool.{Bool, true, false}
+use mathlib.Core.List.{List, [], _∷_, _++_}
+use Prim.Native.Nat.{ℕ, suc, _+_, _-_, _^_, _≤_, _<_, max}
+use lib.Dec.{eqb}
+use lib.ListN.{length, getD, take}
+use lib.Ieee.{Float, nan, binary64, add, div, toBits, toUnsigned}
+use Rattle.laws.specs.Pick.{pick}
+use Rattle.paper.specs.Answer.{Answer, done, refused, fault}
+use Rattle.journal.specs.Journal.{journalOf}
+use Rattle.journal.specs.declared.Line.{Line}
+use Rattle.journal.specs.declared.Line.the-variants.{Dose, On}
+use Rattle.journal.specs.declared.Summary.{Summary}
+use Rattle.hourly.specs.Hours.{amountsAt, hasOn, total, greatest, inFloat}
+use Rattle.hourly.specs.Text.{Row, measured, idle, missing, HourRow, rowsText}
+use Rattle.hourly.specs.declared.Figures.{Figures}
+use Rattle.hourly.specs.declared.Hour.{Hour}
+use Rattle.hourly.specs.declared.Hour.the-variants.{Measured, Idle, Missing}
+use Rattle.hourly.specs.declared.Tally.{Tally}
+use Rattle.hourly.specs.declared.Shown.{Shown}
+use Rattle.hourly.specs.declared.Shown.the-variants as S
+
+-- the lines of an accepted journal, none of a refused one
+abbrev pub linesIn : Answer (List Line) → List Line
+linesIn (done ls) = ls
+linesIn (refused n vs) = []
+linesIn (fault n vs) = []
+
+unfoldable pub linesOf : List ℕ → List Line
+linesOf s = linesIn (journalOf s)
+
+-- ---- the tally of one hour
+
+unfoldable pub noTally : Tally
+noTally = record { doses = 0; sum = inFloat 0; largest = 0; on = false }
+
+unfoldable pub withDose : Tally → ℕ → Tally
+withDose t a = record { doses = t .doses + 1; sum = add binary64 (t .sum) (inFloat a); largest = max (t .largest) a; on = t .on }
+
+unfoldable pub withOn : Tally → Tally
+withOn t = record { doses = t .doses; sum = t .sum; largest = t .largest; on = true }
+
+-- one line more of the hour
+unfoldable pub counted : Tally → Line → Tally
+counted t (Dose h c a s) = withDose t a
+counted t (On h) = withOn t
+
+-- what some lines tell of hour h
+unfoldable pub tallyOf : List Line → ℕ → Tally
+tallyOf ls h =
+    record {
+      doses = length (amountsAt h ls);
+      sum = inFloat (total (amountsAt h ls));
+      largest = greatest (amountsAt h ls);
+      on = hasOn h ls;
+    }
+
+-- what stands outside a table
+abbrev pub outside : Tally
+outside = record { doses = 0; sum = nan; largest = 0; on = false }
+
+-- a table of the 744 hours from `first` on
+pub record Tells (table : List Tally) (first : ℕ) (ls : List Line) : Type 0 where
+  pub size : length table ≡ 744
+  pub at : (k : ℕ) → k < 744 → getD table k outside ≡ tallyOf ls (first + k)
+
+-- the hour's answer by its tally
+unfoldable pub figuresFrom : Tally → Figures
+figuresFrom t = record { sum = t .sum; largest = inFloat (t .largest); mean = div binary64 (t .sum) (inFloat (t .doses)) }
+
+unfoldable pub hourFrom : Tally → Hour
+hourFrom t = pick (t .on) (pick (eqb (t .doses) 0) Idle (Measured (figuresFrom t))) Missing
+
+-- ---- the rows of a table
+
+abbrev pub saysShown : Shown → Row
+saysShown (S.Measured doses sum bits) = measured doses sum bits
+saysShown S.Idle = idle
+saysShown S.Missing = missing
+
+-- the sum is a whole number that an f64 holds exactly
+pub record Summed (t : Tally) : Type 0 where
+  pub whole : ℕ
+  pub exact : t .sum ≡ inFloat whole
+  pub small : whole ≤ 2 ^ 53
+
+-- what is printed of an hour by its answer and its tally
+abbrev pub shownBy : Hour → Tally → Row
+shownBy (Measured f) t = measured (t .doses) (toUnsigned 64 (f .sum)) (toBits binary64 (f .mean))
+shownBy Idle t = idle
+shownBy Missing t = missing
+
+unfoldable pub shownOf : Tally → Row
+shownOf t = shownBy (hourFrom t) t
+
+unfoldable pub rowsBy : List Tally → ℕ → List HourRow
+rowsBy [] h = []
+rowsBy (t ∷ ts) h = record { hour = h; row = shownOf t } ∷ rowsBy ts (suc h)
+
+-- the text of the first hours of a table
+unfoldable pub textBy : List Tally → ℕ → ℕ → List ℕ
+textBy table first hours = rowsText (rowsBy (take hours table) first)
+
+pub record Printable (table : List Tally) (first hours : ℕ) : Type 0 where
+  pub size : length table ≡ 744
+  pub few : hours ≤ 744
+  pub summed : (k : ℕ) → k < hours → Summed (getD table k outside)
+  pub short : length (textBy table first hours) ≤ 33480
+
+-- how many hours a journal has: none if it is empty
+unfoldable pub hoursIn : Summary → ℕ
+hoursIn f = pick (eqb (f .lines) 0) 0 (f .last - f .first + 1)
