@@ -6,15 +6,15 @@ use Prim.Native.Nat.{ℕ, _≤_}
 use lib.Dec.{eqb}
 use lib.ListN.{length, take}
 use Rattle.laws.specs.Pick.{pick}
+use Rattle.paper.specs.Answer.{Answer, done, refused}
+use Rattle.paper.specs.Numbers.{R3, R4, R5, R7}
 use Rattle.settings.specs.declared.Settings.{Settings}
-use Rattle.frame.specs.Frame.{frame}
 use Rattle.frame.specs.declared.Found.{Found}
 use Rattle.frame.specs.declared.Found.the-variants as F
-use Rattle.message.specs.Message.{bodyOf}
 use Rattle.message.specs.declared.Form.{Form}
 use Rattle.message.specs.declared.Parts.{Parts}
 use Rattle.controller.specs.Calls.{isReady}
-use Rattle.controller.specs.Line.{ours, known, bare, zeroable, replyData}
+use Rattle.controller.specs.Line.{Asked, ours, known, bare, zeroable}
 use Rattle.controller.specs.Sound.{Sound}
 use Rattle.controller.specs.declared.Controller.{Controller}
 use Rattle.controller.specs.declared.RequestAnswer.{RequestAnswer}
@@ -51,6 +51,14 @@ timedBy c op = pick (eqb op 0xC0) (pick (isReady c) T.Allowed T.R3) T.Allowed
 unfoldable pub zeroingBy : Controller → ℕ → Zeroing
 zeroingBy c op = pick (eqb op 0xC0) (pick (zeroable c) Z.Allowed Z.R4) Z.Allowed
 
+-- what the stages say, in the paper's order: R5, R7, R3, R4
+unfoldable pub stagesOf : Asked → Addressed → Coded → Timed → Zeroing → Answer Asked
+stagesOf a A.Ours C.Known T.Allowed Z.Allowed = done a
+stagesOf a A.Ours C.Known T.Allowed Z.R4 = refused R4 (a .place ∷ [])
+stagesOf a A.Ours C.Known T.R3 z = refused R3 (a .place ∷ [])
+stagesOf a A.Ours C.R7 t z = refused R7 (a .place ∷ [])
+stagesOf a A.R5 k t z = refused R5 (a .place ∷ [])
+
 -- the bytes are the first of the array of 4
 pub record Holds (bytes : List ℕ) (r : ReplyData) : Type 0 where
   pub full : length (r .bytes) ≡ 4
@@ -61,7 +69,3 @@ pub record Holds (bytes : List ℕ) (r : ReplyData) : Type 0 where
 pub record Answers (c : Controller) (form : Form) : Type 0 where
   pub sound : Sound c
   pub addressed : ours (c .set) form ≡ true
-
--- the frame of a reply in this form, `replyFrame`
-unfoldable pub replyBytes : Controller → Form → ℕ → List ℕ
-replyBytes c form op = frame (bodyOf form op (replyData c op))

@@ -23,11 +23,13 @@ ghost use mathlib.Core.List.{[], _∷_};
 ghost use lib.ListN.{length};
 ghost use Rattle.paper.specs.Answer.{Fills, inRoom};
 ghost use Rattle.field.specs.Field.{writable, fieldOf};
+ghost use Rattle.frame.specs.Frame.{frame};
 ghost use Rattle.frame.specs.Says.{saysWrote};
+ghost use Rattle.message.specs.Message.{bodyOf};
 ghost use Rattle.controller.specs.Line.{ours, known, zeroable, weightBy, fieldBytes, replyData, zeroedBy};
 ghost use Rattle.controller.specs.Sound.{Sound};
 ghost use Rattle.controller.specs.Says.{Replies};
-ghost use Rattle.controller.specs.Stages.{unreadOf, addressedBy, codedBy, timedBy, zeroingBy, Holds, Answers, replyBytes};
+ghost use Rattle.controller.specs.Stages.{unreadOf, addressedBy, codedBy, timedBy, zeroingBy, Holds, Answers};
 
 // The stage of R5: the address.
 enum Addressed {
@@ -292,7 +294,7 @@ fn reply_data(c: Controller, operation: u8) -> ReplyData
 // Writes the reply in the request's address form; it can always be framed.
 fn write_reply(c: Controller, form: Form, operation: u8, reply: &mut [u8]) -> Wrote
     requires { ⌜ Answers c form ⌝ }
-    ensures { λ r. ⌜ Fills (saysWrote r) (inRoom [] (length (now (reply .entry))) (replyBytes c form operation)) (now (reply .entry)) (now (reply .exit)) ⌝ }
+    ensures { λ r. ⌜ Fills (saysWrote r) (inRoom [] (length (now (reply .entry))) (frame (bodyOf form operation (replyData c operation)))) (now (reply .entry)) (now (reply .exit)) ⌝ }
 {
     let data = reply_data(c, operation);
     let values = data.bytes;

@@ -1,65 +1,70 @@
 use borrow.Author.Needs.{needs}
+use borrow.Author.Tests.{eq-eqb, ne-eqb}
+use Rattle.laws.specs.Pick.{pick-true, pick-false}
+use Rattle.controller.specs.Line.{replyData}
+use Rattle.controller.specs.Promises.{weight-writable}
 use Rattle.controller.proofs.line.reply_data.Statement.{statement}
 use Rattle.controller.proofs.line.reply_data.Tie as tie
-use Rattle.controller.proofs.line.reply_data.Reads as reads
-use Rattle.controller.proofs.line.reply_data.Lts as lts
-use Rattle.controller.proofs.line.byte_data.Reads as byte-data-reads
-use Rattle.controller.proofs.line.no_data.Reads as no-data-reads
-use Rattle.controller.proofs.line.weight_by.Reads as weight-by-reads
-use Rattle.controller.proofs.line.weight_data.Reads as weight-data-reads
-use Rattle.controller.proofs.outputs_of.Reads as outputs-of-reads
 
--- src/line.rt:278:28
 weight-by-requires : tie.Need-weight-by-requires
 weight-by-requires c κs = search needs
 
--- src/line.rt:278:9
 weight-data-requires : tie.Need-weight-data-requires
-weight-data-requires c κs = ?
+weight-data-requires c κs = let p = c .before .before .before in rw (c .weight-by .ensures) (weight-writable (p .args .c) _ (p .pre))
 
--- src/line.rt:278:9
 returns : tie.Need-returns
-returns c = ?
+unfolding replyData
+returns c =
+    simp (eq-eqb _ _ (c .before .before .if1 .taken), pick-true)
+    (rw (c .before .weight-by .ensures) at (c .weight-data .ensures))
 
--- src/line.rt:281:28
 weight-by-requires-2 : tie.Need-weight-by-requires-2
 weight-by-requires-2 c κs = search needs
 
--- src/line.rt:281:9
 weight-data-requires-2 : tie.Need-weight-data-requires-2
-weight-data-requires-2 c κs = ?
+weight-data-requires-2 c κs = let p = c .before .before .before .before in rw (c .weight-by2 .ensures) (weight-writable (p .args .c) _ (p .pre))
 
--- src/line.rt:281:9
 returns-2 : tie.Need-returns-2
-returns-2 c = ?
+unfolding replyData
+returns-2 c =
+    let b = c .before .before in
+    simp (ne-eqb _ _ (b .before .if1 .left), eq-eqb _ _ (b .if2 .taken), pick-true, pick-false)
+    (rw (c .before .weight-by2 .ensures) at (c .weight-data2 .ensures))
 
--- src/line.rt:284:9
 byte-data-requires : tie.Need-byte-data-requires
 byte-data-requires c κs = search needs
 
--- src/line.rt:284:9
 returns-3 : tie.Need-returns-3
-returns-3 c = ?
+unfolding replyData
+returns-3 c =
+    let b = c .before in
+    simp (ne-eqb _ _ (b .before .before .if1 .left), ne-eqb _ _ (b .before .if2 .left), eq-eqb _ _ (b .if3 .taken), pick-true, pick-false)
+    (c .byte-data .ensures)
 
--- src/line.rt:287:26
 outputs-of-requires : tie.Need-outputs-of-requires
 outputs-of-requires c κs = search needs
 
--- src/line.rt:287:9
 byte-data-requires-2 : tie.Need-byte-data-requires-2
 byte-data-requires-2 c κs = search needs
 
--- src/line.rt:287:9
 returns-4 : tie.Need-returns-4
-returns-4 c = ?
+unfolding replyData
+returns-4 c =
+    let b = c .before .before in
+    let d = b .before .before in
+    simp (ne-eqb _ _ (d .before .if1 .left), ne-eqb _ _ (d .if2 .left), ne-eqb _ _ (b .before .if3 .left), eq-eqb _ _ (b .if4 .taken), pick-true, pick-false)
+    (rw (c .before .outputs-of .ensures) at (c .byte-data2 .ensures))
 
--- src/line.rt:289:5
 no-data-requires : tie.Need-no-data-requires
 no-data-requires c κs = search needs
 
--- src/line.rt:272:1
 returns-5 : tie.Need-returns-5
-returns-5 c = ?
+unfolding replyData
+returns-5 c =
+    let b = c .before in
+    let d = b .before .before in
+    simp (ne-eqb _ _ (d .before .if1 .left), ne-eqb _ _ (d .if2 .left), ne-eqb _ _ (b .before .if3 .left), ne-eqb _ _ (b .if4 .left), pick-false)
+    (c .no-data .ensures)
 
 pub reply-data-spec : {M : Type 1} → statement M
 reply-data-spec =

@@ -1,40 +1,40 @@
 use borrow.Author.Needs.{needs}
+use native.Mathlib.Omega.{arith}
+use mir.Syntax.{w32}
+use mir.Val.{SFits}
+use mir.Facts.{toZ-ofZ}
+use Rattle.settings.specs.Good.{good-ranges}
+use Rattle.controller.proofs.Lines.{unweighed, mean-small, weighed}
 use Rattle.controller.proofs.line.weight_by.Statement.{statement}
 use Rattle.controller.proofs.line.weight_by.Tie as tie
-use Rattle.controller.proofs.line.weight_by.Reads as reads
-use Rattle.controller.proofs.line.weight_by.Lts as lts
-use Rattle.controller.proofs.mean_of.Reads as mean-of-reads
-use Rattle.controller.proofs.over_capacity.Reads as over-capacity-reads
-use Rattle.controller.proofs.stable_of.Reads as stable-of-reads
-use Rattle.controller.proofs.weight.Reads as weight-reads
 
--- src/line.rt:217:17
 cast-point : tie.Need-cast-point
-cast-point c = ?
+cast-point c = let p = c .before .before .before in omega (arith, good-ranges _ (p .pre .set) .point)
 
--- src/line.rt:219:9
 returns : tie.Need-returns
-returns c = ?
+returns c = let p = c .before .before .before .before .before in unweighed (p .args .c) (p .args .n) (p .pre) (c .if1 .taken)
 
--- src/line.rt:226:20
 mean-of-requires : tie.Need-mean-of-requires
 mean-of-requires c κs = search needs
 
--- src/line.rt:226:9
 weight-requires : tie.Need-weight-requires
-weight-requires c κs = ?
+weight-requires c κs =
+    let p = c .before .before .before .before .before .before in
+    mean-small (p .args .c) (p .args .n) (p .pre) (c .mean-of .ensures)
 
--- src/line.rt:227:9
 stable-of-requires : tie.Need-stable-of-requires
-stable-of-requires c κs = ?
+stable-of-requires c κs = good-ranges _ (c .before .before .before .before .before .before .before .pre .set)
 
--- src/line.rt:228:9
 over-capacity-requires : tie.Need-over-capacity-requires
-over-capacity-requires c κs = ?
+over-capacity-requires c κs = good-ranges _ (c .before .before .before .before .before .before .before .before .pre .set)
 
--- src/line.rt:211:1
 returns-2 : tie.Need-returns-2
-returns-2 c = ?
+returns-2 c =
+    let w = c .before .before .before in
+    let m = w .before in
+    let p = m .before .before .before .before .before .before in
+    let f : SFits w32 (w .weight .result .v) = search needs in
+    weighed (p .args .c) (p .args .n) (p .pre) (m .mean-of .ensures) (m .before .if1 .left) (w .weight .ensures) (toZ-ofZ f) (c .before .before .stable-of .ensures) (c .before .over-capacity .ensures)
 
 pub weight-by-spec : {M : Type 1} → statement M
 weight-by-spec =

@@ -1,34 +1,45 @@
+use mathlib.Core.Path.{_≡_, refl, sym, ap, _∙_}
+use mathlib.Core.Bool.{true}
+use native.Mathlib.Omega.{arith}
 use borrow.Author.Needs.{needs}
+use Rattle.laws.specs.Pick.{pick-t}
+use Rattle.paper.specs.Answer.{done}
+use Rattle.field.specs.Field.{writable, fieldOf, writeOf}
+use Rattle.field.specs.Says.{saysWritten}
+use Rattle.field.specs.declared.Weight.{Weight}
+use Rattle.controller.specs.Line.{fieldBytes}
+use Rattle.controller.specs.Done.{refused-done}
 use Rattle.controller.proofs.line.weight_data.Statement.{statement}
 use Rattle.controller.proofs.line.weight_data.Tie as tie
-use Rattle.controller.proofs.line.weight_data.Reads as reads
-use Rattle.controller.proofs.line.weight_data.Lts as lts
-use Rattle.controller.proofs.line.no_data.Reads as no-data-reads
-use Rattle.field.proofs.write.Reads as write-reads
 
--- src/line.rt:262:29
+written : (v : Weight) → writable v ≡ true → writeOf v ≡ done (fieldOf v)
+unfolding writeOf
+written v h = pick-t _ _ _ h
+
 write-requires : tie.Need-write-requires
 write-requires c κs = search needs
 
--- src/line.rt:262:24
 enum-known-f : tie.Need-enum-known-f
 enum-known-f c = search needs
 
--- src/line.rt:263:9
 enum-told : tie.Need-enum-told
 enum-told c = search needs
 
--- src/line.rt:263:9
 no-data-requires : tie.Need-no-data-requires
 no-data-requires c κs = search needs
 
--- src/line.rt:263:9
 returns : tie.Need-returns
-returns c = ?
+returns c =
+    let w = c .before .before .before in
+    refused-done (sym (ap saysWritten (c .before .enum-told .given .1)) ∙ w .write .ensures ∙ written _ (w .before .pre))
 
--- src/line.rt:258:1
 returns-2 : tie.Need-returns-2
-returns-2 c = ?
+unfolding fieldBytes
+returns-2 c =
+    let w = c .before .before .before in
+    let says = sym (ap saysWritten (c .before .f .given .1)) ∙ w .write .ensures ∙ written _ (w .before .pre) in
+    let same : c .before .f .given .0 .0 ≡ fieldOf (w .before .args .v) = cc in
+    record { full = refl; small = omega arith; front = ap fieldBytes same }
 
 pub weight-data-spec : {M : Type 1} → statement M
 weight-data-spec =

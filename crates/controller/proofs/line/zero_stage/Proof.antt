@@ -1,25 +1,24 @@
 use borrow.Author.Needs.{needs}
+use borrow.Author.Tests.{eq-eqb, ne-eqb}
+use Rattle.laws.specs.Pick.{pick-true, pick-false, so}
+use Rattle.controller.specs.Stages.{zeroingBy}
 use Rattle.controller.proofs.line.zero_stage.Statement.{statement}
 use Rattle.controller.proofs.line.zero_stage.Tie as tie
-use Rattle.controller.proofs.line.zero_stage.Reads as reads
-use Rattle.controller.proofs.line.zero_stage.Lts as lts
-use Rattle.controller.proofs.line.zeroable.Reads as zeroable-reads
 
--- src/line.rt:202:9
 returns : tie.Need-returns
-returns c = ?
+unfolding zeroingBy
+returns c = simp (ne-eqb _ _ (c .if1 .taken), pick-false)
 
--- src/line.rt:204:8
 zeroable-requires : tie.Need-zeroable-requires
 zeroable-requires c κs = search needs
 
--- src/line.rt:205:9
 returns-2 : tie.Need-returns-2
-returns-2 c = ?
+unfolding zeroingBy
+returns-2 c = simp (eq-eqb _ _ (c .before .before .if1 .left), so (c .before .zeroable .ensures) (c .if2 .taken), pick-true)
 
--- src/line.rt:197:1
 returns-3 : tie.Need-returns-3
-returns-3 c = ?
+unfolding zeroingBy
+returns-3 c = simp (eq-eqb _ _ (c .before .before .if1 .left), so (c .before .zeroable .ensures) (c .if2 .left), pick-true, pick-false)
 
 pub zero-stage-spec : {M : Type 1} → statement M
 zero-stage-spec = tie.close (tie.spec returns zeroable-requires returns-2 returns-3)
