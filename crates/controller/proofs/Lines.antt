@@ -7,7 +7,7 @@ use native.Mathlib.Omega.{arith}
 use lib.Dec.{leb, eqb}
 use lib.IntN.{ℤ, pos, _-ℤ_}
 use lib.ListN.{length, take, replicate, length-append}
-use lib.Seq.{take-at}
+use lib.Seq.{take-at, length-take-le}
 use types.Run.{OneOf, miss}
 use denote.Enum.Declared.{tagOf}
 use borrow.Author.Tests.{eq-eqb, ne-eqb, eqb-true, le-leb}
@@ -28,7 +28,7 @@ use Rattle.frame.specs.Frame.{frame, extended, fewest, framable, writeOf}
 use Rattle.frame.specs.FrameLaws.{framable-is}
 use Rattle.frame.specs.Read.{Finished, readOf, tooShort}
 use Rattle.frame.specs.ReadLaws.{done-whole}
-use Rattle.frame.specs.Says.{saysWrote, saysFound, wrote-one, Reads}
+use Rattle.frame.specs.Says.{saysWrote, saysFound, wrote-one, placeAndLength as placeAndSize, Reads}
 use Rattle.frame.specs.declared.Wrote.{Wrote}
 use Rattle.frame.specs.declared.Wrote.the-variants as W
 use Rattle.frame.specs.declared.Found.{Found}
@@ -50,7 +50,7 @@ use Rattle.controller.specs.Calls.{isReady}
 use Rattle.controller.specs.Line.{filtered, weightFrom, weightBy, Asked, ours, known, bare, addressed, zeroable, allowed, askedOf, replyFrame, zeroedBy, Replied, replied, repliesTo, requestOf}
 use Rattle.controller.specs.Sound.{Sound}
 use Rattle.controller.specs.Says.{saysReply, placeAndLength, bytesOf, Replies}
-use Rattle.controller.specs.Stages.{unreadOf, addressedBy, codedBy, timedBy, zeroingBy, stagesOf}
+use Rattle.controller.specs.Stages.{unreadOf, addressedBy, codedBy, timedBy, zeroingBy, stagesOf, Holds}
 use Rattle.controller.specs.Parts.{Small}
 use Rattle.controller.specs.Done.{refused-done, fault-done, done-refused, fault-refused}
 use Rattle.controller.specs.Bounds.{filtered-within}
@@ -58,6 +58,7 @@ use Rattle.controller.specs.Keeps.{request-sound}
 use Rattle.controller.specs.declared.Controller.{Controller}
 use Rattle.controller.specs.declared.RequestAnswer.{RequestAnswer}
 use Rattle.controller.specs.declared.Requested.{Requested}
+use Rattle.controller.specs.declared.line.ReplyData.{ReplyData}
 use Rattle.controller.specs.declared.line.Addressed.the-variants as A
 use Rattle.controller.specs.declared.line.Coded.the-variants as C
 use Rattle.controller.specs.declared.line.Timed.the-variants as T
@@ -94,8 +95,8 @@ pub record Front (bytes array : List ℕ) (n : ℕ) : Type 0 where
   pub fits : n ≤ length array
   pub is : take n array ≡ bytes
 
-front : {bytes array : List ℕ} {n m : ℕ} → array ≡ bytes ++ replicate m 0 → n ≡ length bytes → Front bytes array n
-front {bytes} {array} {n} e l =
+front : (bytes : List ℕ) (m : ℕ) {array : List ℕ} {n : ℕ} → array ≡ bytes ++ replicate m 0 → n ≡ length bytes → Front bytes array n
+front bytes m {array} {n} e l =
     record {
       fits = omega (arith, simp length-append at (ap length e));
       is = rw e (take-at bytes _ n (sym l));
@@ -113,8 +114,13 @@ reply-framable set (Serial n) op values r h l =
     let size : length (bodyOf (Serial n) op values) ≡ 5 + length values = omega arith in
     simp (pick-true, le-leb 5 (length (bodyOf (Serial n) op values)) (omega arith), le-leb (length (bodyOf (Serial n) op values)) 254 (omega arith))
 
+pub data-most : {bytes : List ℕ} (r : ReplyData) → Holds bytes r → length bytes ≤ 4
+data-most r h =
+    let size : length (take (r .len) (r .bytes)) ≡ r .len = length-take-le (r .len) (r .bytes) (omega (arith, h .full, h .small)) in
+    omega (arith, ap length (h .front), h .small)
+
 -- what building handed over
-module _ {form : Form} {op : ℕ} {values array : List ℕ} {built : Built} (f : framable (bodyOf form op values) ≡ true) (hands : Hands 254 (saysBuilt built) (buildOf form op values) array) where
+module _ (form : Form) (op : ℕ) (values : List ℕ) (built : Built) {array : List ℕ} (f : framable (bodyOf form op values) ≡ true) (hands : Hands 254 (saysBuilt built) (buildOf form op values) array) where
   is-built : buildOf form op values ≡ done (bodyOf form op values)
   unfolding buildOf
   is-built = pick-t _ _ _ f
@@ -130,12 +136,12 @@ module _ {form : Form} {op : ℕ} {values array : List ℕ} {built : Built} (f :
   unfolding bytesIn
   built-front e =
       let same = sym (ap saysBuilt e) ∙ built-says in
-      front (hands .holds ∙ ap (λ (r : Answer (List ℕ)). bytesIn r ++ replicate (254 - length (bytesIn r)) 0) is-built) (cc)
+      front (bodyOf form op values) (254 - length (bodyOf form op values)) (hands .holds ∙ ap (λ (r : Answer (List ℕ)). bytesIn r ++ replicate (254 - length (bytesIn r)) 0) is-built) (cc)
 
 -- the frame of a body that can be framed
-pub frames : {body old new : List ℕ} {answer : Answer ℕ} → framable body ≡ true → Fills answer (writeOf body (length old)) old new → Fills answer (inRoom [] (length old) (frame body)) old new
+pub frames : (body : List ℕ) {old new : List ℕ} {answer : Answer ℕ} → framable body ≡ true → Fills answer (writeOf body (length old)) old new → Fills answer (inRoom [] (length old) (frame body)) old new
 unfolding writeOf
-frames {body} {old} {new} {answer} f fills = subst (λ (r : Answer (List ℕ)). Fills answer r old new) (pick-t _ _ _ f) fills
+frames body {old} {new} {answer} f fills = subst (λ (r : Answer (List ℕ)). Fills answer r old new) (pick-t _ _ _ f) fills
 
 -- ---- the stages
 
@@ -164,12 +170,12 @@ told-refused f (fault m us) n vs e = fault-refused (sym e)
 pub found-body : (s : List ℕ) (r : Read) {place len : ℕ} → Reads s r → r .found ≡ F.Body place len → Finds s (r .body) place len
 unfolding told bytesIn
 found-body s r {place} {len} reads e =
-    told-done _ (readOf s) (place, len) (sym (ap saysFound e) ∙ reads .says)
+    told-done placeAndSize (readOf s) (place, len) (sym (ap saysFound e) ∙ reads .says)
     (λ f k t.
       let held : r .body ≡ f .bytes ++ replicate (255 - length (f .bytes)) 0 = reads .holds ∙ rw k in
       let a : place ≡ f .place = ap (λ (p : ℕ × ℕ). p .0) t in
       let b : len ≡ length (f .bytes) = ap (λ (p : ℕ × ℕ). p .1) t in
-      let stands = front held b in
+      let stands = front (f .bytes) (255 - length (f .bytes)) held b in
       record { fits = stands .fits; read = rw (stands .is, a) k; splits = rw (stands .is) (whole-splits s f k) })
 
 -- what was found splits
@@ -251,15 +257,15 @@ module _ (c : Controller) (s old : List ℕ) (sound : Sound c) where
   unfolding askedOf onDone
   read-refused e = rw e
 
-  pub unread-refuses : {r : Requested} (f : Found) → OneOf (1 ∷ 2 ∷ []) (tagOf found-type f) → saysFound f ≡ told _ (readOf s)
+  pub unread-refuses : {r : Requested} (f : Found) → OneOf (1 ∷ 2 ∷ []) (tagOf found-type f) → saysFound f ≡ told placeAndSize (readOf s)
       → r .next ≡ c → r .answer ≡ unreadOf f → Replies c s old old r
   unfolding unreadOf
   unread-refuses (F.Body place len) k e n a = absurd (miss (1 ∷ 2 ∷ []) 0 tt k)
-  unread-refuses (F.R9 place) k e n a = refuses (read-refused (told-refused _ (readOf s) _ _ e)) n (ap saysReply a)
-  unread-refuses (F.R6 place) k e n a = refuses (read-refused (told-refused _ (readOf s) _ _ e)) n (ap saysReply a)
+  unread-refuses (F.R9 place) k e n a = refuses (read-refused (told-refused placeAndSize (readOf s) _ _ e)) n (ap saysReply a)
+  unread-refuses (F.R6 place) k e n a = refuses (read-refused (told-refused placeAndSize (readOf s) _ _ e)) n (ap saysReply a)
 
   -- what the writer gives
-  module _ {a : Asked} {w : Wrote} {new : List ℕ} (e : askedOf c s ≡ done a) (fills : Fills (saysWrote w) (inRoom [] (length old) (replyFrame c a)) old new) where
+  module _ {a : Asked} (w : Wrote) {new : List ℕ} (e : askedOf c s ≡ done a) (fills : Fills (saysWrote w) (inRoom [] (length old) (replyFrame c a)) old new) where
     asked-so : requestOf c s (length old) ≡ replied c a (length old)
     unfolding requestOf repliesTo
     asked-so = rw e
@@ -280,8 +286,10 @@ module _ (c : Controller) (s old : List ℕ) (sound : Sound c) where
       where
         go : (t : Bool) → leb (length (replyFrame c a)) (length old) ≡ t → Replies c s old new r
         go true l =
-            let says = sym (ap saysWrote k) ∙ fills .says ∙ rw (pick-t _ _ _ l) in
+            let says : done n ≡ done (length (replyFrame c a)) = sym (ap saysWrote k) ∙ fills .says ∙ rw (pick-t _ _ _ l) in
             let size : n ≡ length (replyFrame c a) = cc in
             replies (record { next = zeroedBy c (a .operation); answer = done (record { place = a .place; bytes = replyFrame c a }) })
             (asked-so ∙ pick-t _ _ _ l) m (rw size at h) (fills .left ∙ rw (pick-t _ _ _ l))
-        go false l = done-refused (sym (ap saysWrote k) ∙ fills .says ∙ rw (pick-f _ _ _ l))
+        go false l =
+            let says : done n ≡ refused R8 [] = sym (ap saysWrote k) ∙ fills .says ∙ rw (pick-f _ _ _ l) in
+            done-refused says
