@@ -4,6 +4,7 @@ pub mod Calls
 pub mod Line
 pub mod Sound
 pub mod Says
+pub mod Stages
 pub mod Cases
 pub mod Outside
 pub mod Made

@@ -9,6 +9,7 @@ use crate::Restarted;
 use crate::Runs;
 use crate::SetAnswer;
 use crate::SetTo;
+use crate::is_ready;
 use dosing::Gates;
 use dosing::Phase;
 use dosing::Units;
@@ -22,7 +23,7 @@ ghost use Rattle.paper.specs.Answer.{refused};
 ghost use Rattle.paper.specs.Numbers.{R3};
 ghost use Rattle.settings.specs.Says.{says};
 ghost use Rattle.controller.specs.State.{noRuns, restarted};
-ghost use Rattle.controller.specs.Calls.{isReady, storedBad, freshOf, noController, taken, linkOf};
+ghost use Rattle.controller.specs.Calls.{storedBad, freshOf, noController, taken, linkOf};
 ghost use Rattle.controller.specs.Sound.{Sound};
 ghost use Rattle.controller.specs.Says.{saysSet, Sets, Resets, Restarts};
 ghost use Rattle.controller.specs.Made.{Made};
@@ -114,22 +115,6 @@ impl Controller {
         ensures { λ r. ⌜ Made (linkOf self on) r ⌝ }
     {
         Controller { link: on, ..self }
-    }
-}
-
-// The phase is Ready, and there is no fault.
-pub fn is_ready(c: Controller) -> bool
-    ensures { λ r. ⌜ r ≡ isReady c ⌝ }
-{
-    let condition = c.condition;
-    let phase = c.phase;
-    let Condition::Clear = condition else {
-        return false;
-    };
-    if let Phase::Ready = phase {
-        true
-    } else {
-        false
     }
 }
 

@@ -8,6 +8,16 @@ use dosing::Phase;
 use dosing::Units;
 use settings::Settings;
 use window::Window;
+ghost use mathlib.Core.Path.{_≡_};
+ghost use lib.IntN.{_-ℤ_};
+ghost use lib.ListN.{take};
+ghost use Rattle.settings.specs.Ranges.{Ranges};
+ghost use Rattle.window.specs.Mean.{meanOf};
+ghost use Rattle.window.specs.Window.{samplesOf};
+ghost use Rattle.dosing.specs.Rules.{units};
+ghost use Rattle.controller.specs.Tick.{worth, outputsOf, overCapacity, stableOf};
+ghost use Rattle.controller.specs.Calls.{isReady};
+ghost use Rattle.controller.specs.Parts.{Small};
 
 // F14 names its channel.
 pub enum Fault {
@@ -127,4 +137,74 @@ pub enum RequestAnswer {
 pub struct Requested {
     pub next: Controller,
     pub answer: RequestAnswer,
+}
+
+// The phase is Ready, and there is no fault.
+fn is_ready(c: Controller) -> bool
+    ensures { λ r. ⌜ r ≡ isReady c ⌝ }
+{
+    let condition = c.condition;
+    let phase = c.phase;
+    let Condition::Clear = condition else {
+        return false;
+    };
+    if let Phase::Ready = phase {
+        true
+    } else {
+        false
+    }
+}
+
+// The mean of the last n samples.
+fn mean_of(window: Window, n: u32) -> Units
+    ensures { λ r. ⌜ r ≡ units (meanOf (take n (samplesOf window))) ⌝ }
+{
+    let v = window.mean(n as usize);
+    Units { v }
+}
+
+// w = F-Z
+fn weight(f: Units, z: Units) -> Units
+    requires { ⌜ Small f z ⌝ }
+    ensures { λ r. ⌜ r ≡ units (f .v -ℤ z .v) ⌝ }
+{
+    let x = f.v;
+    let y = z.v;
+    Units { v: x - y }
+}
+
+// w > C+9
+fn over_capacity(set: Settings, w: Units) -> bool
+    requires { ⌜ Ranges set ⌝ }
+    ensures { λ r. ⌜ r ≡ overCapacity set (w .v) ⌝ }
+{
+    let v = w.v;
+    let most = (set.capacity + Controller::OVER_CAPACITY) as i32;
+    most < v
+}
+
+// S >= 64*p9
+fn stable_of(set: Settings, s: u32) -> bool
+    requires { ⌜ Ranges set ⌝ }
+    ensures { λ r. ⌜ r ≡ stableOf set s ⌝ }
+{
+    64 * set.p9 <= s
+}
+
+// n where it is on, else 0.
+fn worth(on: bool, n: u8) -> u8
+    ensures { λ r. ⌜ r ≡ worth on n ⌝ }
+{
+    if on { n } else { 0 }
+}
+
+// Output i is bit i-1.
+fn outputs_of(g: Gates, four: bool) -> u8
+    ensures { λ r. ⌜ r ≡ outputsOf g four ⌝ }
+{
+    let one = worth(g.one, 1);
+    let two = worth(g.two, 2);
+    let three = worth(g.three, 4);
+    let alarm = worth(four, 8);
+    one + two + three + alarm
 }

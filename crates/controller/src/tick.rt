@@ -7,6 +7,11 @@ use crate::Record;
 use crate::Runs;
 use crate::TickAnswer;
 use crate::Ticked;
+use crate::mean_of;
+use crate::outputs_of;
+use crate::over_capacity;
+use crate::stable_of;
+use crate::weight;
 use dosing::Dose;
 use dosing::Gates;
 use dosing::Moved;
@@ -19,19 +24,14 @@ ghost use mathlib.Core.Path.{_≡_};
 ghost use mathlib.Core.Bool.{xor};
 ghost use Prim.Native.Nat.{_+_, _/_, _%_, _≤_, _<_};
 ghost use lib.Dec.{eqb};
-ghost use lib.IntN.{_-ℤ_};
-ghost use lib.ListN.{take};
 ghost use Rattle.laws.specs.Pick.{pick};
 ghost use Rattle.paper.specs.Answer.{done};
-ghost use Rattle.settings.specs.Ranges.{Ranges};
-ghost use Rattle.window.specs.Mean.{meanOf};
-ghost use Rattle.window.specs.Window.{samplesOf, pushOf};
-ghost use Rattle.dosing.specs.Rules.{units};
+ghost use Rattle.window.specs.Window.{pushOf};
 ghost use Rattle.controller.specs.State.{withInputs};
-ghost use Rattle.controller.specs.Tick.{worth, outputsOf, faulted, overCapacity, changed, countersAfter, recordsOf, step8, stableOf, step7, expected, runAfter, steps6to8, equalZ, steps4and5, outside, step3};
+ghost use Rattle.controller.specs.Tick.{faulted, changed, countersAfter, recordsOf, step8, step7, expected, runAfter, steps6to8, equalZ, steps4and5, outside, step3};
 ghost use Rattle.controller.specs.Sound.{Sound};
 ghost use Rattle.controller.specs.Says.{Ticks, saysTick};
-ghost use Rattle.controller.specs.Parts.{Gives, Short, Small, Weighs, Takes, runsBy, filterBy, startBy, calmBy};
+ghost use Rattle.controller.specs.Parts.{Gives, Short, Weighs, Takes, runsBy, filterBy, startBy, calmBy};
 
 impl Controller {
     // A sample of a greater size is F21.
@@ -69,24 +69,6 @@ impl Controller {
     }
 }
 
-// n where it is on, else 0.
-fn worth(on: bool, n: u8) -> u8
-    ensures { λ r. ⌜ r ≡ worth on n ⌝ }
-{
-    if on { n } else { 0 }
-}
-
-// Output i is bit i-1.
-fn outputs_of(g: Gates, four: bool) -> u8
-    ensures { λ r. ⌜ r ≡ outputsOf g four ⌝ }
-{
-    let one = worth(g.one, 1);
-    let two = worth(g.two, 2);
-    let three = worth(g.three, 4);
-    let alarm = worth(four, 8);
-    one + two + three + alarm
-}
-
 // A fault ends the tick, closes outputs 1 to 3, turns output 4 on and abandons the cycle.
 fn faulted(why: Fault, c: Controller) -> Ticked
     ensures { λ r. ⌜ Gives (faulted why c) r ⌝ }
@@ -107,26 +89,6 @@ fn faulted(why: Fault, c: Controller) -> Ticked
         next: stopped,
         answer: TickAnswer::Fault(why),
     }
-}
-
-// w = F-Z
-fn weight(f: Units, z: Units) -> Units
-    requires { ⌜ Small f z ⌝ }
-    ensures { λ r. ⌜ r ≡ units (f .v -ℤ z .v) ⌝ }
-{
-    let x = f.v;
-    let y = z.v;
-    Units { v: x - y }
-}
-
-// w > C+9
-fn over_capacity(set: Settings, w: Units) -> bool
-    requires { ⌜ Ranges set ⌝ }
-    ensures { λ r. ⌜ r ≡ overCapacity set (w .v) ⌝ }
-{
-    let v = w.v;
-    let most = (set.capacity + Controller::OVER_CAPACITY) as i32;
-    most < v
 }
 
 // One of the two is on, and not the other.
@@ -219,14 +181,6 @@ fn step8(c: Controller, m: Moved) -> Ticked
         ..c
     };
     Ticked { next, answer }
-}
-
-// S >= 64*p9
-fn stable_of(set: Settings, s: u32) -> bool
-    requires { ⌜ Ranges set ⌝ }
-    ensures { λ r. ⌜ r ≡ stableOf set s ⌝ }
-{
-    64 * set.p9 <= s
 }
 
 // Step 7: the phase rule, and step 8.
@@ -362,14 +316,6 @@ fn kept(window: Window, x: Units) -> Window
 {
     let v = x.v;
     window.push(v)
-}
-
-// The mean of the last n samples.
-fn mean_of(window: Window, n: u32) -> Units
-    ensures { λ r. ⌜ r ≡ units (meanOf (take n (samplesOf window))) ⌝ }
-{
-    let v = window.mean(n as usize);
-    Units { v }
 }
 
 // Steps 4 and 5, and those after: the sample and the inputs are kept, F, start and S.

@@ -145,7 +145,7 @@ fn reached_wc(set: Settings, x: Wide) -> bool
 }
 
 // -M < F < M
-fn near_zero(set: Settings, f: Units) -> bool
+pub fn near_zero(set: Settings, f: Units) -> bool
     ensures { λ r. ⌜ r ≡ nearZero set (f .v) ⌝ }
 {
     let x = widened(f);

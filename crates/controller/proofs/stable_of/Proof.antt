@@ -1,7 +1,7 @@
 use borrow.Author.Needs.{needs}
 use Rattle.controller.specs.Tick.{stableOf}
-use Rattle.controller.proofs.tick.stable_of.Statement.{statement}
-use Rattle.controller.proofs.tick.stable_of.Tie as tie
+use Rattle.controller.proofs.stable_of.Statement.{statement}
+use Rattle.controller.proofs.stable_of.Tie as tie
 
 mul-result : tie.Need-mul-result
 mul-result c = search needs

@@ -1,8 +1,8 @@
 use mathlib.Core.Path.{ap}
 use Rattle.dosing.specs.Rules.{units}
 use Rattle.controller.proofs.Laws.{minus-fits, minus-is}
-use Rattle.controller.proofs.tick.weight.Statement.{statement}
-use Rattle.controller.proofs.tick.weight.Tie as tie
+use Rattle.controller.proofs.weight.Statement.{statement}
+use Rattle.controller.proofs.weight.Tie as tie
 
 sub-t5 : tie.Need-sub-t5
 sub-t5 c = let p = c .before .before in minus-fits (p .args .f .v) (p .args .z .v) (p .pre .mean) (p .pre .zero)

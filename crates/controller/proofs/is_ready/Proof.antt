@@ -1,8 +1,8 @@
 use borrow.Author.Needs.{needs}
 use Rattle.controller.specs.Calls.{isReady, readyIn, atReady}
 use Rattle.controller.proofs.Contracts.{not-ready}
-use Rattle.controller.proofs.calls.is_ready.Statement.{statement}
-use Rattle.controller.proofs.calls.is_ready.Tie as tie
+use Rattle.controller.proofs.is_ready.Statement.{statement}
+use Rattle.controller.proofs.is_ready.Tie as tie
 
 enum-told : tie.Need-enum-told
 enum-told c = search needs

@@ -2,8 +2,8 @@ use borrow.Author.Needs.{needs}
 use mir.Syntax.{w32}
 use mir.Val.{SFits}
 use Rattle.controller.proofs.Laws.{over-is}
-use Rattle.controller.proofs.tick.over_capacity.Statement.{statement}
-use Rattle.controller.proofs.tick.over_capacity.Tie as tie
+use Rattle.controller.proofs.over_capacity.Statement.{statement}
+use Rattle.controller.proofs.over_capacity.Tie as tie
 
 told : (c : tie.After-struct-told) → SFits w32 (c .before .args .w .v)
 told c = search needs

@@ -2,8 +2,8 @@ use borrow.Author.Needs.{needs}
 use native.Mathlib.Omega.{arith}
 use Rattle.controller.specs.Tick.{outputsOf}
 use Rattle.controller.proofs.Laws.{worth-most}
-use Rattle.controller.proofs.tick.outputs_of.Statement.{statement}
-use Rattle.controller.proofs.tick.outputs_of.Tie as tie
+use Rattle.controller.proofs.outputs_of.Statement.{statement}
+use Rattle.controller.proofs.outputs_of.Tie as tie
 
 worth-requires : tie.Need-worth-requires
 worth-requires c κs = search needs

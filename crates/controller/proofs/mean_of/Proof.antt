@@ -4,8 +4,8 @@ use mir.Syntax.{w32}
 use mir.Val.{SFits}
 use mir.Facts.{toZ-ofZ}
 use Rattle.dosing.specs.Rules.{units}
-use Rattle.controller.proofs.tick.mean_of.Statement.{statement}
-use Rattle.controller.proofs.tick.mean_of.Tie as tie
+use Rattle.controller.proofs.mean_of.Statement.{statement}
+use Rattle.controller.proofs.mean_of.Tie as tie
 
 mean-requires : tie.Need-mean-requires
 mean-requires c κs = search needs

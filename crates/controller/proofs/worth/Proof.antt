@@ -1,7 +1,7 @@
 use Rattle.laws.specs.Pick.{picks}
 use Rattle.controller.specs.Tick.{worth}
-use Rattle.controller.proofs.tick.worth.Statement.{statement}
-use Rattle.controller.proofs.tick.worth.Tie as tie
+use Rattle.controller.proofs.worth.Statement.{statement}
+use Rattle.controller.proofs.worth.Tie as tie
 
 returns : tie.Need-returns
 unfolding worth

@@ -1,0 +1,295 @@
+-- A line request, put together from what its stages give. Assumes nothing.
+use mathlib.Core.Path.{_≡_, refl, sym, ap, subst, _∙_}
+use mathlib.Core.Bool.{Bool, true, false, _&&_}
+use mathlib.Core.List.{List, [], _∷_, _++_}
+use Prim.Native.Nat.{ℕ, _+_, _-_, _≤_}
+use native.Mathlib.Omega.{arith}
+use lib.Dec.{leb, eqb}
+use lib.IntN.{ℤ, pos, _-ℤ_}
+use lib.ListN.{length, take, replicate, length-append}
+use lib.Seq.{take-at, length-take-le}
+use types.Run.{OneOf, miss}
+use denote.Enum.Declared.{tagOf}
+use borrow.Author.Tests.{eq-eqb, ne-eqb, eqb-true, le-leb}
+use Rattle.laws.specs.Pick.{pick, pick-t, pick-f, pick-true, pick-false}
+use Rattle.laws.specs.Over.{over}
+use Rattle.paper.specs.Answer.{Answer, done, refused, fault, told, onDone, bytesIn, inRoom, leaves, Fills, Hands}
+use Rattle.paper.specs.Numbers.{R3, R4, R5, R7, R8}
+use Rattle.settings.specs.declared.Settings.{Settings}
+use Rattle.settings.specs.Ranges.{Ranges}
+use Rattle.settings.specs.Good.{good-ranges}
+use Rattle.window.specs.declared.Window.{Window}
+use Rattle.window.specs.Mean.{meanOf}
+use Rattle.window.specs.Window.{samplesOf}
+use Rattle.field.specs.declared.Weight.{Weight}
+use Rattle.frame.proofs.Found.{the-type as found-type}
+use Rattle.frame.proofs.Wrote.{the-type as wrote-type}
+use Rattle.frame.specs.Frame.{frame, extended, fewest, framable, writeOf}
+use Rattle.frame.specs.FrameLaws.{framable-is}
+use Rattle.frame.specs.Read.{Finished, readOf, tooShort}
+use Rattle.frame.specs.ReadLaws.{done-whole}
+use Rattle.frame.specs.Says.{saysWrote, saysFound, wrote-one, placeAndLength as placeAndSize, Reads}
+use Rattle.frame.specs.declared.Wrote.{Wrote}
+use Rattle.frame.specs.declared.Wrote.the-variants as W
+use Rattle.frame.specs.declared.Found.{Found}
+use Rattle.frame.specs.declared.Found.the-variants as F
+use Rattle.frame.specs.declared.Read.{Read}
+use Rattle.message.specs.Message.{addressBytes, bodyOf, partsOf, splitOf, buildOf}
+use Rattle.message.specs.Says.{saysSplit, saysBuilt}
+use Rattle.message.specs.declared.Form.{Form}
+use Rattle.message.specs.declared.Form.the-variants.{Address, Serial}
+use Rattle.message.specs.declared.Parts.{Parts}
+use Rattle.message.specs.declared.Split.{Split}
+use Rattle.message.specs.declared.Split.the-variants as S
+use Rattle.message.specs.declared.Built.{Built}
+use Rattle.message.specs.declared.Built.the-variants as B
+use Rattle.dosing.specs.Rules.{units}
+use Rattle.dosing.specs.declared.Units.{Units}
+use Rattle.controller.specs.Tick.{Result, still, none, stableOf, overCapacity}
+use Rattle.controller.specs.Calls.{isReady}
+use Rattle.controller.specs.Line.{filtered, weightFrom, weightBy, Asked, ours, known, bare, addressed, zeroable, allowed, askedOf, replyFrame, zeroedBy, Replied, replied, repliesTo, requestOf}
+use Rattle.controller.specs.Sound.{Sound}
+use Rattle.controller.specs.Says.{saysReply, placeAndLength, bytesOf, Replies}
+use Rattle.controller.specs.Stages.{unreadOf, addressedBy, codedBy, timedBy, zeroingBy, stagesOf, Holds}
+use Rattle.controller.specs.Parts.{Small}
+use Rattle.controller.specs.Done.{refused-done, fault-done, done-refused, fault-refused}
+use Rattle.controller.specs.Bounds.{filtered-within}
+use Rattle.controller.specs.Keeps.{request-sound}
+use Rattle.controller.specs.declared.Controller.{Controller}
+use Rattle.controller.specs.declared.RequestAnswer.{RequestAnswer}
+use Rattle.controller.specs.declared.Requested.{Requested}
+use Rattle.controller.specs.declared.line.ReplyData.{ReplyData}
+use Rattle.controller.specs.declared.line.Addressed.the-variants as A
+use Rattle.controller.specs.declared.line.Coded.the-variants as C
+use Rattle.controller.specs.declared.line.Timed.the-variants as T
+use Rattle.controller.specs.declared.line.Zeroing.the-variants as Z
+use Rattle.controller.proofs.Laws.{none-held}
+
+-- ---- weights
+
+-- no sample is held
+pub held-none : (w : Window) → length (w .samples) ≡ 128 → none (samplesOf w) ≡ eqb (w .held) 0
+unfolding samplesOf
+held-none w l = none-held (w .held) (w .samples) (omega arith)
+
+module _ (c : Controller) (n : ℕ) (s : Sound c) where
+  pub unweighed : c .window .held ≡ 0 → _≡_ {A = Weight} (record { value = pos 0; stable = false; over = false; point = c .set .point }) (weightBy c n)
+  unfolding weightBy weightFrom
+  unweighed h = rw (held-none (c .window) (s .places), eq-eqb (c .window .held) 0 h)
+
+  module _ {f : Units} (m : f ≡ units (meanOf (take n (samplesOf (c .window))))) where
+    pub mean-small : Small f (c .z)
+    unfolding filtered
+    mean-small = record { mean = rw m (filtered-within c s n); zero = s .zero }
+
+    pub weighed : {w : Units} {value : ℤ} {stable over : Bool} → (c .window .held ≡ 0 → ⊥)
+        → w ≡ units (f .v -ℤ c .z .v) → value ≡ w .v → stable ≡ stableOf (c .set) (c .s) → over ≡ overCapacity (c .set) (w .v)
+        → _≡_ {A = Weight} (record { value = value; stable = stable; over = over; point = c .set .point }) (weightBy c n)
+    unfolding weightBy weightFrom filtered
+    weighed h e v a b = rw (v, a, b, e, m, held-none (c .window) (s .places), ne-eqb (c .window .held) 0 h)
+
+-- ---- bytes in an array
+
+-- the bytes are the first n of the array
+pub record Front (bytes array : List ℕ) (n : ℕ) : Type 0 where
+  pub fits : n ≤ length array
+  pub is : take n array ≡ bytes
+
+front : (bytes : List ℕ) (m : ℕ) {array : List ℕ} {n : ℕ} → array ≡ bytes ++ replicate m 0 → n ≡ length bytes → Front bytes array n
+front bytes m {array} {n} e l =
+    record {
+      fits = omega (arith, simp length-append at (ap length e));
+      is = rw e (take-at bytes _ n (sym l));
+    }
+
+-- ---- the reply
+
+-- a reply to what is ours can always be framed
+pub reply-framable : (set : Settings) (form : Form) (op : ℕ) (values : List ℕ) → Ranges set → ours set form ≡ true → length values ≤ 4 → framable (bodyOf form op values) ≡ true
+unfolding ours framable fewest extended bodyOf addressBytes
+reply-framable set (Address a) op values r h l =
+    let e : a ≡ set .address = eqb-true a (set .address) h in
+    simp (ne-eqb a 0xFF (λ k. omega arith), ne-eqb a 0xFE (λ k. omega arith), ne-eqb a 0 (λ k. omega arith), pick-false, le-leb 2 (length (a ∷ op ∷ values)) (omega arith), le-leb (length (a ∷ op ∷ values)) 254 (omega arith))
+reply-framable set (Serial n) op values r h l =
+    let size : length (bodyOf (Serial n) op values) ≡ 5 + length values = omega arith in
+    simp (pick-true, le-leb 5 (length (bodyOf (Serial n) op values)) (omega arith), le-leb (length (bodyOf (Serial n) op values)) 254 (omega arith))
+
+pub data-most : {bytes : List ℕ} (r : ReplyData) → Holds bytes r → length bytes ≤ 4
+data-most r h =
+    let size : length (take (r .len) (r .bytes)) ≡ r .len = length-take-le (r .len) (r .bytes) (omega (arith, h .full, h .small)) in
+    omega (arith, ap length (h .front), h .small)
+
+-- what building handed over
+module _ (form : Form) (op : ℕ) (values : List ℕ) (built : Built) {array : List ℕ} (f : framable (bodyOf form op values) ≡ true) (hands : Hands 254 (saysBuilt built) (buildOf form op values) array) where
+  is-built : buildOf form op values ≡ done (bodyOf form op values)
+  unfolding buildOf
+  is-built = pick-t _ _ _ f
+
+  built-says : saysBuilt built ≡ done (length (bodyOf form op values))
+  unfolding told
+  built-says = hands .says ∙ ap (told length) is-built
+
+  pub not-unbuilt : {Q : Type 0} → built ≡ B.R14 → Q
+  not-unbuilt e = refused-done (sym (ap saysBuilt e) ∙ built-says)
+
+  pub built-front : {n : ℕ} → built ≡ B.Body n → Front (bodyOf form op values) array n
+  unfolding bytesIn
+  built-front e =
+      let same = sym (ap saysBuilt e) ∙ built-says in
+      front (bodyOf form op values) (254 - length (bodyOf form op values)) (hands .holds ∙ ap (λ (r : Answer (List ℕ)). bytesIn r ++ replicate (254 - length (bytesIn r)) 0) is-built) (cc)
+
+-- the frame of a body that can be framed
+pub frames : (body : List ℕ) {old new : List ℕ} {answer : Answer ℕ} → framable body ≡ true → Fills answer (writeOf body (length old)) old new → Fills answer (inRoom [] (length old) (frame body)) old new
+unfolding writeOf
+frames body {old} {new} {answer} f fills = subst (λ (r : Answer (List ℕ)). Fills answer r old new) (pick-t _ _ _ f) fills
+
+-- ---- the stages
+
+-- the reader's body stands in its array
+pub record Finds (s array : List ℕ) (place len : ℕ) : Type 0 where
+  pub fits : len ≤ length array
+  pub read : readOf s ≡ done (record { place = place; bytes = take len array })
+  pub splits : splitOf (take len array) ≡ done (partsOf (take len array))
+
+whole-splits : (s : List ℕ) (f : Finished) → readOf s ≡ done f → splitOf (f .bytes) ≡ done (partsOf (f .bytes))
+unfolding splitOf
+whole-splits s f e = pick-f _ _ _ (done-whole s f e .long)
+
+told-done : {X Y : Type 0} (f : X → Y) (a : Answer X) (y : Y) → done y ≡ told f a → {Q : Type 0} → ((x : X) → a ≡ done x → y ≡ f x → Q) → Q
+unfolding told
+told-done f (done x) y e go = go x refl (cc)
+told-done f (refused n vs) y e go = done-refused e
+told-done f (fault n vs) y e go = fault-done (sym e)
+
+told-refused : {X Y : Type 0} (f : X → Y) (a : Answer X) (n : ℕ) (vs : List ℕ) → refused n vs ≡ told f a → a ≡ refused n vs
+unfolding told
+told-refused f (done x) n vs e = refused-done e
+told-refused f (refused m us) n vs e = cc
+told-refused f (fault m us) n vs e = fault-refused (sym e)
+
+pub found-body : (s : List ℕ) (r : Read) {place len : ℕ} → Reads s r → r .found ≡ F.Body place len → Finds s (r .body) place len
+unfolding told bytesIn
+found-body s r {place} {len} reads e =
+    told-done placeAndSize (readOf s) (place, len) (sym (ap saysFound e) ∙ reads .says)
+    (λ f k t.
+      let held : r .body ≡ f .bytes ++ replicate (255 - length (f .bytes)) 0 = reads .holds ∙ rw k in
+      let a : place ≡ f .place = ap (λ (p : ℕ × ℕ). p .0) t in
+      let b : len ≡ length (f .bytes) = ap (λ (p : ℕ × ℕ). p .1) t in
+      let stands = front (f .bytes) (255 - length (f .bytes)) held b in
+      record { fits = stands .fits; read = rw (stands .is, a) k; splits = rw (stands .is) (whole-splits s f k) })
+
+-- what was found splits
+module _ {s array : List ℕ} {place len : ℕ} {split : Split} (finds : Finds s array place len) (says : saysSplit split ≡ splitOf (take len array)) where
+  pub not-unsplit : {Q : Type 0} → split ≡ S.R6 → Q
+  not-unsplit e = refused-done (sym (ap saysSplit e) ∙ says ∙ finds .splits)
+
+  pub split-parts : {p : Parts} → split ≡ S.Parts p → p ≡ partsOf (take len array)
+  split-parts e = let same = sym (ap saysSplit e) ∙ says ∙ finds .splits in cc
+
+abbrev pub askedBy : ℕ → Parts → Asked
+askedBy place p = record { place = place; form = p .form; operation = p .operation }
+
+allowed-stages : (c : Controller) (a : Asked) → allowed c a ≡ stagesOf a A.Ours C.Known (timedBy c (a .operation)) (zeroingBy c (a .operation))
+unfolding allowed timedBy zeroingBy stagesOf pick
+allowed-stages c a = go (eqb (a .operation) 0xC0) (isReady c) (zeroable c)
+  where
+    go : (zeroes ready near : Bool)
+        → pick zeroes (pick ready (pick near (done a) (refused R4 (a .place ∷ []))) (refused R3 (a .place ∷ []))) (done a)
+        ≡ stagesOf a A.Ours C.Known (pick zeroes (pick ready T.Allowed T.R3) T.Allowed) (pick zeroes (pick near Z.Allowed Z.R4) Z.Allowed)
+    go true true true = refl
+    go true true false = refl
+    go true false near = refl
+    go false ready near = refl
+
+addressed-stages : (c : Controller) (place : ℕ) (p : Parts)
+    → onDone (addressed (c .set) place p) (λ a. allowed c a)
+    ≡ stagesOf (askedBy place p) (addressedBy (c .set) p) (codedBy p) (timedBy c (p .operation)) (zeroingBy c (p .operation))
+unfolding addressed addressedBy codedBy stagesOf onDone pick
+addressed-stages c place p = go (ours (c .set) (p .form)) (known (p .operation) && bare p)
+  where
+    go : (us good : Bool)
+        → onDone (pick us (pick good (done (askedBy place p)) (refused R7 (place ∷ []))) (refused R5 (place ∷ []))) (λ a. allowed c a)
+        ≡ stagesOf (askedBy place p) (pick us A.Ours A.R5) (pick good C.Known C.R7) (timedBy c (p .operation)) (zeroingBy c (p .operation))
+    go true true = allowed-stages c (askedBy place p)
+    go true false = refl
+    go false good = refl
+
+-- a request whose body was found is answered by its stages
+pub by-stages : (c : Controller) {s array : List ℕ} {place len : ℕ} {p : Parts} → Finds s array place len → p ≡ partsOf (take len array)
+    → askedOf c s ≡ stagesOf (askedBy place p) (addressedBy (c .set) p) (codedBy p) (timedBy c (p .operation)) (zeroingBy c (p .operation))
+unfolding askedOf onDone
+by-stages c {place = place} {p = p} finds e = rw (finds .read, ← e) (addressed-stages c place p)
+
+pub ours-true : (set : Settings) (p : Parts) → addressedBy set p ≡ A.Ours → ours set (p .form) ≡ true
+unfolding addressedBy pick
+ours-true set p e = go (ours set (p .form)) e
+  where
+    go : (b : Bool) → pick b A.Ours A.R5 ≡ A.Ours → b ≡ true
+    go true h = refl
+    go false h = let z : _≡_ {A = ℕ} 0 1 = cc in absurd (omega arith)
+
+-- ---- the contract
+
+module _ (c : Controller) (s old : List ℕ) (sound : Sound c) where
+  replies : {new : List ℕ} {r : Requested} (x : Result Replied) → requestOf c s (length old) ≡ x
+      → r .next ≡ x .next → saysReply (r .answer) ≡ told placeAndLength (x .answer) → new ≡ leaves (told bytesOf (x .answer)) old
+      → Replies c s old new r
+  replies x e n a l =
+      let next = n ∙ ap (λ (y : Result Replied). y .next) (sym e) in
+      record {
+        next = next;
+        says = a ∙ ap (λ (y : Result Replied). told placeAndLength (y .answer)) (sym e);
+        left = l ∙ ap (λ (y : Result Replied). leaves (told bytesOf (y .answer)) old) (sym e);
+        sound = subst Sound (sym next) (request-sound c s (length old) sound);
+      }
+
+  refused-so : {n : ℕ} {vs : List ℕ} → askedOf c s ≡ refused n vs → requestOf c s (length old) ≡ still c (refused n vs)
+  unfolding requestOf repliesTo
+  refused-so e = rw e
+
+  pub refuses : {r : Requested} {n : ℕ} {vs : List ℕ} → askedOf c s ≡ refused n vs
+      → r .next ≡ c → saysReply (r .answer) ≡ refused n vs → Replies c s old old r
+  unfolding told leaves
+  refuses e n a = replies (still c (refused _ _)) (refused-so e) n a refl
+
+  -- what the reader refuses
+  read-refused : {n : ℕ} {vs : List ℕ} → readOf s ≡ refused n vs → askedOf c s ≡ refused n vs
+  unfolding askedOf onDone
+  read-refused e = rw e
+
+  pub unread-refuses : {r : Requested} (f : Found) → OneOf (1 ∷ 2 ∷ []) (tagOf found-type f) → saysFound f ≡ told placeAndSize (readOf s)
+      → r .next ≡ c → r .answer ≡ unreadOf f → Replies c s old old r
+  unfolding unreadOf
+  unread-refuses (F.Body place len) k e n a = absurd (miss (1 ∷ 2 ∷ []) 0 tt k)
+  unread-refuses (F.R9 place) k e n a = refuses (read-refused (told-refused placeAndSize (readOf s) _ _ e)) n (ap saysReply a)
+  unread-refuses (F.R6 place) k e n a = refuses (read-refused (told-refused placeAndSize (readOf s) _ _ e)) n (ap saysReply a)
+
+  -- what the writer gives
+  module _ {a : Asked} (w : Wrote) {new : List ℕ} (e : askedOf c s ≡ done a) (fills : Fills (saysWrote w) (inRoom [] (length old) (replyFrame c a)) old new) where
+    asked-so : requestOf c s (length old) ≡ replied c a (length old)
+    unfolding requestOf repliesTo
+    asked-so = rw e
+
+    pub no-room : {r : Requested} → OneOf (1 ∷ 2 ∷ []) (tagOf wrote-type w) → r .next ≡ c → saysReply (r .answer) ≡ refused R8 (a .place ∷ []) → Replies c s old new r
+    unfolding replied inRoom told leaves
+    no-room {r} k n h = go (leb (length (replyFrame c a)) (length old)) refl
+      where
+        go : (t : Bool) → leb (length (replyFrame c a)) (length old) ≡ t → Replies c s old new r
+        go true l =
+            let same = wrote-one w (W.Frame (length (replyFrame c a))) (fills .says ∙ rw (pick-t _ _ _ l)) in
+            absurd (miss (1 ∷ 2 ∷ []) 0 tt (subst (λ (x : Wrote). OneOf (1 ∷ 2 ∷ []) (tagOf wrote-type x)) same k))
+        go false l = replies (still c (refused R8 (a .place ∷ []))) (asked-so ∙ pick-f _ _ _ l) n h (fills .left ∙ rw (pick-f _ _ _ l))
+
+    pub sends : {r : Requested} {n : ℕ} → w ≡ W.Frame n → r .next ≡ zeroedBy c (a .operation) → saysReply (r .answer) ≡ done (a .place, n) → Replies c s old new r
+    unfolding replied inRoom told leaves
+    sends {r} {n} k m h = go (leb (length (replyFrame c a)) (length old)) refl
+      where
+        go : (t : Bool) → leb (length (replyFrame c a)) (length old) ≡ t → Replies c s old new r
+        go true l =
+            let says : done n ≡ done (length (replyFrame c a)) = sym (ap saysWrote k) ∙ fills .says ∙ rw (pick-t _ _ _ l) in
+            let size : n ≡ length (replyFrame c a) = cc in
+            replies (record { next = zeroedBy c (a .operation); answer = done (record { place = a .place; bytes = replyFrame c a }) })
+            (asked-so ∙ pick-t _ _ _ l) m (rw size at h) (fills .left ∙ rw (pick-t _ _ _ l))
+        go false l =
+            let says : done n ≡ refused R8 [] = sym (ap saysWrote k) ∙ fills .says ∙ rw (pick-f _ _ _ l) in
+            done-refused says
