@@ -172,11 +172,11 @@ unfolding told bytesIn
 found-body s r {place} {len} reads e =
     told-done placeAndSize (readOf s) (place, len) (sym (ap saysFound e) ∙ reads .says)
     (λ f k t.
-      let held : r .body ≡ f .bytes ++ replicate (255 - length (f .bytes)) 0 = reads .holds ∙ rw k in
-      let a : place ≡ f .place = ap (λ (p : ℕ × ℕ). p .0) t in
-      let b : len ≡ length (f .bytes) = ap (λ (p : ℕ × ℕ). p .1) t in
-      let stands = front (f .bytes) (255 - length (f .bytes)) held b in
-      record { fits = stands .fits; read = rw (stands .is, a) k; splits = rw (stands .is) (whole-splits s f k) })
+    let held : r .body ≡ f .bytes ++ replicate (255 - length (f .bytes)) 0 = reads .holds ∙ rw k in
+    let a : place ≡ f .place = ap (λ (p : ℕ × ℕ). p .0) t in
+    let b : len ≡ length (f .bytes) = ap (λ (p : ℕ × ℕ). p .1) t in
+    let stands = front (f .bytes) (255 - length (f .bytes)) held b in
+    record { fits = stands .fits; read = rw (stands .is, a) k; splits = rw (stands .is) (whole-splits s f k) })
 
 -- what was found splits
 module _ {s array : List ℕ} {place len : ℕ} {split : Split} (finds : Finds s array place len) (says : saysSplit split ≡ splitOf (take len array)) where
