@@ -1,9 +1,7 @@
 -- The restart of the boundary table's set is not refused. Assumes nothing.
 use mathlib.Core.Path.{_≡_, refl, _∙_}
-use mathlib.Core.Bool.{Bool, true, false, _||_, _&&_}
-use mathlib.Core.List.{List, [], _∷_}
 use Rattle.laws.specs.Pick.{pick}
-use Rattle.paper.specs.Answer.{Answer, done, told, onDone}
+use Rattle.paper.specs.Answer.{done, told, onDone}
 use Rattle.settings.specs.declared.Settings.{Settings}
 use Rattle.settings.specs.Table.{firstBad, firstFrom, table, inRange, leastLevel, mostLevel}
 use Rattle.controller.specs.declared.Restarted.{Restarted}

@@ -10,7 +10,7 @@ ghost use Prim.Native.Nat.{_≤_};
 ghost use Rattle.controller.specs.Sound.{Sound};
 ghost use Rattle.boundary.specs.Table.{al1};
 
-// Settle is given up after so many ticks.
+// The run of Settle is given up after so many ticks.
 const ENOUGH: u32 = 1000;
 
 // AL1, C 1,000, D 500, Pc 100, Pf 20, M 50, p9 1; inputs at level 1.
@@ -38,7 +38,7 @@ fn al1() -> Settings
     }
 }
 
-// The controller of a restart with that set, which is not refused, and all outputs closed.
+// A restart with that set, which is not refused: all outputs are closed.
 fn restarted() -> Ticked
     ensures { λ r. ⌜ Sound (r .next) ⌝ }
 {
@@ -94,7 +94,7 @@ fn sample(changing: bool, tick: u32) -> i32
     if changing { (481 + tick) as i32 } else { 480 }
 }
 
-// The tick of Settle on which output 3 opens.
+// The tick of Settle on which output 3 opens; 0 where none does.
 fn opens_on(changing: bool) -> u32 {
     let mut last = at_settle();
     let mut tick: u32 = 0;
@@ -121,7 +121,7 @@ fn is_f14(last: Ticked) -> bool {
     }
 }
 
-// Whether the last of so many mismatches in a row is F14: input 1 is on, output 1 shut.
+// Whether the last of so many mismatches in a row is F14: input 1 is on, and output 1 is shut.
 fn mismatched(number: u32) -> bool {
     let mut last = restarted();
     let mut n: u32 = 0;
@@ -140,12 +140,14 @@ fn alarm(over: u8) -> bool {
     8 <= outputs(last)
 }
 
+// One line: a case's name with its tab, and the number of a tick.
 fn print_tick(name: &[u8], tick: u32) {
     io::write_all(1, name);
     io::print_decimal(1, tick as u64);
     io::write_all(1, b"\n");
 }
 
+// One line: a case's name with its tab, and the one word or the other.
 fn print_word(name: &[u8], on: bool, then: &[u8], other: &[u8]) {
     io::write_all(1, name);
     if on {
@@ -155,6 +157,7 @@ fn print_word(name: &[u8], on: bool, then: &[u8], other: &[u8]) {
     io::write_all(1, other);
 }
 
+// The cases in the order of the table.
 fn main() {
     print_tick(b"settle, F constant\t", opens_on(false));
     print_tick(b"settle, F changing\t", opens_on(true));

@@ -6,15 +6,14 @@ use Prim.Native.Nat.{ℕ}
 use types.Run.{OneOf, miss}
 use denote.Enum.Declared.{tagOf}
 use Rattle.laws.specs.Pick.{pick}
-use Rattle.paper.specs.Answer.{Answer, done, refused, fault, told, onDone}
-use Rattle.paper.specs.Numbers.{R2, R3, R15}
+use Rattle.paper.specs.Answer.{Answer, done, refused, fault, told}
+use Rattle.paper.specs.Numbers.{R3}
 use Rattle.settings.specs.Table.{firstBad}
 use Rattle.settings.specs.declared.Settings.{Settings}
 use Rattle.dosing.proofs.Phase.{the-type as phase-type}
 use Rattle.dosing.specs.declared.Phase.{Phase}
 use Rattle.dosing.specs.declared.Phase.the-variants.{Ready, Coarse, Fine, Hold, Settle, Discharge, Load, Calm, DoseCoarse, DoseFine, DoseSettle}
-use Rattle.controller.specs.State.{counters, restarted, withCounters}
-use Rattle.controller.specs.Calls.{atReady, isReady, storedBad, restartOf, controllerIn, taken, after, settingsAnswer, settingsOf, resetAnswer, resetOf}
+use Rattle.controller.specs.Calls.{atReady, isReady, restartOf, controllerIn, taken, after, settingsAnswer, settingsOf, resetOf}
 use Rattle.controller.specs.Sound.{Sound}
 use Rattle.controller.specs.Done.{refused-done, fault-done}
 use Rattle.controller.specs.Keeps.{restart-sound, settings-sound, reset-sound}
@@ -50,24 +49,10 @@ restarted-sound set count total (done c) e h = restart-sound set count total c e
 restarted-sound set count total (refused n vs) e h = refused-done h
 restarted-sound set count total (fault n vs) e h = fault-done h
 
--- R2 before R15
-pub bad-set : (set : Settings) (count total row : ℕ) → firstBad set ≡ refused R2 (row ∷ []) → restartOf set count total ≡ refused R2 (row ∷ [])
-unfolding restartOf onDone
-bad-set set count total row e = rw e
-
-pub good-set : (set : Settings) (count total : ℕ) → firstBad set ≡ done tt
-    → restartOf set count total ≡ pick (storedBad count total) (refused R15 []) (done (restarted set count total))
-unfolding restartOf onDone
-good-set set count total e = rw e
-
-pub restarts : (set : Settings) (count total : ℕ) {next : Controller} {answer : RestartAnswer} (x : Answer Controller) → restartOf set count total ≡ x
-    → next ≡ controllerIn x → saysRestart answer ≡ told noValue x → Restarts set count total (record { next = next; answer = answer })
-restarts set count total x e n h =
-    record {
-      next = n ∙ ap controllerIn (sym e);
-      says = h ∙ ap (told noValue) (sym e);
-      sound = λ d. subst Sound (sym n) (restarted-sound set count total x e (sym h ∙ d));
-    }
+pub restarts : (set : Settings) (count total : ℕ) {next : Controller} {answer : RestartAnswer} → next ≡ controllerIn (restartOf set count total)
+    → saysRestart answer ≡ told noValue (restartOf set count total) → Restarts set count total (record { next = next; answer = answer })
+restarts set count total n h =
+    record { next = n; says = h; sound = λ d. subst Sound (sym n) (restarted-sound set count total (restartOf set count total) refl (sym h ∙ d)) }
 
 -- an answer that refuses changes nothing
 pub not-taken : (a : SetAnswer) (changed same : Controller) → OneOf (1 ∷ 2 ∷ []) (tagOf set-type a) → same ≡ after (saysSet a) changed same
@@ -88,9 +73,6 @@ sets c set s e n =
     let m = n ∙ ap (λ (a : Answer (Unit {0})). after a (taken set c) c) e in
     record { next = m; says = e; sound = subst Sound (sym m) (settings-sound c set s) }
 
-pub resets : (c : Controller) {next : Controller} {answer : ResetAnswer} → Sound c → saysReset answer ≡ resetAnswer c
-    → next ≡ after (saysReset answer) (withCounters (counters 0 0) c) c → Resets c (record { next = next; answer = answer })
-unfolding resetOf
-resets c s e n =
-    let m = n ∙ ap (λ (a : Answer (Unit {0})). after a (withCounters (counters 0 0) c) c) e in
-    record { next = m; says = e; sound = subst Sound (sym m) (reset-sound c s) }
+pub resets : (c : Controller) {next : Controller} {answer : ResetAnswer} → Sound c → saysReset answer ≡ resetOf c .answer → next ≡ resetOf c .next
+    → Resets c (record { next = next; answer = answer })
+resets c s e n = record { next = n; says = e; sound = subst Sound (sym n) (reset-sound c s) }

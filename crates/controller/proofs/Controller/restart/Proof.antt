@@ -1,10 +1,10 @@
-use mathlib.Core.Path.{refl, sym, ap, _∙_}
+use mathlib.Core.Path.{sym, ap, _∙_}
 use borrow.Author.Needs.{needs}
-use Rattle.laws.specs.Pick.{pick-t, pick-f, so}
-use Rattle.paper.specs.Answer.{told}
+use Rattle.laws.specs.Pick.{pick, so}
+use Rattle.paper.specs.Answer.{onDone, told}
 use Rattle.settings.specs.Says.{says}
-use Rattle.controller.specs.Calls.{controllerIn}
-use Rattle.controller.proofs.Contracts.{restarts, bad-set, good-set}
+use Rattle.controller.specs.Calls.{restartOf, controllerIn}
+use Rattle.controller.proofs.Contracts.{restarts}
 use Rattle.controller.proofs.Controller.restart.Statement.{statement}
 use Rattle.controller.proofs.Controller.restart.Tie as tie
 
@@ -18,13 +18,12 @@ no-controller-requires : tie.Need-no-controller-requires
 no-controller-requires c κs = search needs
 
 returns : tie.Need-returns
-unfolding told controllerIn
+unfolding restartOf onDone told controllerIn
 returns c =
     let k = c .before .before .before .before in
     let a = k .before .args in
-    restarts (a .set) (a .count) (a .total) _
-    (bad-set (a .set) (a .count) (a .total) _ (sym (k .check .ensures) ∙ ap says (c .before .before .checked .given .1)))
-    (c .no-controller .ensures) refl
+    let bad = sym (k .check .ensures) ∙ ap says (c .before .before .checked .given .1) in
+    restarts (a .set) (a .count) (a .total) (rw bad (c .no-controller .ensures)) (rw bad)
 
 enum-told : tie.Need-enum-told
 enum-told c = search needs
@@ -36,27 +35,25 @@ no-controller-requires-2 : tie.Need-no-controller-requires-2
 no-controller-requires-2 c κs = search needs
 
 returns-2 : tie.Need-returns-2
-unfolding told controllerIn
+unfolding restartOf onDone told controllerIn pick
 returns-2 c =
     let k = c .before .before .before .before .before in
     let a = k .before .args in
-    restarts (a .set) (a .count) (a .total) _
-    (good-set (a .set) (a .count) (a .total) (sym (k .check .ensures) ∙ ap says (c .before .before .before .enum-told .given .1))
-    ∙ pick-t _ _ _ (so (c .before .before .stored-bad .ensures) (c .before .if1 .taken)))
-    (c .no-controller2 .ensures) refl
+    let good = sym (k .check .ensures) ∙ ap says (c .before .before .before .enum-told .given .1) in
+    let bad = so (c .before .before .stored-bad .ensures) (c .before .if1 .taken) in
+    restarts (a .set) (a .count) (a .total) (rw (good, bad) (c .no-controller2 .ensures)) (rw (good, bad))
 
 restarted-requires : tie.Need-restarted-requires
 restarted-requires c κs = search needs
 
 returns-3 : tie.Need-returns-3
-unfolding told controllerIn
+unfolding restartOf onDone told controllerIn pick
 returns-3 c =
     let k = c .before .before .before .before .before in
     let a = k .before .args in
-    restarts (a .set) (a .count) (a .total) _
-    (good-set (a .set) (a .count) (a .total) (sym (k .check .ensures) ∙ ap says (c .before .before .before .enum-told .given .1))
-    ∙ pick-f _ _ _ (so (c .before .before .stored-bad .ensures) (c .before .if1 .left)))
-    (c .restarted .ensures) refl
+    let good = sym (k .check .ensures) ∙ ap says (c .before .before .before .enum-told .given .1) in
+    let kept = so (c .before .before .stored-bad .ensures) (c .before .if1 .left) in
+    restarts (a .set) (a .count) (a .total) (rw (good, kept) (c .restarted .ensures)) (rw (good, kept))
 
 pub restart-spec : {M : Type 1} → statement M
 restart-spec =
