@@ -17,7 +17,6 @@ use Rattle.paper.specs.Answer.{Answer, done, refused, fault, told, onDone, byte
 use Rattle.paper.specs.Numbers.{R3, R4, R5, R7, R8}
 use Rattle.settings.specs.declared.Settings.{Settings}
 use Rattle.settings.specs.Ranges.{Ranges}
-use Rattle.settings.specs.Good.{good-ranges}
 use Rattle.window.specs.declared.Window.{Window}
 use Rattle.window.specs.Mean.{meanOf}
 use Rattle.window.specs.Window.{samplesOf}
@@ -25,8 +24,7 @@ use Rattle.field.specs.declared.Weight.{Weight}
 use Rattle.frame.proofs.Found.{the-type as found-type}
 use Rattle.frame.proofs.Wrote.{the-type as wrote-type}
 use Rattle.frame.specs.Frame.{frame, extended, fewest, framable, writeOf}
-use Rattle.frame.specs.FrameLaws.{framable-is}
-use Rattle.frame.specs.Read.{Finished, readOf, tooShort}
+use Rattle.frame.specs.Read.{Finished, readOf}
 use Rattle.frame.specs.ReadLaws.{done-whole}
 use Rattle.frame.specs.Says.{saysWrote, saysFound, wrote-one, placeAndLength as placeAndSize, Reads}
 use Rattle.frame.specs.declared.Wrote.{Wrote}
@@ -56,7 +54,6 @@ use Rattle.controller.specs.Done.{refused-done, fault-done, done-refused
 use Rattle.controller.specs.Bounds.{filtered-within}
 use Rattle.controller.specs.Keeps.{request-sound}
 use Rattle.controller.specs.declared.Controller.{Controller}
-use Rattle.controller.specs.declared.RequestAnswer.{RequestAnswer}
 use Rattle.controller.specs.declared.Requested.{Requested}
 use Rattle.controller.specs.declared.line.ReplyData.{ReplyData}
 use Rattle.controller.specs.declared.line.Addressed.the-variants as A
@@ -172,11 +169,11 @@ unfolding told bytesIn
 found-body s r {place} {len} reads e =
     told-done placeAndSize (readOf s) (place, len) (sym (ap saysFound e) ∙ reads .says)
     (λ f k t.
-      let held : r .body ≡ f .bytes ++ replicate (255 - length (f .bytes)) 0 = reads .holds ∙ rw k in
-      let a : place ≡ f .place = ap (λ (p : ℕ × ℕ). p .0) t in
-      let b : len ≡ length (f .bytes) = ap (λ (p : ℕ × ℕ). p .1) t in
-      let stands = front (f .bytes) (255 - length (f .bytes)) held b in
-      record { fits = stands .fits; read = rw (stands .is, a) k; splits = rw (stands .is) (whole-splits s f k) })
+    let held : r .body ≡ f .bytes ++ replicate (255 - length (f .bytes)) 0 = reads .holds ∙ rw k in
+    let a : place ≡ f .place = ap (λ (p : ℕ × ℕ). p .0) t in
+    let b : len ≡ length (f .bytes) = ap (λ (p : ℕ × ℕ). p .1) t in
+    let stands = front (f .bytes) (255 - length (f .bytes)) held b in
+    record { fits = stands .fits; read = rw (stands .is, a) k; splits = rw (stands .is) (whole-splits s f k) })
 
 -- what was found splits
 module _ {s array : List ℕ} {place len : ℕ} {split : Split} (finds : Finds s array place len) (says : saysSplit split ≡ splitOf (take len array)) where
