@@ -14,10 +14,9 @@ use borrow.Author.Tests.{eq-eqb, ne-eqb, eqb-true, le-leb}
 use Rattle.laws.specs.Pick.{pick, pick-t, pick-f, pick-true, pick-false}
 use Rattle.laws.specs.Over.{over}
 use Rattle.paper.specs.Answer.{Answer, done, refused, fault, told, onDone, bytesIn, inRoom, leaves, Fills, Hands}
-use Rattle.paper.specs.Numbers.{R3, R4, R5, R7, R8}
+use Rattle.paper.specs.Numbers.{R8}
 use Rattle.settings.specs.declared.Settings.{Settings}
 use Rattle.settings.specs.Ranges.{Ranges}
-use Rattle.settings.specs.Good.{good-ranges}
 use Rattle.window.specs.declared.Window.{Window}
 use Rattle.window.specs.Mean.{meanOf}
 use Rattle.window.specs.Window.{samplesOf}
@@ -25,8 +24,7 @@ use Rattle.field.specs.declared.Weight.{Weight}
 use Rattle.frame.proofs.Found.{the-type as found-type}
 use Rattle.frame.proofs.Wrote.{the-type as wrote-type}
 use Rattle.frame.specs.Frame.{frame, extended, fewest, framable, writeOf}
-use Rattle.frame.specs.FrameLaws.{framable-is}
-use Rattle.frame.specs.Read.{Finished, readOf, tooShort}
+use Rattle.frame.specs.Read.{Finished, readOf}
 use Rattle.frame.specs.ReadLaws.{done-whole}
 use Rattle.frame.specs.Says.{saysWrote, saysFound, wrote-one, placeAndLength as placeAndSize, Reads}
 use Rattle.frame.specs.declared.Wrote.{Wrote}
@@ -56,13 +54,10 @@ use Rattle.controller.specs.Done.{refused-done, fault-done, done-refused
 use Rattle.controller.specs.Bounds.{filtered-within}
 use Rattle.controller.specs.Keeps.{request-sound}
 use Rattle.controller.specs.declared.Controller.{Controller}
-use Rattle.controller.specs.declared.RequestAnswer.{RequestAnswer}
 use Rattle.controller.specs.declared.Requested.{Requested}
 use Rattle.controller.specs.declared.line.ReplyData.{ReplyData}
 use Rattle.controller.specs.declared.line.Addressed.the-variants as A
 use Rattle.controller.specs.declared.line.Coded.the-variants as C
-use Rattle.controller.specs.declared.line.Timed.the-variants as T
-use Rattle.controller.specs.declared.line.Zeroing.the-variants as Z
 use Rattle.controller.proofs.Laws.{none-held}
 
 -- ---- weights
@@ -191,28 +186,27 @@ askedBy place p = record { place = place; form = p .form; operation = p .operati
 
 allowed-stages : (c : Controller) (a : Asked) → allowed c a ≡ stagesOf a A.Ours C.Known (timedBy c (a .operation)) (zeroingBy c (a .operation))
 unfolding allowed timedBy zeroingBy stagesOf pick
-allowed-stages c a = go (eqb (a .operation) 0xC0) (isReady c) (zeroable c)
+allowed-stages c a = go (eqb (a .operation) 0xC0) (isReady c) (zeroable c) refl refl refl
   where
-    go : (zeroes ready near : Bool)
-        → pick zeroes (pick ready (pick near (done a) (refused R4 (a .place ∷ []))) (refused R3 (a .place ∷ []))) (done a)
-        ≡ stagesOf a A.Ours C.Known (pick zeroes (pick ready T.Allowed T.R3) T.Allowed) (pick zeroes (pick near Z.Allowed Z.R4) Z.Allowed)
-    go true true true = refl
-    go true true false = refl
-    go true false near = refl
-    go false ready near = refl
+    go : (zeroes ready near : Bool) → eqb (a .operation) 0xC0 ≡ zeroes → isReady c ≡ ready → zeroable c ≡ near
+        → allowed c a ≡ stagesOf a A.Ours C.Known (timedBy c (a .operation)) (zeroingBy c (a .operation))
+    go true true true h k l = rw (h, k, l)
+    go true true false h k l = rw (h, k, l)
+    go true false near h k l = rw (h, k)
+    go false ready near h k l = rw h
 
 addressed-stages : (c : Controller) (place : ℕ) (p : Parts)
     → onDone (addressed (c .set) place p) (λ a. allowed c a)
     ≡ stagesOf (askedBy place p) (addressedBy (c .set) p) (codedBy p) (timedBy c (p .operation)) (zeroingBy c (p .operation))
 unfolding addressed addressedBy codedBy stagesOf onDone pick
-addressed-stages c place p = go (ours (c .set) (p .form)) (known (p .operation) && bare p)
+addressed-stages c place p = go (ours (c .set) (p .form)) (known (p .operation) && bare p) refl refl
   where
-    go : (us good : Bool)
-        → onDone (pick us (pick good (done (askedBy place p)) (refused R7 (place ∷ []))) (refused R5 (place ∷ []))) (λ a. allowed c a)
-        ≡ stagesOf (askedBy place p) (pick us A.Ours A.R5) (pick good C.Known C.R7) (timedBy c (p .operation)) (zeroingBy c (p .operation))
-    go true true = allowed-stages c (askedBy place p)
-    go true false = refl
-    go false good = refl
+    go : (us good : Bool) → ours (c .set) (p .form) ≡ us → (known (p .operation) && bare p) ≡ good
+        → onDone (addressed (c .set) place p) (λ a. allowed c a)
+        ≡ stagesOf (askedBy place p) (addressedBy (c .set) p) (codedBy p) (timedBy c (p .operation)) (zeroingBy c (p .operation))
+    go true true h k = rw (h, k) (allowed-stages c (askedBy place p))
+    go true false h k = rw (h, k)
+    go false good h k = rw h
 
 -- a request whose body was found is answered by its stages
 pub by-stages : (c : Controller) {s array : List ℕ} {place len : ℕ} {p : Parts} → Finds s array place len → p ≡ partsOf (take len array)

@@ -55,7 +55,7 @@ enum Zeroing {
     R4,
 }
 
-// A reply's data: at most four bytes, the places past them 0.
+// A reply's data: the first len of the bytes.
 struct ReplyData {
     bytes: [u8; 4],
     len: usize,
@@ -90,11 +90,12 @@ impl Controller {
         let Zeroing::Allowed = zero_stage(self, operation) else {
             return refused(self, RequestAnswer::R4(place));
         };
+        let next = zeroed_by(self, operation);
         let Wrote::Frame(sent) = write_reply(self, form, operation, reply) else {
             return refused(self, RequestAnswer::R8(place));
         };
         Requested {
-            next: zeroed_by(self, operation),
+            next,
             answer: RequestAnswer::Sent { place, len: sent },
         }
     }

@@ -13,7 +13,6 @@ use Rattle.controller.specs.declared.Controller.{Controller}
 use Rattle.controller.specs.declared.line.Addressed.the-variants as A
 use Rattle.controller.specs.declared.line.Coded.the-variants as C
 use Rattle.controller.specs.declared.line.Timed.the-variants as T
-use Rattle.controller.specs.declared.line.Zeroing.the-variants as Z
 use Rattle.controller.proofs.Lines.{Finds, found-body, not-unsplit, split-parts, askedBy, by-stages, ours-true, refuses, unread-refuses, no-room, sends}
 use Rattle.controller.proofs.Controller.request.Statement.{statement}
 use Rattle.controller.proofs.Controller.request.Tie as tie
@@ -216,9 +215,12 @@ returns-6 c =
     (staged p ∙ rw (is-ours (k .before .before .before), is-known k, in-time t, sym (a .zero-stage .ensures) ∙ c .before .enum-told9 .given .1))
     (c .refused6 .ensures .0) (ap saysReply (c .refused6 .ensures .1))
 
+zeroed-by-requires : tie.Need-zeroed-by-requires
+zeroed-by-requires c κs = search needs
+
 write-reply-requires : tie.Need-write-reply-requires
 write-reply-requires c κs =
-    let z = c .before in
+    let z = c .before .before in
     let p = at-zeroing z in
     record {
       sound = start (finds p) .pre;
@@ -239,12 +241,9 @@ returns-7 : tie.Need-returns-7
 unfolding replyFrame
 returns-7 c =
     let w = c .before .before .before .before in
-    let z = w .before .before in
+    let z = w .before .before .before in
     no-room _ _ _ (start (finds (at-zeroing z)) .pre) (w .write-reply .result) (is-asked z) (w .write-reply .ensures)
     (c .before .match7 .keys2) (c .refused7 .ensures .0) (ap saysReply (c .refused7 .ensures .1))
-
-zeroed-by-requires : tie.Need-zeroed-by-requires
-zeroed-by-requires c κs = search needs
 
 same-length-2 : tie.Need-same-length-2
 same-length-2 c = search needs
@@ -252,11 +251,12 @@ same-length-2 c = search needs
 returns-8 : tie.Need-returns-8
 unfolding replyFrame
 returns-8 c =
-    let s = c .before .before in
+    let s = c .before in
     let w = s .before .before .before .before in
-    let z = w .before .before in
+    let d = w .before .before in
+    let z = d .before in
     sends _ _ _ (start (finds (at-zeroing z)) .pre) (w .write-reply .result) (is-asked z) (w .write-reply .ensures)
-    (s .sent .given .1) (c .zeroed-by .ensures) refl
+    (s .sent .given .1) (d .zeroed-by .ensures) refl
 
 pub request-spec : {M : Type 1} → statement M
 request-spec =
@@ -294,11 +294,11 @@ request-spec =
     enum-told-9
     refused-requires-6
     returns-6
+    zeroed-by-requires
     write-reply-requires
     enum-known-sent
     refused-requires-7
     same-length
     returns-7
-    zeroed-by-requires
     same-length-2
     returns-8)
