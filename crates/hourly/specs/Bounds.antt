@@ -44,6 +44,11 @@ pub outside-missing : {s : List ℕ} (ls : List Line) (h : ℕ) → Accepted s l
 unfolding hourOf
 outside-missing ls h a o = rw (outside-off ls ls h o (a .within)) (pick-false _ _)
 
+-- of an empty journal every hour is missing
+pub empty-missing : (h : ℕ) → hourOf [] h ≡ Missing
+unfolding hourOf hasOn
+empty-missing h = pick-false _ _
+
 -- ---- what an hour's lines come to
 
 -- an hour has at most as many doses as there are lines, of at most 1,800,000 each
