@@ -68,15 +68,18 @@ unfolding samplesOf
 held-none w l = none-held (w .held) (w .samples) (omega arith)
 
 module _ (c : Controller) (n : ℕ) (s : Sound c) where
+  -- while no sample is held
   pub unweighed : c .window .held ≡ 0 → _≡_ {A = Weight} (record { value = pos 0; stable = false; over = false; point = c .set .point }) (weightBy c n)
   unfolding weightBy weightFrom
   unweighed h = rw (held-none (c .window) (s .places), eq-eqb (c .window .held) 0 h)
 
   module _ {f : Units} (m : f ≡ units (meanOf (take n (samplesOf (c .window))))) where
+    -- F and Z are so small that w is an i32
     pub mean-small : Small f (c .z)
     unfolding filtered
     mean-small = record { mean = rw m (filtered-within c s n); zero = s .zero }
 
+    -- while samples are held
     pub weighed : {w : Units} {value : ℤ} {stable over : Bool} → (c .window .held ≡ 0 → ⊥)
         → w ≡ units (f .v -ℤ c .z .v) → value ≡ w .v → stable ≡ stableOf (c .set) (c .s) → over ≡ overCapacity (c .set) (w .v)
         → _≡_ {A = Weight} (record { value = value; stable = stable; over = over; point = c .set .point }) (weightBy c n)
@@ -109,6 +112,7 @@ reply-framable set (Serial n) op values r h l =
     let size : length (bodyOf (Serial n) op values) ≡ 5 + length values = omega arith in
     simp (pick-true, le-leb 5 (length (bodyOf (Serial n) op values)) (omega arith), le-leb (length (bodyOf (Serial n) op values)) 254 (omega arith))
 
+-- a reply has at most four bytes of data
 pub data-most : {bytes : List ℕ} (r : ReplyData) → Holds bytes r → length bytes ≤ 4
 data-most r h =
     let size : length (take (r .len) (r .bytes)) ≡ r .len = length-take-le (r .len) (r .bytes) (omega (arith, h .full, h .small)) in
@@ -146,10 +150,12 @@ pub record Finds (s array : List ℕ) (place len : ℕ) : Type 0 where
   pub read : readOf s ≡ done (record { place = place; bytes = take len array })
   pub splits : splitOf (take len array) ≡ done (partsOf (take len array))
 
+-- a body that the reader hands over is long enough to be split
 whole-splits : (s : List ℕ) (f : Finished) → readOf s ≡ done f → splitOf (f .bytes) ≡ done (partsOf (f .bytes))
 unfolding splitOf
 whole-splits s f e = pick-f _ _ _ (done-whole s f e .long)
 
+-- what an answer that tells a value, or a refusal, was
 told-done : {X Y : Type 0} (f : X → Y) (a : Answer X) (y : Y) → done y ≡ told f a → {Q : Type 0} → ((x : X) → a ≡ done x → y ≡ f x → Q) → Q
 unfolding told
 told-done f (done x) y e go = go x refl (cc)
@@ -214,6 +220,7 @@ pub by-stages : (c : Controller) {s array : List ℕ} {place len : ℕ} {p : Par
 unfolding askedOf onDone
 by-stages c {place = place} {p = p} finds e = rw (finds .read, ← e) (addressed-stages c place p)
 
+-- what passed the stage of R5 is ours
 pub ours-true : (set : Settings) (p : Parts) → addressedBy set p ≡ A.Ours → ours set (p .form) ≡ true
 unfolding addressedBy pick
 ours-true set p e = go (ours set (p .form)) e

@@ -2,9 +2,9 @@ use mathlib.Core.Path.{_≡_, refl, sym, ap, _∙_}
 use mathlib.Core.Bool.{true}
 use native.Mathlib.Omega.{arith}
 use borrow.Author.Needs.{needs}
-use Rattle.laws.specs.Pick.{pick-t}
 use Rattle.paper.specs.Answer.{done}
 use Rattle.field.specs.Field.{writable, fieldOf, writeOf}
+use Rattle.field.specs.RoundTrip.{six-digits, point-most, written-small}
 use Rattle.field.specs.Says.{saysWritten}
 use Rattle.field.specs.declared.Weight.{Weight}
 use Rattle.controller.specs.Line.{fieldBytes}
@@ -13,8 +13,7 @@ use Rattle.controller.proofs.line.weight_data.Statement.{statement}
 use Rattle.controller.proofs.line.weight_data.Tie as tie
 
 written : (v : Weight) → writable v ≡ true → writeOf v ≡ done (fieldOf v)
-unfolding writeOf
-written v h = pick-t _ _ _ h
+written v h = written-small v (six-digits v h) (point-most v h)
 
 write-requires : tie.Need-write-requires
 write-requires c κs = search needs
