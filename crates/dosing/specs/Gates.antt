@@ -51,7 +51,7 @@ belongs al (DoseSettle wH n) = leb 2 al
 abbrev pub Scaled : ℤ → Units → Type 0
 Scaled z w = natAbs (w .v +ℤ z) ≤ 900000
 
--- what a phase keeps is bounded: each weight is one of the scale's, and a Settle or Calm has not reached tick 256*63
+-- what a phase keeps is bounded: each weight is one of the scale's, and a Settle or Calm is at most at tick 256*63
 abbrev pub Kept : ℤ → Phase → Type 0
 Kept z Ready = Unit {0}
 Kept z (Coarse w0) = Scaled z w0

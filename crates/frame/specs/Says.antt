@@ -1,11 +1,13 @@
 -- What the answers of the frame's writer and reader say, in the paper's words. Assumes nothing.
 use mathlib.Core.Path.{_≡_, refl, ap, ap₂}
+use mathlib.Core.Bool.{Bool}
 use mathlib.Core.List.{List, [], _∷_, _++_}
 use Prim.Native.Nat.{ℕ, _-_}
 use lib.ListN.{length, replicate}
 use Rattle.paper.specs.Answer.{Answer, done, refused, fault, told, bytesIn, Fills, Hands, same, fills-one, hands-one}
 use Rattle.paper.specs.Numbers.{R6, R8, R9, R14}
-use Rattle.frame.specs.Frame.{writeOf, echoOf}
+use Rattle.frame.specs.Check.{check}
+use Rattle.frame.specs.Frame.{framable, writeOf, echoOf}
 use Rattle.frame.specs.Read.{Finished, readOf}
 use Rattle.frame.specs.declared.Wrote.{Wrote}
 use Rattle.frame.specs.declared.Wrote.the-variants as W
@@ -76,6 +78,12 @@ pub record Reads (s : List ℕ) (r : Read) : Type 0 where
   pub holds : r .body ≡ bytesIn (told bytesOf (readOf s)) ++ replicate (255 - length (bytesIn (told bytesOf (readOf s)))) 0
 
 -- two results that both meet a call's contract are equal
+pub check-determined : (body : List ℕ) (a b : ℕ) → a ≡ check body → b ≡ check body → a ≡ b
+check-determined body a b p q = same p q
+
+pub framable-determined : (body : List ℕ) (a b : Bool) → a ≡ framable body → b ≡ framable body → a ≡ b
+framable-determined body a b p q = same p q
+
 pub write-determined : (body old new new' : List ℕ) (a b : Wrote)
     → Fills (saysWrote a) (writeOf body (length old)) old new → Fills (saysWrote b) (writeOf body (length old)) old new' → (a ≡ b) × (new ≡ new')
 write-determined body old new new' a b p q = (wrote-one a b (fills-one p q .0), fills-one p q .1)

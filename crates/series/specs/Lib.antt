@@ -6,3 +6,4 @@ pub mod Calls
 pub mod Records
 pub mod Lines
 pub mod Examples
+pub mod Reached
