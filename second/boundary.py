@@ -55,7 +55,7 @@ def alarm(over):
 
 def cases():
     yield 'settle, F constant', opens_on(lambda tick: 480)
-    yield 'settle, F changing', opens_on(lambda tick: 481 + tick)
+    yield 'settle, F changing', opens_on(lambda tick: 482 + tick)
     yield 'mismatches 63', mismatched(63)
     yield 'mismatches 64', mismatched(64)
     yield 'w C+9', alarm(9)

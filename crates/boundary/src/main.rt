@@ -91,7 +91,7 @@ fn at_settle() -> Ticked
 fn sample(changing: bool, tick: u32) -> i32
     requires { ⌜ tick ≤ 1000 ⌝ }
 {
-    if changing { (481 + tick) as i32 } else { 480 }
+    if changing { (482 + tick) as i32 } else { 480 }
 }
 
 // The tick of Settle on which output 3 opens; 0 where none does.

@@ -1,4 +1,4 @@
--- `Sound` hides nothing: for each phase of each algorithm and for both faults, some series of calls from the fresh controller reaches it. Assumes nothing.
+-- No phase is out of reach: for each phase of each algorithm and for both faults, some series of calls from the fresh controller reaches it. Assumes nothing.
 use mathlib.Core.Path.{_≡_, refl}
 use mathlib.Core.Bool.{Bool, true, false, xor}
 use mathlib.Core.List.{List, [], _∷_, _++_, map}
@@ -76,7 +76,7 @@ fills al =
     ∷ (begun al 50 ∷ ticks 1 0 8 ++ ticks 4 100 8)
     ∷ []
 
--- AL2 and AL3, with the link start on: Ready is met after a refused start, Load below D, Calm at M, and from 500 the coarse stage, the fine stage at 440 and Settle at 400
+-- AL2 and AL3: Ready after the restart; then with the link start on Load below D, Calm at M, and from 500 the coarse stage, the fine stage at 440 and Settle at 400
 abbrev doses : ℕ → List (List Event)
 doses al =
     (begun al 200 ∷ [])
