@@ -6,6 +6,7 @@ pub mod Sound
 pub mod Says
 pub mod Stages
 pub mod Cases
+pub mod LineCases
 pub mod Outside
 pub mod Made
 pub mod Parts
