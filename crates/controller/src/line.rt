@@ -310,15 +310,13 @@ fn write_reply(c: Controller, form: Form, operation: u8, reply: &mut [u8]) -> Wr
 }
 
 // C0 zeroes: Z becomes F, by p8.
-fn zeroed_by(c: Controller, operation: u8) -> Controller
+fn zeroed_by(mut c: Controller, operation: u8) -> Controller
     ensures { λ r. ⌜ r ≡ zeroedBy c operation ⌝ }
 {
     if operation != 0xC0 {
         return c;
     }
-    let set = c.set;
-    Controller {
-        z: mean_of(c.window, set.p8),
-        ..c
-    }
+    let f = mean_of(c.window, c.set.p8);
+    c.z = f;
+    c
 }

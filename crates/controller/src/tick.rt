@@ -247,21 +247,23 @@ fn runs_after(set: Settings, g: Gates, inputs: u8, runs: Runs) -> Runs
 }
 
 // From step 6 on: the lowest channel whose run reached 64 is F14, else the phase rule.
-fn steps6to8(c: Controller, start: bool, s: u32) -> Ticked
+fn steps6to8(mut c: Controller, start: bool, s: u32) -> Ticked
     requires { ⌜ Short (c .runs) × Weighs c (c .z) ⌝ }
     ensures { λ r. ⌜ Gives (steps6to8 c start s) r ⌝ }
 {
     let runs = runs_after(c.set, c.gates, c.inputs, c.runs);
-    let moved = Controller { s, runs, ..c };
+    c.s = s;
+    c.runs = runs;
     if Controller::MISMATCHES <= runs.one {
-        faulted(Fault::F14(1), moved)
-    } else if Controller::MISMATCHES <= runs.two {
-        faulted(Fault::F14(2), moved)
-    } else if Controller::MISMATCHES <= runs.three {
-        faulted(Fault::F14(3), moved)
-    } else {
-        step7(moved, start)
+        return faulted(Fault::F14(1), c);
     }
+    if Controller::MISMATCHES <= runs.two {
+        return faulted(Fault::F14(2), c);
+    }
+    if Controller::MISMATCHES <= runs.three {
+        return faulted(Fault::F14(3), c);
+    }
+    step7(c, start)
 }
 
 // p7 if output 1 was open before the tick, else p8.
@@ -319,23 +321,18 @@ fn kept(window: Window, x: Units) -> Window
 }
 
 // Steps 4 and 5, and those after: the sample and the inputs are kept, F, start and S.
-fn steps4and5(c: Controller, x: Units, inputs: u8) -> Ticked
+fn steps4and5(mut c: Controller, x: Units, inputs: u8) -> Ticked
     requires { ⌜ Takes c x ⌝ }
     ensures { λ r. ⌜ Gives (steps4and5 (withInputs inputs c) (x .v)) r ⌝ }
 {
-    let set = c.set;
-    let old = c.window;
-    let window = kept(old, x);
-    let f = mean_of(window, filter_of(set, c.gates));
-    let s = calm_run(old.held == 0, f, c.f, c.s);
-    let start = start_of(set, c.link, inputs);
-    let filtered = Controller {
-        window,
-        f,
-        inputs,
-        ..c
-    };
-    steps6to8(filtered, start, s)
+    let window = kept(c.window, x);
+    let f = mean_of(window, filter_of(c.set, c.gates));
+    let s = calm_run(c.window.held == 0, f, c.f, c.s);
+    let start = start_of(c.set, c.link, inputs);
+    c.window = window;
+    c.f = f;
+    c.inputs = inputs;
+    steps6to8(c, start, s)
 }
 
 // The sample is outside -900,000..900,000.
@@ -351,13 +348,13 @@ fn outside(x: Units) -> bool
 }
 
 // Step 3, and those after: the inputs are kept; a sample outside is F21 and is not kept.
-fn step3(c: Controller, x: Units, inputs: u8) -> Ticked
+fn step3(mut c: Controller, x: Units, inputs: u8) -> Ticked
     requires { ⌜ Sound c × (c .condition ≡ Condition.Clear) ⌝ }
     ensures { λ r. ⌜ Gives (step3 c (x .v) inputs) r ⌝ }
 {
     if outside(x) {
-        faulted(Fault::F21, Controller { inputs, ..c })
-    } else {
-        steps4and5(c, x, inputs)
+        c.inputs = inputs;
+        return faulted(Fault::F21, c);
     }
+    steps4and5(c, x, inputs)
 }
