@@ -70,16 +70,13 @@ impl Controller {
         ensures { λ r. ⌜ Sets self set r ⌝ }
     {
         let answer = set_answer(is_ready(self), set.check());
-        match answer {
-            SetAnswer::Taken => SetTo {
+        if let SetAnswer::Taken = answer {
+            return SetTo {
                 next: taken(set, self),
-                answer: answer,
-            },
-            SetAnswer::R3 | SetAnswer::R2(_) => SetTo {
-                next: self,
-                answer: answer,
-            },
+                answer,
+            };
         }
+        SetTo { next: self, answer }
     }
 
     // Puts count and total to 0 in Ready (R3).

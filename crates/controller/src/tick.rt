@@ -59,13 +59,13 @@ impl Controller {
             };
         }
         let condition = self.condition;
-        match condition {
-            Condition::Clear => step3(self, Units { v: sample }, inputs),
-            Condition::Faulted(why) => Ticked {
+        if let Condition::Faulted(why) = condition {
+            return Ticked {
                 next: self,
                 answer: TickAnswer::Fault(why),
-            },
+            };
         }
+        step3(self, Units { v: sample }, inputs)
     }
 }
 
@@ -103,12 +103,12 @@ fn changed(a: Gates, b: Gates) -> bool
     ensures { λ r. ⌜ r ≡ changed a b ⌝ }
 {
     if differ(a.one, b.one) {
-        true
-    } else if differ(a.two, b.two) {
-        true
-    } else {
-        differ(a.three, b.three)
+        return true;
     }
+    if differ(a.two, b.two) {
+        return true;
+    }
+    differ(a.three, b.three)
 }
 
 // If an output 1 to 3 changed, S becomes 0.
@@ -237,13 +237,12 @@ fn runs_after(set: Settings, g: Gates, inputs: u8, runs: Runs) -> Runs
     ensures { λ r. ⌜ r ≡ runsBy set g inputs runs ⌝ }
 {
     if set.algorithm == 0 {
-        runs
-    } else {
-        let one = run_after(set.in1, g.one, bit(inputs, 1), runs.one);
-        let two = run_after(set.in2, g.two, bit(inputs, 2), runs.two);
-        let three = run_after(set.in3, g.three, bit(inputs, 4), runs.three);
-        Runs { one, two, three }
+        return runs;
     }
+    let one = run_after(set.in1, g.one, bit(inputs, 1), runs.one);
+    let two = run_after(set.in2, g.two, bit(inputs, 2), runs.two);
+    let three = run_after(set.in3, g.three, bit(inputs, 4), runs.three);
+    Runs { one, two, three }
 }
 
 // From step 6 on: the lowest channel whose run reached 64 is F14, else the phase rule.
@@ -287,16 +286,15 @@ fn calm_run(first: bool, f: Units, previous: Units, s: u32) -> u32
     ensures { λ r. ⌜ r ≡ calmBy first f previous s ⌝ }
 {
     if first {
-        0
-    } else if equal(f, previous) {
-        if s < Controller::CALM_MOST {
-            s + 1
-        } else {
-            Controller::CALM_MOST
-        }
-    } else {
-        0
+        return 0;
     }
+    if !equal(f, previous) {
+        return 0;
+    }
+    if s < Controller::CALM_MOST {
+        return s + 1;
+    }
+    Controller::CALM_MOST
 }
 
 // Input 4 or the link start; in AL3 the link start alone.
@@ -304,12 +302,12 @@ fn start_of(set: Settings, link: bool, inputs: u8) -> bool
     ensures { λ r. ⌜ r ≡ startBy set link inputs ⌝ }
 {
     if link {
-        true
-    } else if 3 <= set.algorithm {
-        false
-    } else {
-        bit(inputs, 8)
+        return true;
     }
+    if 3 <= set.algorithm {
+        return false;
+    }
+    bit(inputs, 8)
 }
 
 // The sample is kept.
