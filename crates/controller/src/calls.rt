@@ -70,16 +70,13 @@ impl Controller {
         ensures { λ r. ⌜ Sets self set r ⌝ }
     {
         let answer = set_answer(is_ready(self), set.check());
-        match answer {
-            SetAnswer::Taken => SetTo {
+        if let SetAnswer::Taken = answer {
+            return SetTo {
                 next: taken(set, self),
-                answer: answer,
-            },
-            SetAnswer::R3 | SetAnswer::R2(_) => SetTo {
-                next: self,
-                answer: answer,
-            },
+                answer,
+            };
         }
+        SetTo { next: self, answer }
     }
 
     // Puts count and total to 0 in Ready (R3).
@@ -93,11 +90,11 @@ impl Controller {
                 answer: ResetAnswer::R3,
             };
         }
+        let none = Counters { count: 0, total: 0 };
+        let mut next = self;
+        next.counters = none;
         ResetTo {
-            next: Controller {
-                counters: Counters { count: 0, total: 0 },
-                ..self
-            },
+            next,
             answer: ResetAnswer::Done,
         }
     }
@@ -114,7 +111,9 @@ impl Controller {
         requires { ⌜ Sound self ⌝ }
         ensures { λ r. ⌜ Made (linkOf self on) r ⌝ }
     {
-        Controller { link: on, ..self }
+        let mut next = self;
+        next.link = on;
+        next
     }
 }
 
@@ -200,19 +199,19 @@ fn no_controller() -> Controller
 }
 
 // The filter is emptied, Z is 0 and the runs are cleared; all else is kept.
-fn taken(set: Settings, c: Controller) -> Controller
+fn taken(set: Settings, mut c: Controller) -> Controller
     ensures { λ r. ⌜ r ≡ taken set c ⌝ }
 {
+    let zero = Units { v: 0 };
     let emptied = Window::new();
-    Controller {
-        set: set,
-        window: emptied,
-        z: Units { v: 0 },
-        f: Units { v: 0 },
-        s: 0,
-        runs: no_runs(),
-        ..c
-    }
+    let runs = no_runs();
+    c.set = set;
+    c.window = emptied;
+    c.z = zero;
+    c.f = zero;
+    c.s = 0;
+    c.runs = runs;
+    c
 }
 
 // No mismatch yet.

@@ -144,15 +144,14 @@ fn is_ready(c: Controller) -> bool
     ensures { λ r. ⌜ r ≡ isReady c ⌝ }
 {
     let condition = c.condition;
-    let phase = c.phase;
     let Condition::Clear = condition else {
         return false;
     };
-    if let Phase::Ready = phase {
-        true
-    } else {
-        false
-    }
+    let phase = c.phase;
+    let Phase::Ready = phase else {
+        return false;
+    };
+    true
 }
 
 // The mean of the last n samples.

@@ -185,15 +185,13 @@ fn zeroable(c: Controller) -> bool
     requires { ⌜ Sound c ⌝ }
     ensures { λ r. ⌜ r ≡ zeroable c ⌝ }
 {
-    let set = c.set;
-    let window = c.window;
-    if 1 < set.algorithm {
+    if 1 < c.set.algorithm {
         return false;
     }
-    if window.held == 0 {
+    if c.window.held == 0 {
         return false;
     }
-    dosing::near_zero(set, mean_of(window, set.p8))
+    dosing::near_zero(c.set, mean_of(c.window, c.set.p8))
 }
 
 // R4: C0 where the zero cannot be taken.
@@ -215,10 +213,8 @@ fn weight_by(c: Controller, n: u32) -> Weight
     requires { ⌜ Sound c ⌝ }
     ensures { λ r. ⌜ r ≡ weightBy c n ⌝ }
 {
-    let set = c.set;
-    let window = c.window;
-    let point = set.point as u8;
-    if window.held == 0 {
+    let point = c.set.point as u8;
+    if c.window.held == 0 {
         return Weight {
             value: 0,
             stable: false,
@@ -226,9 +222,9 @@ fn weight_by(c: Controller, n: u32) -> Weight
             point,
         };
     }
-    let w = weight(mean_of(window, n), c.z);
-    let stable = stable_of(set, c.s);
-    let over = over_capacity(set, w);
+    let w = weight(mean_of(c.window, n), c.z);
+    let stable = stable_of(c.set, c.s);
+    let over = over_capacity(c.set, w);
     Weight {
         value: w.v,
         stable,
@@ -276,12 +272,11 @@ fn reply_data(c: Controller, operation: u8) -> ReplyData
     requires { ⌜ Sound c ⌝ }
     ensures { λ r. ⌜ Holds (replyData c operation) r ⌝ }
 {
-    let set = c.set;
     if operation == 0xC3 {
-        return weight_data(weight_by(c, set.p8));
+        return weight_data(weight_by(c, c.set.p8));
     }
     if operation == 0xC2 {
-        return weight_data(weight_by(c, set.p7));
+        return weight_data(weight_by(c, c.set.p7));
     }
     if operation == 0xC4 {
         return byte_data(c.inputs);
@@ -310,15 +305,13 @@ fn write_reply(c: Controller, form: Form, operation: u8, reply: &mut [u8]) -> Wr
 }
 
 // C0 zeroes: Z becomes F, by p8.
-fn zeroed_by(c: Controller, operation: u8) -> Controller
+fn zeroed_by(mut c: Controller, operation: u8) -> Controller
     ensures { λ r. ⌜ r ≡ zeroedBy c operation ⌝ }
 {
     if operation != 0xC0 {
         return c;
     }
-    let set = c.set;
-    Controller {
-        z: mean_of(c.window, set.p8),
-        ..c
-    }
+    let f = mean_of(c.window, c.set.p8);
+    c.z = f;
+    c
 }

@@ -59,13 +59,13 @@ impl Controller {
             };
         }
         let condition = self.condition;
-        match condition {
-            Condition::Clear => step3(self, Units { v: sample }, inputs),
-            Condition::Faulted(why) => Ticked {
+        if let Condition::Faulted(why) = condition {
+            return Ticked {
                 next: self,
                 answer: TickAnswer::Fault(why),
-            },
+            };
         }
+        step3(self, Units { v: sample }, inputs)
     }
 }
 
@@ -103,12 +103,12 @@ fn changed(a: Gates, b: Gates) -> bool
     ensures { λ r. ⌜ r ≡ changed a b ⌝ }
 {
     if differ(a.one, b.one) {
-        true
-    } else if differ(a.two, b.two) {
-        true
-    } else {
-        differ(a.three, b.three)
+        return true;
     }
+    if differ(a.two, b.two) {
+        return true;
+    }
+    differ(a.three, b.three)
 }
 
 // If an output 1 to 3 changed, S becomes 0.
@@ -237,31 +237,32 @@ fn runs_after(set: Settings, g: Gates, inputs: u8, runs: Runs) -> Runs
     ensures { λ r. ⌜ r ≡ runsBy set g inputs runs ⌝ }
 {
     if set.algorithm == 0 {
-        runs
-    } else {
-        let one = run_after(set.in1, g.one, bit(inputs, 1), runs.one);
-        let two = run_after(set.in2, g.two, bit(inputs, 2), runs.two);
-        let three = run_after(set.in3, g.three, bit(inputs, 4), runs.three);
-        Runs { one, two, three }
+        return runs;
     }
+    let one = run_after(set.in1, g.one, bit(inputs, 1), runs.one);
+    let two = run_after(set.in2, g.two, bit(inputs, 2), runs.two);
+    let three = run_after(set.in3, g.three, bit(inputs, 4), runs.three);
+    Runs { one, two, three }
 }
 
 // From step 6 on: the lowest channel whose run reached 64 is F14, else the phase rule.
-fn steps6to8(c: Controller, start: bool, s: u32) -> Ticked
+fn steps6to8(mut c: Controller, start: bool, s: u32) -> Ticked
     requires { ⌜ Short (c .runs) × Weighs c (c .z) ⌝ }
     ensures { λ r. ⌜ Gives (steps6to8 c start s) r ⌝ }
 {
     let runs = runs_after(c.set, c.gates, c.inputs, c.runs);
-    let moved = Controller { s, runs, ..c };
+    c.s = s;
+    c.runs = runs;
     if Controller::MISMATCHES <= runs.one {
-        faulted(Fault::F14(1), moved)
-    } else if Controller::MISMATCHES <= runs.two {
-        faulted(Fault::F14(2), moved)
-    } else if Controller::MISMATCHES <= runs.three {
-        faulted(Fault::F14(3), moved)
-    } else {
-        step7(moved, start)
+        return faulted(Fault::F14(1), c);
     }
+    if Controller::MISMATCHES <= runs.two {
+        return faulted(Fault::F14(2), c);
+    }
+    if Controller::MISMATCHES <= runs.three {
+        return faulted(Fault::F14(3), c);
+    }
+    step7(c, start)
 }
 
 // p7 if output 1 was open before the tick, else p8.
@@ -285,16 +286,15 @@ fn calm_run(first: bool, f: Units, previous: Units, s: u32) -> u32
     ensures { λ r. ⌜ r ≡ calmBy first f previous s ⌝ }
 {
     if first {
-        0
-    } else if equal(f, previous) {
-        if s < Controller::CALM_MOST {
-            s + 1
-        } else {
-            Controller::CALM_MOST
-        }
-    } else {
-        0
+        return 0;
     }
+    if !equal(f, previous) {
+        return 0;
+    }
+    if s < Controller::CALM_MOST {
+        return s + 1;
+    }
+    Controller::CALM_MOST
 }
 
 // Input 4 or the link start; in AL3 the link start alone.
@@ -302,12 +302,12 @@ fn start_of(set: Settings, link: bool, inputs: u8) -> bool
     ensures { λ r. ⌜ r ≡ startBy set link inputs ⌝ }
 {
     if link {
-        true
-    } else if 3 <= set.algorithm {
-        false
-    } else {
-        bit(inputs, 8)
+        return true;
     }
+    if 3 <= set.algorithm {
+        return false;
+    }
+    bit(inputs, 8)
 }
 
 // The sample is kept.
@@ -319,23 +319,18 @@ fn kept(window: Window, x: Units) -> Window
 }
 
 // Steps 4 and 5, and those after: the sample and the inputs are kept, F, start and S.
-fn steps4and5(c: Controller, x: Units, inputs: u8) -> Ticked
+fn steps4and5(mut c: Controller, x: Units, inputs: u8) -> Ticked
     requires { ⌜ Takes c x ⌝ }
     ensures { λ r. ⌜ Gives (steps4and5 (withInputs inputs c) (x .v)) r ⌝ }
 {
-    let set = c.set;
-    let old = c.window;
-    let window = kept(old, x);
-    let f = mean_of(window, filter_of(set, c.gates));
-    let s = calm_run(old.held == 0, f, c.f, c.s);
-    let start = start_of(set, c.link, inputs);
-    let filtered = Controller {
-        window,
-        f,
-        inputs,
-        ..c
-    };
-    steps6to8(filtered, start, s)
+    let window = kept(c.window, x);
+    let f = mean_of(window, filter_of(c.set, c.gates));
+    let s = calm_run(c.window.held == 0, f, c.f, c.s);
+    let start = start_of(c.set, c.link, inputs);
+    c.window = window;
+    c.f = f;
+    c.inputs = inputs;
+    steps6to8(c, start, s)
 }
 
 // The sample is outside -900,000..900,000.
@@ -351,13 +346,13 @@ fn outside(x: Units) -> bool
 }
 
 // Step 3, and those after: the inputs are kept; a sample outside is F21 and is not kept.
-fn step3(c: Controller, x: Units, inputs: u8) -> Ticked
+fn step3(mut c: Controller, x: Units, inputs: u8) -> Ticked
     requires { ⌜ Sound c × (c .condition ≡ Condition.Clear) ⌝ }
     ensures { λ r. ⌜ Gives (step3 c (x .v) inputs) r ⌝ }
 {
     if outside(x) {
-        faulted(Fault::F21, Controller { inputs, ..c })
-    } else {
-        steps4and5(c, x, inputs)
+        c.inputs = inputs;
+        return faulted(Fault::F21, c);
     }
+    steps4and5(c, x, inputs)
 }

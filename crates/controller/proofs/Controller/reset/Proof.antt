@@ -21,9 +21,8 @@ returns c =
 returns-2 : tie.Need-returns-2
 unfolding resetOf resetAnswer after pick
 returns-2 c =
-    let b = c .before .before .before .before .before .before in
-    let p = b .before .before in
-    let e : isReady (p .args .self) ≡ true = so (b .before .is-ready .ensures) (not-false _ (b .if1 .left)) in
+    let p = c .before .before in
+    let e : isReady (p .args .self) ≡ true = so (c .before .is-ready .ensures) (not-false _ (c .if1 .left)) in
     resets (p .args .self) (p .pre) (rw e) (rw e)
 
 pub reset-spec : {M : Type 1} → statement M

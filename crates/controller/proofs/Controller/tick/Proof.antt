@@ -11,12 +11,6 @@ returns c =
     let a = c .before .args in
     tick-refused (a .self) _ (a .inputs) (c .before .pre) (omega arith) (record { next = refl; says = refl })
 
-enum-told : tie.Need-enum-told
-enum-told c = search needs
-
-step3-requires : tie.Need-step3-requires
-step3-requires c κs = search needs
-
 enum-known-condition : tie.Need-enum-known-condition
 enum-known-condition c = search needs
 
@@ -24,13 +18,19 @@ returns-2 : tie.Need-returns-2
 returns-2 c =
     let d = c .before .before .before .before in
     let a = d .args in
-    tick-clear (a .self) _ (a .inputs) (d .pre) (omega arith) (c .before .enum-told .given .1) (rw (toZ-ofZ (d .fits .sample)) at (c .step3 .ensures))
+    tick-fault (a .self) _ (a .inputs) _ (d .pre) (omega arith) (c .before .condition .given .1) (record { next = refl; says = refl })
+
+enum-told : tie.Need-enum-told
+enum-told c = search needs
+
+step3-requires : tie.Need-step3-requires
+step3-requires c κs = search needs
 
 returns-3 : tie.Need-returns-3
 returns-3 c =
     let d = c .before .before .before .before in
     let a = d .args in
-    tick-fault (a .self) _ (a .inputs) _ (d .pre) (omega arith) (c .before .condition .given .1) (record { next = refl; says = refl })
+    tick-clear (a .self) _ (a .inputs) (d .pre) (omega arith) (c .before .enum-told .given .1) (rw (toZ-ofZ (d .fits .sample)) at (c .step3 .ensures))
 
 pub tick-spec : {M : Type 1} → statement M
-tick-spec = tie.close (tie.spec returns enum-told step3-requires enum-known-condition returns-2 returns-3)
+tick-spec = tie.close (tie.spec returns enum-known-condition returns-2 enum-told step3-requires returns-3)

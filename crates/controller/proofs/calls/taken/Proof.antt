@@ -11,7 +11,7 @@ no-runs-requires c κs = search needs
 
 returns : tie.Need-returns
 unfolding taken
-returns c = simp (c .before .before .before .new .ensures, c .before .before .no-runs .ensures)
+returns c = simp (c .before .new .ensures, c .no-runs .ensures)
 
 pub taken-spec : {M : Type 1} → statement M
 taken-spec = tie.close (tie.spec new-requires no-runs-requires returns)

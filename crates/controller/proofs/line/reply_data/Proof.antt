@@ -10,7 +10,7 @@ weight-by-requires : tie.Need-weight-by-requires
 weight-by-requires c κs = search needs
 
 weight-data-requires : tie.Need-weight-data-requires
-weight-data-requires c κs = let p = c .before .before .before in rw (c .weight-by .ensures) (weight-writable (p .args .c) _ (p .pre))
+weight-data-requires c κs = let p = c .before .before in rw (c .weight-by .ensures) (weight-writable (p .args .c) _ (p .pre))
 
 returns : tie.Need-returns
 unfolding replyData
@@ -22,7 +22,7 @@ weight-by-requires-2 : tie.Need-weight-by-requires-2
 weight-by-requires-2 c κs = search needs
 
 weight-data-requires-2 : tie.Need-weight-data-requires-2
-weight-data-requires-2 c κs = let p = c .before .before .before .before in rw (c .weight-by2 .ensures) (weight-writable (p .args .c) _ (p .pre))
+weight-data-requires-2 c κs = let p = c .before .before .before in rw (c .weight-by2 .ensures) (weight-writable (p .args .c) _ (p .pre))
 
 returns-2 : tie.Need-returns-2
 unfolding replyData

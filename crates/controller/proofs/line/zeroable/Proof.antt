@@ -13,7 +13,7 @@ returns-2 : tie.Need-returns-2
 unfolding zeroable
 returns-2 c =
     let b = c .before .before in
-    let p = b .before .before .before .before in
+    let p = b .before .before in
     simp (le-leb _ _ (b .if1 .left), held-none (p .args .c .window) (p .pre .places), eq-eqb _ _ (c .if2 .taken))
 
 mean-of-requires : tie.Need-mean-of-requires
@@ -27,7 +27,7 @@ unfolding zeroable filtered
 returns-3 c =
     let d = c .before .before in
     let b = d .before .before in
-    let p = b .before .before .before .before in
+    let p = b .before .before in
     simp (le-leb _ _ (b .if1 .left), held-none (p .args .c .window) (p .pre .places), ne-eqb _ _ (d .if2 .left), c .near-zero .ensures, c .before .mean-of .ensures)
 
 pub zeroable-spec : {M : Type 1} → statement M

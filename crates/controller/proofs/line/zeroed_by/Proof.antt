@@ -15,8 +15,7 @@ mean-of-requires c κs = search needs
 returns-2 : tie.Need-returns-2
 unfolding zeroedBy filtered
 returns-2 c =
-    let m = c .before .before .before .before .before .before in
-    simp (eq-eqb _ _ (m .before .before .if1 .left), pick-true, m .mean-of .ensures)
+    simp (eq-eqb _ _ (c .before .if1 .left), pick-true, c .mean-of .ensures)
 
 pub zeroed-by-spec : {M : Type 1} → statement M
 zeroed-by-spec = tie.close (tie.spec returns mean-of-requires returns-2)

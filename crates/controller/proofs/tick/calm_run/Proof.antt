@@ -1,3 +1,4 @@
+use borrow.Author.Tests.{not-true, not-false}
 use borrow.Author.Needs.{needs}
 use Rattle.laws.specs.Pick.{picks, so}
 use Rattle.controller.specs.Parts.{calmBy}
@@ -16,15 +17,15 @@ returns c = search picks
 
 returns-2 : tie.Need-returns-2
 unfolding calmBy
-returns-2 c = search (picks, so (c .before .before .equal .ensures) (c .before .if2 .taken))
+returns-2 c = search (picks, so (c .before .equal .ensures) (not-true _ (c .if2 .taken)))
 
 returns-3 : tie.Need-returns-3
 unfolding calmBy
-returns-3 c = search (picks, so (c .before .before .equal .ensures) (c .before .if2 .taken))
+returns-3 c = search (picks, so (c .before .before .equal .ensures) (not-false _ (c .before .if2 .left)))
 
 returns-4 : tie.Need-returns-4
 unfolding calmBy
-returns-4 c = search (picks, so (c .before .equal .ensures) (c .if2 .left))
+returns-4 c = search (picks, so (c .before .before .equal .ensures) (not-false _ (c .before .if2 .left)))
 
 pub calm-run-spec : {M : Type 1} → statement M
-calm-run-spec = tie.close (tie.spec equal-requires add-result returns returns-2 returns-3 returns-4)
+calm-run-spec = tie.close (tie.spec returns equal-requires returns-2 add-result returns-3 returns-4)

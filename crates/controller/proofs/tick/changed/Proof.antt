@@ -30,4 +30,4 @@ returns-3 c =
     simp (so (d .before .differ .ensures) (d .if1 .left), so (c .before .before .differ2 .ensures) (c .before .if2 .left), c .differ3 .ensures)
 
 pub changed-spec : {M : Type 1} → statement M
-changed-spec = tie.close (tie.spec differ-requires differ-requires-2 differ-requires-3 returns returns-2 returns-3)
+changed-spec = tie.close (tie.spec differ-requires returns differ-requires-2 returns-2 differ-requires-3 returns-3)

@@ -48,11 +48,11 @@ pub runs-after-spec : {M : Type 1} → statement M
 runs-after-spec =
     tie.close
     (tie.spec
+    returns
     bit-requires
     run-after-requires
     bit-requires-2
     run-after-requires-2
     bit-requires-3
     run-after-requires-3
-    returns
     returns-2)

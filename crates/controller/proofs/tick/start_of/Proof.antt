@@ -26,4 +26,4 @@ returns-3 c =
     simp (d .if1 .left, lt-leb 3 (d .before .args .set .algorithm) (omega arith), c .bit .ensures)
 
 pub start-of-spec : {M : Type 1} → statement M
-start-of-spec = tie.close (tie.spec bit-requires returns returns-2 returns-3)
+start-of-spec = tie.close (tie.spec returns returns-2 bit-requires returns-3)

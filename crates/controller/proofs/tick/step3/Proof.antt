@@ -18,11 +18,10 @@ steps4and5-requires c κs =
 
 returns : tie.Need-returns
 returns c =
-    let d = c .before .before .before .before .before .before .before .before in
-    step3-outside _ _ _ (so (d .before .outside .ensures) (d .if1 .taken)) (c .faulted .ensures)
+    step3-outside _ _ _ (so (c .before .before .outside .ensures) (c .before .if1 .taken)) (c .faulted .ensures)
 
 returns-2 : tie.Need-returns-2
 returns-2 c = step3-inside _ _ _ (so (c .before .before .outside .ensures) (c .before .if1 .left)) (c .steps4and5 .ensures)
 
 pub step3-spec : {M : Type 1} → statement M
-step3-spec = tie.close (tie.spec outside-requires faulted-requires steps4and5-requires returns returns-2)
+step3-spec = tie.close (tie.spec outside-requires faulted-requires returns steps4and5-requires returns-2)

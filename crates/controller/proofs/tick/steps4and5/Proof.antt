@@ -20,19 +20,19 @@ start-of-requires c κs = search needs
 
 steps6to8-requires : tie.Need-steps6to8-requires
 steps6to8-requires c κs =
-    let m = c .before .before .before .before .before .before .before .before in
+    let m = c .before .before .before in
     let k = m .before .before in
-    let d = k .before .before .before in (
+    let d = k .before in (
       runs-short _ (d .pre .sound) (d .pre .clear),
       mean-weighs (d .args .c) _ _ (m .before .filter-of .result) (d .pre .sound) (d .pre .inside) (k .kept .ensures) (m .mean-of .ensures),
     )
 
 returns : tie.Need-returns
 returns c =
-    let o = c .before .before .before .before .before .before in
+    let o = c .before in
     let m = o .before .before .before in
     let k = m .before .before in
-    let d = k .before .before .before in
+    let d = k .before in
     kept-first (d .args .c) _ _ (d .pre .sound .places) (k .kept .ensures) (m .before .filter-of .ensures) (m .mean-of .ensures) (o .before .calm-run .ensures) (o .start-of .ensures) (c .steps6to8 .ensures)
 
 pub steps4and5-spec : {M : Type 1} → statement M
