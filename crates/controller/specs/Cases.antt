@@ -1,33 +1,173 @@
--- Ticks on numbers. Assumes nothing.
+-- Ticks, settings, resets and restarts on numbers. Assumes nothing.
 use mathlib.Core.Path.{_≡_, refl}
 use mathlib.Core.Bool.{Bool, true, false, _||_, _&&_, xor, not}
-use mathlib.Core.List.{List, [], _∷_}
+use mathlib.Core.List.{List, [], _∷_, _++_, map}
 use Prim.Native.Nat.{ℕ}
 use lib.IntN.{ℤ, pos, negsuc}
+use lib.ListN.{replicate}
 use Rattle.laws.specs.Pick.{pick}
 use Rattle.paper.specs.Answer.{Answer, done, refused, fault, onDone}
-use Rattle.paper.specs.Numbers.{R1, F14, F21}
+use Rattle.paper.specs.Numbers.{R1, R2, R3, R15, F14, F21}
 use Rattle.settings.specs.Table.{firstBad, firstFrom, table, inRange, leastLevel, mostLevel, defaultSet, Wc, Wf}
 use Rattle.settings.specs.declared.Settings.{Settings}
+use Rattle.settings.specs.Cases.{setOf}
 use Rattle.window.specs.Mean.{meanOf, roundAway, nearest, sum}
 use Rattle.window.specs.Window.{samplesOf, pushOf, emptyWindow}
 use Rattle.dosing.specs.Rules.{stepOf, ready, readyToFill, readyToDose, waits, zeroed, nearZero, fillBegins, coarseStage, fineStage, fill, full, hold, settle, settleEnds, dischargeOpens, discharge, amountOf, load, calm, doseCoarse, doseFine, doseSettle, reachedWf, reachedWc, notBelowZero}
-use Rattle.controller.specs.State.{restarted}
-use Rattle.controller.specs.Tick.{Result, Told, tickOf, step2, step3, steps4and5, steps6to8, mismatched, runsAfter, runAfter, expected, step7, step8, seenOf, wOf, stableOf, filterOf, equalZ, none, calmRun, startOf, outside, faulted, saysFault, outputsOf, worth, input, overCapacity, changed, countersAfter, countedOf, recordsOf}
-use Rattle.controller.specs.Calls.{freshOf}
+use Rattle.dosing.specs.Rules.{units, gates}
+use Rattle.dosing.specs.declared.Dose.the-variants.{Complete}
+use Rattle.controller.specs.State.{counters, restarted, withZ, withS, withAlarm, withLink, withInputs}
+use Rattle.controller.specs.Tick.{Result, Told, still, tickOf, step2, step3, steps4and5, steps6to8, mismatched, runsAfter, runAfter, expected, step7, step8, seenOf, wOf, stableOf, filterOf, equalZ, none, calmRun, startOf, outside, faulted, saysFault, outputsOf, worth, input, overCapacity, changed, countersAfter, countedOf, recordsOf}
+use Rattle.controller.specs.Calls.{atReady, readyIn, isReady, storedBad, restartOf, freshOf, taken, settingsAnswer, after, settingsOf, resetAnswer, resetOf, linkOf}
 use Rattle.controller.specs.declared.Controller.{Controller}
+use Rattle.controller.specs.declared.Record.{Record}
 
 -- the answers of the fresh controller to a series of samples and inputs
 unfoldable pub answers : Controller → List (ℤ × ℕ) → List (Answer Told)
 answers c [] = []
 answers c (t ∷ ts) = let r = tickOf c (t .0) (t .1) in r .answer ∷ answers (r .next) ts
 
+-- the last of them
+unfoldable pub lastOf : Answer Told → List (Answer Told) → Answer Told
+lastOf a [] = a
+lastOf a (b ∷ bs) = lastOf b bs
+
+-- the controller after them
+unfoldable pub ticked : Controller → List (ℤ × ℕ) → Controller
+ticked c [] = c
+ticked c (t ∷ ts) = ticked (tickOf c (t .0) (t .1) .next) ts
+
+-- to unfold this is to unfold every rule of these calls
+unfoldable pub rules : Unit {0}
+unfolding lastOf ticked setOf restartOf storedBad onDone firstBad firstFrom table inRange leastLevel mostLevel settingsOf settingsAnswer after taken resetOf resetAnswer isReady readyIn atReady linkOf xor answers freshOf restarted defaultSet tickOf step2 step3 steps4and5 steps6to8 mismatched runsAfter runAfter expected step7 step8 seenOf wOf stableOf filterOf equalZ none calmRun startOf outside faulted saysFault outputsOf worth input overCapacity changed countersAfter countedOf recordsOf stepOf ready readyToFill readyToDose waits zeroed nearZero fillBegins coarseStage fineStage fill full hold settle settleEnds dischargeOpens discharge amountOf load calm doseCoarse doseFine doseSettle reachedWf reachedWc notBelowZero Wc Wf samplesOf pushOf emptyWindow meanOf roundAway nearest sum pick
+rules = tt
+
 abbrev outputs : ℕ → Answer Told
 outputs n = done (record { outputs = n; doses = [] })
+
+abbrev last : Controller → List (ℤ × ℕ) → Answer Told
+last c ts = lastOf (refused 0 []) (answers c ts)
+
+-- an algorithm with its M and levels: C 1,000, D 500, Pc 100, Pf 20, p7 4, p8 8, p9 1
+abbrev set : ℕ → ℕ → ℕ → Settings
+set algorithm m level = setOf (algorithm ∷ 1000 ∷ 500 ∷ 100 ∷ 20 ∷ m ∷ 4 ∷ 8 ∷ 1 ∷ 0 ∷ 0 ∷ level ∷ level ∷ level ∷ 1 ∷ 0 ∷ 0 ∷ [])
+
+abbrev box : ℕ → ℕ → ℕ → Controller
+box algorithm m level = restarted (set algorithm m level) 0 0
 
 -- the default set in AL0: start opens gate 1, at 100 it holds, start off is Ready; inputs above 15; a sample outside is F21 for good
 pub fresh-ticks :
     answers freshOf ((pos 0, 0) ∷ (pos 0, 8) ∷ (pos 50, 8) ∷ (pos 400, 8) ∷ (pos 9999, 8) ∷ (pos 0, 16) ∷ (pos 40000, 0) ∷ (pos 900001, 3) ∷ (pos 0, 0) ∷ [])
     ≡ outputs 0 ∷ outputs 1 ∷ outputs 1 ∷ outputs 0 ∷ outputs 0 ∷ refused R1 [] ∷ outputs 8 ∷ fault F21 [] ∷ fault F21 [] ∷ []
-unfolding answers freshOf restarted defaultSet tickOf step2 step3 steps4and5 steps6to8 mismatched runsAfter runAfter expected step7 step8 seenOf wOf stableOf filterOf equalZ none calmRun startOf outside faulted saysFault outputsOf worth input overCapacity changed countersAfter countedOf recordsOf stepOf ready readyToFill readyToDose waits zeroed nearZero fillBegins coarseStage fineStage fill full hold settle settleEnds dischargeOpens discharge amountOf load calm doseCoarse doseFine doseSettle reachedWf reachedWc notBelowZero Wc Wf samplesOf pushOf emptyWindow meanOf roundAway nearest sum pick
+unfolding rules
 fresh-ticks = refl
+
+-- inputs of 15 and a sample of 900,000 are taken; R1 stands before a fault
+pub edges :
+    (answers freshOf ((pos 900000, 15) ∷ []) ≡ outputs 8 ∷ [])
+    × (answers freshOf ((pos 900001, 3) ∷ (pos 0, 16) ∷ (pos 0, 3) ∷ []) ≡ fault F21 [] ∷ refused R1 [] ∷ fault F21 [] ∷ [])
+unfolding rules
+edges = (refl, refl)
+
+-- the inputs of the tick that ends in F21 are kept, its sample is not; later ones in the fault are not
+pub kept-in-F21 : (ticked freshOf ((pos 5, 1) ∷ (pos 900001, 3) ∷ (pos 7, 2) ∷ []) .inputs ≡ 3) × (samplesOf (ticked freshOf ((pos 5, 1) ∷ (pos 900001, 3) ∷ (pos 7, 2) ∷ []) .window) ≡ pos 5 ∷ [])
+unfolding rules
+kept-in-F21 = (refl, refl)
+
+-- n is p8 while output 1 is shut, in the fine stage too: 480 after four 0 is 240; 720 in the fine stage is no 480
+pub filter-by-p8 :
+    (last (box 1 50 1) (replicate 4 (pos 0, 0) ++ replicate 3 (pos 480, 0) ++ (pos 480, 8) ∷ []) ≡ outputs 1)
+    × (last (box 1 50 1) ((pos 0, 8) ∷ replicate 4 (pos 400, 8)) ≡ outputs 2)
+    × (last (box 1 50 1) ((pos 0, 8) ∷ replicate 4 (pos 400, 8) ++ (pos 720, 8) ∷ []) ≡ outputs 2)
+unfolding rules
+filter-by-p8 = (refl, refl, refl)
+
+-- S: 0 on the first tick, one more on each tick of the same F, 0 on another F and where an output moves; it stops at 4,032
+pub calm-runs :
+    (ticked (box 1 50 1) ((pos 0, 0) ∷ []) .s ≡ 0)
+    × (ticked (box 1 50 1) (replicate 65 (pos 300, 0)) .s ≡ 64)
+    × (ticked (box 1 50 1) (replicate 65 (pos 300, 0) ++ (pos 308, 0) ∷ []) .s ≡ 0)
+    × (ticked (box 1 50 1) (replicate 65 (pos 300, 0) ++ (pos 300, 8) ∷ []) .s ≡ 0)
+    × (ticked (withS 4031 (ticked (box 1 50 1) ((pos 300, 0) ∷ []))) ((pos 300, 0) ∷ []) .s ≡ 4032)
+    × (ticked (withS 4032 (ticked (box 1 50 1) ((pos 300, 0) ∷ []))) ((pos 300, 0) ∷ []) .s ≡ 4032)
+unfolding rules
+calm-runs = (refl, refl, refl, refl, refl, refl)
+
+-- stable means S >= 64*p9
+pub stable-at :
+    (stableOf (set 1 50 1) 63 ≡ false)
+    × (stableOf (set 1 50 1) 64 ≡ true)
+    × (stableOf (setOf (1 ∷ 1000 ∷ 500 ∷ 100 ∷ 20 ∷ 50 ∷ 4 ∷ 8 ∷ 63 ∷ [])) 4031 ≡ false)
+    × (stableOf (setOf (1 ∷ 1000 ∷ 500 ∷ 100 ∷ 20 ∷ 50 ∷ 4 ∷ 8 ∷ 63 ∷ [])) 4032 ≡ true)
+unfolding rules
+stable-at = (refl, refl, refl, refl)
+
+-- start is input 4 or the link start; in AL3 the link start alone
+pub starts :
+    (last (box 0 50 1) ((pos 0, 8) ∷ []) ≡ outputs 1)
+    × (last (linkOf (box 0 50 1) true) ((pos 0, 0) ∷ []) ≡ outputs 1)
+    × (last (linkOf (box 1 50 1) true) ((pos 0, 0) ∷ []) ≡ outputs 1)
+    × (last (linkOf (linkOf (box 1 50 1) true) false) ((pos 0, 7) ∷ []) ≡ outputs 0)
+    × (last (box 2 800 1) ((pos 500, 8) ∷ []) ≡ outputs 3)
+    × (last (linkOf (box 2 800 1) true) ((pos 500, 0) ∷ []) ≡ outputs 3)
+    × (last (box 3 800 1) ((pos 500, 8) ∷ []) ≡ outputs 0)
+    × (last (linkOf (box 3 800 1) true) ((pos 500, 0) ∷ []) ≡ outputs 3)
+unfolding rules
+starts = (refl, refl, refl, refl, refl, refl, refl, refl)
+
+-- a match puts a run to 0; the lowest of the channels at 64 is named; the outputs are those before the tick; each channel has its level; AL0 does not look
+pub runs :
+    (last (box 1 50 0) (replicate 63 (pos 0, 5) ++ (pos 0, 7) ∷ replicate 63 (pos 0, 5)) ≡ outputs 0)
+    × (last (box 1 50 0) (replicate 64 (pos 0, 0)) ≡ fault F14 (1 ∷ []))
+    × (last (box 1 50 0) (replicate 64 (pos 0, 1)) ≡ fault F14 (2 ∷ []))
+    × (last (box 1 50 0) (replicate 64 (pos 0, 3)) ≡ fault F14 (3 ∷ []))
+    × (last (box 1 50 1) (replicate 63 (pos 0, 1) ++ (pos 0, 9) ∷ []) ≡ fault F14 (1 ∷ []))
+    × (last (restarted (setOf (1 ∷ 1000 ∷ 500 ∷ 100 ∷ 20 ∷ 50 ∷ 4 ∷ 8 ∷ 1 ∷ 0 ∷ 0 ∷ 1 ∷ 0 ∷ 1 ∷ 1 ∷ [])) 0 0) (replicate 64 (pos 0, 2)) ≡ outputs 0)
+    × (last (restarted (setOf (1 ∷ 1000 ∷ 500 ∷ 100 ∷ 20 ∷ 50 ∷ 4 ∷ 8 ∷ 1 ∷ 0 ∷ 0 ∷ 0 ∷ 1 ∷ 1 ∷ 1 ∷ [])) 0 0) (replicate 64 (pos 0, 1)) ≡ outputs 0)
+    × (last (box 0 50 0) (replicate 64 (pos 0, 0)) ≡ outputs 0)
+unfolding rules
+runs = (refl, refl, refl, refl, refl, refl, refl, refl)
+
+-- output 4: w = C+9 is no alarm, C+10 is; the dose record says how Settle ended
+pub told-at :
+    (last (box 1 50 1) ((pos 1009, 0) ∷ []) ≡ outputs 0)
+    × (last (box 1 50 1) ((pos 1010, 0) ∷ []) ≡ outputs 8)
+    × (recordsOf (counters 5 9) (Complete 3 false) ≡ record { count = 5; amount = 3; settled = false } ∷ [])
+    × (countersAfter (counters 999999 999999998) (Complete 3 false) ≡ counters 0 1)
+unfolding rules
+told-at = (refl, refl, refl, refl)
+
+-- a fault, AL0's Fill and hold, AL2's Load and Calm
+abbrev busy : List Controller
+busy =
+    ticked freshOf ((pos 900001, 0) ∷ [])
+    ∷ ticked freshOf ((pos 0, 8) ∷ [])
+    ∷ ticked freshOf ((pos 100, 8) ∷ [])
+    ∷ ticked (box 2 800 1) ((pos 0, 0) ∷ [])
+    ∷ ticked (box 2 800 1) ((pos 0, 0) ∷ (pos 1600, 0) ∷ [])
+    ∷ []
+
+-- they are not Ready, and R3 stands before R2
+pub not-ready :
+    (map (λ c. settingsOf c (setOf []) .answer) busy ≡ replicate 5 (refused R3 []))
+    × (map (λ c. resetOf c .answer) busy ≡ replicate 5 (refused R3 []))
+    × (settingsOf freshOf (setOf (4 ∷ [])) .answer ≡ refused R2 (1 ∷ []))
+    × (resetOf freshOf .answer ≡ done tt)
+unfolding rules
+not-ready = (refl, refl, refl, refl)
+
+-- a set is taken as at a restart, but for counters, link start, inputs and output 4, which are kept: from a box with Z, S, runs and samples
+pub set-taken :
+    settingsOf (withZ (units (pos 5)) (withAlarm true (linkOf (ticked (restarted (set 1 50 0) 7 9) (replicate 3 (pos 60, 5))) true))) (set 2 800 1)
+    ≡ record { next = withLink true (withAlarm true (withInputs 5 (restarted (set 2 800 1) 7 9))); answer = done tt }
+unfolding rules
+set-taken = refl
+
+-- R2 before R15; the greatest stored numbers, and each one above
+pub restarts :
+    (restartOf (setOf (4 ∷ [])) 1000000 1000000000 ≡ refused R2 (1 ∷ []))
+    × (restartOf defaultSet 999999 999999999 ≡ done (restarted defaultSet 999999 999999999))
+    × (restartOf defaultSet 1000000 0 ≡ refused R15 [])
+    × (restartOf defaultSet 0 1000000000 ≡ refused R15 [])
+unfolding rules
+restarts = (refl, refl, refl, refl)

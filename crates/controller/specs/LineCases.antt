@@ -1,43 +1,36 @@
 -- Requests, the filter's two lengths, level 0 and samples below 0, run on numbers. Assumes nothing.
 use mathlib.Core.Path.{_≡_, refl}
-use mathlib.Core.Bool.{Bool, true, false, xor, not, _&&_, _||_}
+use mathlib.Core.Bool.{true, false}
 use mathlib.Core.List.{List, [], _∷_, _++_}
 use Prim.Native.Nat.{ℕ}
-use lib.IntN.{ℤ, pos, negsuc}
+use lib.IntN.{pos, negsuc}
 use lib.ListN.{replicate}
-use Rattle.laws.specs.Pick.{pick}
-use Rattle.paper.specs.Answer.{Answer, done, refused, fault, onDone}
-use Rattle.paper.specs.Numbers.{R5, R7, R8, F14, F21}
+use Rattle.paper.specs.Answer.{Answer, done, refused, fault}
+use Rattle.paper.specs.Numbers.{R3, R4, R5, R7, R8, F14, F21}
 use Rattle.settings.specs.Cases.{setOf}
-use Rattle.settings.specs.Table.{defaultSet, Wc, Wf}
-use Rattle.window.specs.Mean.{meanOf, roundAway, nearest, sum}
-use Rattle.window.specs.Window.{samplesOf, pushOf, emptyWindow}
-use Rattle.field.specs.Field.{fieldOf, bcdOf, conOf, bitOf, negative}
+use Rattle.field.specs.Field.{weight, fieldOf, bcdOf, conOf, bitOf, negative}
 use Rattle.frame.specs.Check.{check, enterAll, enter, enterBits, enterBit, fellOut}
 use Rattle.frame.specs.Frame.{frame, sent, sentByte, extended}
 use Rattle.frame.specs.Read.{readOf, readAll, run, step, grown, answerOf, judged, bad, tooShort}
 use Rattle.message.specs.Message.{partsOf, formOf, addressLength, bodyOf, addressBytes}
-use Rattle.dosing.specs.Rules.{stepOf, ready, readyToFill, readyToDose, waits, zeroed, nearZero, fillBegins, coarseStage, fineStage, fill, full, hold, settle, settleEnds, dischargeOpens, discharge, amountOf, load, calm, doseCoarse, doseFine, doseSettle, reachedWf, reachedWc, notBelowZero}
-use Rattle.controller.specs.State.{restarted}
-use Rattle.controller.specs.Tick.{Result, Told, tickOf, step2, step3, steps4and5, steps6to8, mismatched, runsAfter, runAfter, expected, step7, step8, seenOf, wOf, stableOf, filterOf, equalZ, none, calmRun, startOf, outside, faulted, saysFault, outputsOf, worth, input, overCapacity, changed, countersAfter, countedOf, recordsOf}
-use Rattle.controller.specs.Calls.{freshOf, isReady, readyIn, atReady}
+use Rattle.dosing.specs.Rules.{units, gates}
+use Rattle.controller.specs.State.{restarted, withZ, withS, withGates, withAlarm}
+use Rattle.controller.specs.Tick.{Told}
+use Rattle.controller.specs.Calls.{freshOf}
 use Rattle.controller.specs.Line.{Replied, filtered, weightFrom, weightBy, ours, known, bare, addressed, zeroable, allowed, askedOf, fieldBytes, replyData, replyFrame, zeroedBy, replied, repliesTo, requestOf}
-use Rattle.controller.specs.Cases.{answers}
+use Rattle.controller.specs.Cases.{answers, lastOf, ticked, rules}
 use Rattle.controller.specs.declared.Controller.{Controller}
-
-unfoldable pub lastOf : Answer Told → List (Answer Told) → Answer Told
-lastOf a [] = a
-lastOf a (b ∷ bs) = lastOf b bs
-
-unfoldable pub ticked : Controller → List (ℤ × ℕ) → Controller
-ticked c [] = c
-ticked c (t ∷ ts) = ticked (tickOf c (t .0) (t .1) .next) ts
 
 -- AL0, p7 4, p8 8, address 1, serial 030201h, two places: eight samples of 0, then four of 100 with inputs 1 and 3 on
 unfoldable pub box : Controller
 box =
     ticked (restarted (setOf (0 ∷ 10000 ∷ 100 ∷ 0 ∷ 0 ∷ 100 ∷ 4 ∷ 8 ∷ 1 ∷ 0 ∷ 0 ∷ 0 ∷ 0 ∷ 0 ∷ 1 ∷ 0x030201 ∷ 2 ∷ [])) 7 9)
     (replicate 8 (pos 0, 0) ++ replicate 4 (pos 100, 5))
+
+-- to unfold this is to unfold every rule of a request, and of the calls before it
+unfoldable requests : Unit {0}
+unfolding rules box requestOf repliesTo replied askedOf addressed allowed zeroable ours known bare replyFrame replyData fieldBytes zeroedBy filtered weightFrom weightBy readOf readAll run step grown answerOf judged bad tooShort extended partsOf formOf addressLength bodyOf addressBytes frame sent sentByte check enterAll enter enterBits enterBit fellOut fieldOf bcdOf conOf bitOf negative
+requests = tt
 
 abbrev asked : List ℕ → ℕ → Answer Replied
 asked s room = requestOf box s room .answer
@@ -54,7 +47,7 @@ pub accepted :
     × (asked (0xFF ∷ 0x00 ∷ 0x01 ∷ 0x02 ∷ 0x03 ∷ 0xC3 ∷ 0xFF ∷ 0xFE ∷ 0xFF ∷ 0xFF ∷ []) 20 ≡ reply 9 (0xFF ∷ 0x00 ∷ 0x01 ∷ 0x02 ∷ 0x03 ∷ 0xC3 ∷ 0x50 ∷ 0x00 ∷ 0x00 ∷ 0x02 ∷ 0x13 ∷ 0xFF ∷ 0xFF ∷ []))
     × (asked (0xFF ∷ 0x01 ∷ 0xC3 ∷ 0xE3 ∷ 0xFF ∷ 0xFF ∷ []) 10 ≡ reply 5 (0xFF ∷ 0x01 ∷ 0xC3 ∷ 0x50 ∷ 0x00 ∷ 0x00 ∷ 0x02 ∷ 0x7F ∷ 0xFF ∷ 0xFF ∷ []))
     × (asked (0xFF ∷ 0x01 ∷ 0xC0 ∷ 0x58 ∷ 0xFF ∷ 0xFF ∷ []) 6 ≡ reply 5 (0xFF ∷ 0x01 ∷ 0xC0 ∷ 0x58 ∷ 0xFF ∷ 0xFF ∷ []))
-unfolding answers lastOf ticked box setOf requestOf repliesTo replied askedOf addressed allowed zeroable ours known bare replyFrame replyData fieldBytes zeroedBy filtered weightFrom weightBy isReady readyIn atReady onDone readOf readAll run step grown answerOf judged bad tooShort extended partsOf formOf addressLength bodyOf addressBytes frame sent sentByte check enterAll enter enterBits enterBit fellOut fieldOf bcdOf conOf bitOf negative xor freshOf restarted defaultSet tickOf step2 step3 steps4and5 steps6to8 mismatched runsAfter runAfter expected step7 step8 seenOf wOf stableOf filterOf equalZ none calmRun startOf outside faulted saysFault outputsOf worth input overCapacity changed countersAfter countedOf recordsOf stepOf ready readyToFill readyToDose waits zeroed nearZero fillBegins coarseStage fineStage fill full hold settle settleEnds dischargeOpens discharge amountOf load calm doseCoarse doseFine doseSettle reachedWf reachedWc notBelowZero Wc Wf samplesOf pushOf emptyWindow meanOf roundAway nearest sum pick
+unfolding requests
 accepted = (refl, refl, refl, refl, refl, refl, refl)
 
 -- another address, another operation code, data, a buffer one byte too short for C3 and for C0
@@ -64,13 +57,21 @@ pub turned-down :
     × (asked (0xFF ∷ 0x01 ∷ 0xC3 ∷ 0x07 ∷ 0xE1 ∷ 0xFF ∷ 0xFF ∷ []) 20 ≡ refused R7 (6 ∷ []))
     × (asked (0xFF ∷ 0x01 ∷ 0xC3 ∷ 0xE3 ∷ 0xFF ∷ 0xFF ∷ []) 9 ≡ refused R8 (5 ∷ []))
     × (asked (0xFF ∷ 0x01 ∷ 0xC0 ∷ 0x58 ∷ 0xFF ∷ 0xFF ∷ []) 5 ≡ refused R8 (5 ∷ []))
-unfolding answers lastOf ticked box setOf requestOf repliesTo replied askedOf addressed allowed zeroable ours known bare replyFrame replyData fieldBytes zeroedBy filtered weightFrom weightBy isReady readyIn atReady onDone readOf readAll run step grown answerOf judged bad tooShort extended partsOf formOf addressLength bodyOf addressBytes frame sent sentByte check enterAll enter enterBits enterBit fellOut fieldOf bcdOf conOf bitOf negative xor freshOf restarted defaultSet tickOf step2 step3 steps4and5 steps6to8 mismatched runsAfter runAfter expected step7 step8 seenOf wOf stableOf filterOf equalZ none calmRun startOf outside faulted saysFault outputsOf worth input overCapacity changed countersAfter countedOf recordsOf stepOf ready readyToFill readyToDose waits zeroed nearZero fillBegins coarseStage fineStage fill full hold settle settleEnds dischargeOpens discharge amountOf load calm doseCoarse doseFine doseSettle reachedWf reachedWc notBelowZero Wc Wf samplesOf pushOf emptyWindow meanOf roundAway nearest sum pick
+unfolding requests
 turned-down = (refl, refl, refl, refl, refl)
 
 -- after C0 the weight is 0
 pub zeroed-by-C0 : requestOf (requestOf box (0xFF ∷ 0x01 ∷ 0xC0 ∷ 0x58 ∷ 0xFF ∷ 0xFF ∷ []) 6 .next) (0xFF ∷ 0x01 ∷ 0xC3 ∷ 0xE3 ∷ 0xFF ∷ 0xFF ∷ []) 20 .answer ≡ reply 5 (0xFF ∷ 0x01 ∷ 0xC3 ∷ 0x00 ∷ 0x00 ∷ 0x00 ∷ 0x02 ∷ 0x06 ∷ 0xFF ∷ 0xFF ∷ [])
-unfolding answers lastOf ticked box setOf requestOf repliesTo replied askedOf addressed allowed zeroable ours known bare replyFrame replyData fieldBytes zeroedBy filtered weightFrom weightBy isReady readyIn atReady onDone readOf readAll run step grown answerOf judged bad tooShort extended partsOf formOf addressLength bodyOf addressBytes frame sent sentByte check enterAll enter enterBits enterBit fellOut fieldOf bcdOf conOf bitOf negative xor freshOf restarted defaultSet tickOf step2 step3 steps4and5 steps6to8 mismatched runsAfter runAfter expected step7 step8 seenOf wOf stableOf filterOf equalZ none calmRun startOf outside faulted saysFault outputsOf worth input overCapacity changed countersAfter countedOf recordsOf stepOf ready readyToFill readyToDose waits zeroed nearZero fillBegins coarseStage fineStage fill full hold settle settleEnds dischargeOpens discharge amountOf load calm doseCoarse doseFine doseSettle reachedWf reachedWc notBelowZero Wc Wf samplesOf pushOf emptyWindow meanOf roundAway nearest sum pick
+unfolding requests
 zeroed-by-C0 = refl
+
+-- C0 to address 1; its reply is the same bytes
+abbrev C0 : List ℕ
+C0 = 0xFF ∷ 0x01 ∷ 0xC0 ∷ 0x58 ∷ 0xFF ∷ 0xFF ∷ []
+
+-- AL2 with D 500 and M 800
+abbrev al2 : Controller
+al2 = restarted (setOf (2 ∷ 1000 ∷ 500 ∷ 100 ∷ 20 ∷ 800 ∷ 4 ∷ 8 ∷ 1 ∷ 0 ∷ 0 ∷ 0 ∷ 0 ∷ 0 ∷ 1 ∷ 0 ∷ 0 ∷ [])) 0 0
 
 abbrev nothing : Answer Told
 nothing = refused 0 []
@@ -89,5 +90,52 @@ pub ticks :
     × (lastOf nothing (answers low (replicate 63 (pos 0, 5))) ≡ outputs 0)
     × (lastOf nothing (answers low (replicate 64 (pos 0, 5))) ≡ fault F14 (2 ∷ []))
     × (lastOf nothing (answers low (replicate 64 (pos 0, 7))) ≡ outputs 0)
-unfolding answers lastOf ticked box setOf requestOf repliesTo replied askedOf addressed allowed zeroable ours known bare replyFrame replyData fieldBytes zeroedBy filtered weightFrom weightBy isReady readyIn atReady onDone readOf readAll run step grown answerOf judged bad tooShort extended partsOf formOf addressLength bodyOf addressBytes frame sent sentByte check enterAll enter enterBits enterBit fellOut fieldOf bcdOf conOf bitOf negative xor freshOf restarted defaultSet tickOf step2 step3 steps4and5 steps6to8 mismatched runsAfter runAfter expected step7 step8 seenOf wOf stableOf filterOf equalZ none calmRun startOf outside faulted saysFault outputsOf worth input overCapacity changed countersAfter countedOf recordsOf stepOf ready readyToFill readyToDose waits zeroed nearZero fillBegins coarseStage fineStage fill full hold settle settleEnds dischargeOpens discharge amountOf load calm doseCoarse doseFine doseSettle reachedWf reachedWc notBelowZero Wc Wf samplesOf pushOf emptyWindow meanOf roundAway nearest sum pick
+unfolding requests
 ticks = (refl, refl, refl, refl, refl)
+
+-- another serial, the operation codes on both sides of C2..C5; the order R5, R7, R3, R4, R8
+pub order :
+    (asked (0xFF ∷ 0x00 ∷ 0x02 ∷ 0x02 ∷ 0x03 ∷ 0xC3 ∷ 0xF0 ∷ 0xFF ∷ 0xFF ∷ []) 20 ≡ refused R5 (8 ∷ []))
+    × (asked (0xFF ∷ 0x01 ∷ 0xC6 ∷ 0x47 ∷ 0xFF ∷ 0xFF ∷ []) 20 ≡ refused R7 (5 ∷ []))
+    × (asked (0xFF ∷ 0x01 ∷ 0xBF ∷ 0xCB ∷ 0xFF ∷ 0xFF ∷ []) 20 ≡ refused R7 (5 ∷ []))
+    -- another address and another operation code
+    × (asked (0xFF ∷ 0x02 ∷ 0xC1 ∷ 0x34 ∷ 0xFF ∷ 0xFF ∷ []) 0 ≡ refused R5 (5 ∷ []))
+    -- C0 in AL0's Fill: with data, and without
+    × (requestOf (ticked freshOf ((pos 0, 8) ∷ [])) (0xFF ∷ 0x01 ∷ 0xC0 ∷ 0x07 ∷ 0xE4 ∷ 0xFF ∷ 0xFF ∷ []) 0 .answer ≡ refused R7 (6 ∷ []))
+    × (requestOf (ticked freshOf ((pos 0, 8) ∷ [])) C0 0 .answer ≡ refused R3 (5 ∷ []))
+    -- C0 in a fault, in AL2's Load, in AL2's Ready, with no sample, and at F = M
+    × (requestOf (ticked freshOf ((pos 0, 0) ∷ (pos 900001, 0) ∷ [])) C0 6 .answer ≡ refused R3 (5 ∷ []))
+    × (requestOf (ticked al2 ((pos 0, 0) ∷ [])) C0 6 .answer ≡ refused R3 (5 ∷ []))
+    × (requestOf (ticked al2 ((pos 500, 0) ∷ [])) C0 0 .answer ≡ refused R4 (5 ∷ []))
+    × (requestOf freshOf C0 6 .answer ≡ refused R4 (5 ∷ []))
+    × (requestOf (ticked freshOf ((pos 100, 0) ∷ [])) C0 6 .answer ≡ refused R4 (5 ∷ []))
+    × (requestOf (ticked freshOf ((pos 99, 0) ∷ [])) C0 5 .answer ≡ refused R8 (5 ∷ []))
+    × (requestOf (ticked freshOf ((pos 99, 0) ∷ [])) C0 6 .answer ≡ reply 5 C0)
+unfolding requests
+order = (refl, refl, refl, refl, refl, refl, refl, refl, refl, refl, refl, refl, refl)
+
+-- with no sample held weight and flags are 0 and the point is sent; stable by S; over by the weight of this reply; below 0; in a fault both flags are as before
+pub weights :
+    (weightBy (restarted (setOf (0 ∷ 10000 ∷ 100 ∷ 0 ∷ 0 ∷ 100 ∷ 4 ∷ 8 ∷ 1 ∷ 0 ∷ 0 ∷ 0 ∷ 0 ∷ 0 ∷ 1 ∷ 0 ∷ 2 ∷ [])) 0 0) 8 ≡ weight (pos 0) false false 2)
+    × (weightBy (withZ (units (pos 5)) (withS 64 freshOf)) 4 ≡ weight (pos 0) false false 0)
+    × (weightBy (ticked freshOf (replicate 64 (pos 7, 0))) 4 ≡ weight (pos 7) false false 0)
+    × (weightBy (ticked freshOf (replicate 65 (pos 7, 0))) 4 ≡ weight (pos 7) true false 0)
+    × (weightBy (ticked freshOf (replicate 65 (pos 7, 0) ++ (pos 900001, 0) ∷ [])) 4 ≡ weight (pos 7) true false 0)
+    × (weightBy (ticked box (replicate 4 (pos 19000, 5))) 8 ≡ weight (pos 9550) false false 2)
+    × (weightBy (ticked box (replicate 4 (pos 19000, 5))) 4 ≡ weight (pos 19000) false true 2)
+    × (weightBy (ticked freshOf ((pos 10009, 0) ∷ [])) 4 ≡ weight (pos 10009) false false 0)
+    × (weightBy (ticked freshOf ((pos 10010, 0) ∷ [])) 4 ≡ weight (pos 10010) false true 0)
+    × (weightBy (ticked freshOf ((negsuc 4, 0) ∷ [])) 4 ≡ weight (negsuc 4) false false 0)
+unfolding requests
+weights = (refl, refl, refl, refl, refl, refl, refl, refl, refl, refl)
+
+-- C5: output i is bit i-1; C4 and C5 after a restart, and after a sample outside
+pub bytes-sent :
+    (replyData (withGates (gates true false true) (withAlarm true freshOf)) 0xC5 ≡ 13 ∷ [])
+    × (replyData (withGates (gates false true false) freshOf) 0xC5 ≡ 2 ∷ [])
+    × (replyData freshOf 0xC5 ≡ 0 ∷ [])
+    × (replyData freshOf 0xC4 ≡ 0 ∷ [])
+    × (replyData (ticked freshOf ((pos 900001, 3) ∷ [])) 0xC5 ≡ 8 ∷ [])
+    × (replyData (ticked freshOf ((pos 900001, 3) ∷ [])) 0xC4 ≡ 3 ∷ [])
+unfolding requests
+bytes-sent = (refl, refl, refl, refl, refl, refl)

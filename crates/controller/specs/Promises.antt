@@ -11,7 +11,7 @@ use borrow.Author.Tests.{le-leb}
 use Rattle.laws.specs.Pick.{pick, pick-all}
 use Rattle.laws.specs.Whole.{true-false}
 use Rattle.paper.specs.Answer.{Answer, done, refused, fault, onDone}
-use Rattle.paper.specs.Numbers.{R15}
+use Rattle.paper.specs.Numbers.{R3, R15}
 use Rattle.settings.specs.declared.Settings.{Settings}
 use Rattle.settings.specs.Table.{firstBad, defaultSet, default-good}
 use Rattle.settings.specs.Good.{good-ranges}
@@ -22,15 +22,16 @@ use Rattle.dosing.specs.Rules.{shut, stepOf}
 use Rattle.dosing.specs.Gates.{gatesOf, fillingOpen, emptyingOpen}
 use Rattle.dosing.specs.Ways.{pick-if}
 use Rattle.dosing.specs.Laws.{ready-shut, never-both, over-unfilled, step-amount}
+use Rattle.dosing.specs.declared.Units.{Units}
 use Rattle.dosing.specs.declared.Phase.the-variants.{Ready}
 use Rattle.dosing.specs.declared.Dose.{Dose}
 use Rattle.dosing.specs.declared.Dose.the-variants.{Nothing, Complete}
-use Rattle.controller.specs.State.{counters, restarted}
+use Rattle.controller.specs.State.{counters, restarted, withZ, withAlarm, withLink, withInputs}
 use Rattle.controller.specs.Tick.{Result, Told, saysFault, faulted, overCapacity, countersAfter, recordsOf, step8, step7, seenOf, wOf, none, tickOf, step2}
 use Rattle.controller.specs.Calls.{isReady, storedBad, restartOf, freshOf, taken, after, settingsAnswer, settingsOf, resetAnswer, resetOf, linkOf}
 use Rattle.controller.specs.Line.{filtered, weightFrom, weightBy, Asked, Replied, askedOf, replyFrame, zeroedBy, replied, repliesTo, requestOf}
 use Rattle.controller.specs.Sound.{Sound, Abandoned}
-use Rattle.controller.specs.Done.{refused-done, fault-done, done-refused, fault-refused, on-done, failed}
+use Rattle.controller.specs.Done.{refused-done, fault-done, done-refused, fault-refused, on-done, passed, failed}
 use Rattle.controller.specs.Bounds.{weight-within, clear-faulted, ready-is}
 use Rattle.controller.specs.Ways.{tick-ways}
 use Rattle.controller.specs.Keeps.{after-most}
@@ -218,6 +219,34 @@ replies-still c room a h =
 pub request-still : (c : Controller) (bytes : List ℕ) (room : ℕ) (a : Asked) → askedOf c bytes ≡ done a → eqb (a .operation) 0xC0 ≡ false → requestOf c bytes room .next ≡ c
 unfolding requestOf repliesTo
 request-still c bytes room a e h = rw e (replies-still c room a h)
+
+-- ---- what a call changes
+
+as-restarted : (c : Controller) (set : Settings) → c .condition ≡ Clear → c .phase ≡ Ready → c .gates ≡ shut → taken set c ≡ withLink (c .link) (withAlarm (c .alarm) (withInputs (c .inputs) (restarted set (c .counters .count) (c .counters .total))))
+unfolding taken restarted
+as-restarted c set a b g = rw (a, b, g)
+
+-- a set is taken as at a restart, but for counters, link start, inputs and output 4, which are kept
+pub settings-taken : (c : Controller) (set : Settings) → Sound c → settingsOf c set .answer ≡ done tt → settingsOf c set .next ≡ withLink (c .link) (withAlarm (c .alarm) (withInputs (c .inputs) (restarted set (c .counters .count) (c .counters .total))))
+unfolding settingsOf settingsAnswer after
+settings-taken c set s e =
+    let p = passed (isReady c) (firstBad set) R3 [] tt e in
+    let r = ready-is c (p .0) in
+    rw e (as-restarted c set (r .0) (r .1) (ready-gates c s (p .0)))
+
+replies-zero : (c : Controller) (room : ℕ) (a : Answer Asked) → (z : Units) × (repliesTo c room a .next ≡ withZ z c)
+unfolding repliesTo replied zeroedBy
+replies-zero c room (done a) =
+    pick-all (λ (r : Result Replied). (z : Units) × (r .next ≡ withZ z c)) _
+    (pick-all (λ (d : Controller). (z : Units) × (d ≡ withZ z c)) _ (_, refl) (c .z, refl))
+    (c .z, refl)
+replies-zero c room (refused n vs) = (c .z, refl)
+replies-zero c room (fault n vs) = (c .z, refl)
+
+-- a request changes Z at most
+pub request-zero : (c : Controller) (bytes : List ℕ) (room : ℕ) → (z : Units) × (requestOf c bytes room .next ≡ withZ z c)
+unfolding requestOf
+request-zero c bytes room = replies-zero c room (askedOf c bytes)
 
 -- ---- counters
 

@@ -3,7 +3,7 @@ use mathlib.Core.Path.{_≡_, refl}
 use Prim.Native.Nat.{ℕ}
 use mathlib.Core.Bool.{Bool, true, false, _&&_, not}
 use mathlib.Core.List.{List, [], _∷_, _++_}
-use lib.ListN.{length, getD}
+use lib.ListN.{length, getD, replicate}
 use lib.Dec.{leb, eqb}
 use Rattle.laws.specs.Pick.{pick}
 use Rattle.paper.specs.Answer.{Answer, done, refused, inRoom}
@@ -53,3 +53,16 @@ pub cases :
     × (writeOf (0x00 ∷ 1 ∷ 2 ∷ 3 ∷ []) 9 ≡ refused R14 [])
 unfolding writeOf framable fewest extended inRoom frame sent sentByte check enterAll enter enterBits enterBit fellOut pick
 cases = (refl, refl, refl, refl, refl, refl)
+
+-- R14 at its edges: a first FF; one byte and two, 254 and 255; four bytes and five behind a first 0; 0 alone
+pub edges :
+    (framable (0xFF ∷ 0xC3 ∷ []) ≡ false)
+    × (framable (0x01 ∷ []) ≡ false)
+    × (framable (0x01 ∷ 0xC3 ∷ []) ≡ true)
+    × (framable (replicate 254 0x01) ≡ true)
+    × (framable (replicate 255 0x01) ≡ false)
+    × (framable (0 ∷ 1 ∷ 2 ∷ 3 ∷ []) ≡ false)
+    × (framable (0 ∷ 1 ∷ 2 ∷ 3 ∷ 0xC3 ∷ []) ≡ true)
+    × (framable [] ≡ false)
+unfolding framable fewest extended pick
+edges = (refl, refl, refl, refl, refl, refl, refl, refl)

@@ -3,7 +3,7 @@ use mathlib.Core.Path.{_≡_, refl}
 use Prim.Native.Nat.{ℕ, zero, suc}
 use mathlib.Core.Bool.{Bool, true, false, _||_, not}
 use mathlib.Core.List.{List, [], _∷_, _++_}
-use lib.ListN.{length}
+use lib.ListN.{length, replicate}
 use lib.Dec.{ltb, eqb}
 use Rattle.laws.specs.Pick.{pick}
 use Rattle.paper.specs.Answer.{Answer, done, refused}
@@ -91,3 +91,27 @@ pub cases :
     × (readOf (0xFF ∷ 0x01 ∷ 0xC3 ∷ 0xE2 ∷ 0xFF ∷ 0xFF ∷ []) ≡ refused R6 (5 ∷ []))
 unfolding readOf readAll run step grown answerOf judged bad tooShort extended check enterAll enter enterBits enterBit fellOut pick
 cases = (refl, refl, refl, refl, refl, refl, refl, refl)
+
+-- the last FF before a body: of two FF the second, and behind a dropped body the one that dropped it; FE while seeking a first byte is skipped
+pub places :
+    (readOf (0xFF ∷ 0xFF ∷ 5 ∷ []) ≡ refused R9 (1 ∷ []))
+    × (readOf (0xFF ∷ 0xFF ∷ 0xFE ∷ []) ≡ refused R9 (1 ∷ []))
+    × (readOf (0xFF ∷ 9 ∷ 0xFF ∷ 5 ∷ []) ≡ refused R9 (2 ∷ []))
+    × (readOf (0xFF ∷ 9 ∷ 0xFF ∷ 5 ∷ 0xFF ∷ []) ≡ refused R9 (2 ∷ []))
+    × (readOf (0xFF ∷ 0xFE ∷ 0x01 ∷ 0xC3 ∷ 0xE3 ∷ 0xFF ∷ 0xFF ∷ []) ≡ finished 6 (0x01 ∷ 0xC3 ∷ 0xE3 ∷ []))
+    × (readOf (0xFF ∷ 0x01 ∷ 0xC3 ∷ 0xE3 ∷ 0xFF ∷ 0xFF ∷ 0x02 ∷ 0xC3 ∷ 0xE6 ∷ 0xFF ∷ 0xFF ∷ []) ≡ finished 5 (0x01 ∷ 0xC3 ∷ 0xE3 ∷ []))
+    × (readOf (0xFF ∷ 0x02 ∷ 0xC3 ∷ 0xE6 ∷ 0xFF ∷ 0xFF ∷ []) ≡ finished 5 (0x02 ∷ 0xC3 ∷ 0xE6 ∷ []))
+unfolding readOf readAll run step grown answerOf judged bad tooShort extended check enterAll enter enterBits enterBit fellOut pick
+places = (refl, refl, refl, refl, refl, refl, refl)
+
+-- 255 body bytes are a body, the 256th drops it, and so does an FF FE there; then an FF is sought again
+pub longest :
+    (readOf (0xFF ∷ replicate 255 1) ≡ refused R9 (0 ∷ []))
+    × (readOf (0xFF ∷ (replicate 255 1 ++ 0xFF ∷ 0xFF ∷ [])) ≡ finished 257 (replicate 255 1))
+    × (readOf (0xFF ∷ replicate 256 1) ≡ refused R9 (257 ∷ []))
+    × (readOf (0xFF ∷ (replicate 256 1 ++ 0xFF ∷ 0xFF ∷ [])) ≡ refused R9 (258 ∷ []))
+    × (readOf (0xFF ∷ (replicate 255 1 ++ 0xFF ∷ 0xFE ∷ [])) ≡ refused R9 (258 ∷ []))
+    × (readOf (0xFF ∷ (replicate 255 1 ++ 0xFF ∷ 5 ∷ [])) ≡ refused R9 (256 ∷ []))
+    × (readOf (0xFF ∷ (replicate 254 1 ++ 0xFF ∷ 0xFE ∷ [])) ≡ refused R9 (0 ∷ []))
+unfolding readOf readAll run step grown answerOf judged bad tooShort extended check enterAll enter enterBits enterBit fellOut pick
+longest = (refl, refl, refl, refl, refl, refl, refl)

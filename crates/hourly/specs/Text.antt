@@ -3,6 +3,7 @@ use mathlib.Core.Path.{_≡_, refl}
 use mathlib.Core.Bool.{Bool, true, false}
 use mathlib.Core.List.{List, [], _∷_, _++_, map}
 use Prim.Native.Nat.{ℕ, zero, suc, _+_, _-_}
+use lib.IntN.{pos}
 use lib.ListN.{length}
 use lib.Ieee.{Float, binary64, toBits, div, ofInt}
 use Rattle.laws.specs.Pick.{pick}
@@ -11,6 +12,7 @@ use Rattle.paper.specs.Answer.{Answer, onDone, inRoom}
 use Rattle.journal.specs.Line.{LF, TAB}
 use Rattle.journal.specs.Journal.{journalOf, firstHour, lastHour, hourIn, example}
 use Rattle.journal.specs.declared.Line.{Line}
+use Rattle.journal.specs.declared.Line.the-variants.{Dose, On}
 use Rattle.hourly.specs.Hours.{hourOf, measuredOrIdle, hasOn, isOn, amountsAt, doseAt, total, greatest, figuresOf, inFloat}
 use Rattle.hourly.specs.declared.Hour.{Hour}
 use Rattle.hourly.specs.declared.Hour.the-variants.{Measured, Idle, Missing}
@@ -89,3 +91,18 @@ pub row-bytes :
     × (rowText 13 idle ≡ 49 ∷ 51 ∷ 9 ∷ 73 ∷ 10 ∷ [])
 unfolding rowText decimal digitsOf glyph hexOf pick
 row-bytes = (refl, refl)
+
+-- a closing D without its H is missing; two D lines of an hour without an H too; hour 0; the mean of three amounts, rounded once
+pub closing-rows : rowsOf (On 0 ∷ Dose 2 1 1 1 ∷ Dose 2 2 1 1 ∷ Dose 2 3 0 1 ∷ On 2 ∷ Dose 3 4 9 1 ∷ Dose 3 5 9 1 ∷ [])
+    ≡ printed 0 idle ∷ printed 1 missing ∷ printed 2 (measured 3 2 0x3FE5555555555555) ∷ printed 3 missing ∷ []
+unfolding rowsOf spanOf hoursFrom firstHour lastHour hourIn rowOf rowFrom hourOf measuredOrIdle hasOn isOn amountsAt doseAt total greatest figuresOf inFloat toBits div ofInt pick
+closing-rows = refl
+
+-- the sum, the largest amount and the mean of the example's hour 10: 998, 500 and 499; an hour outside is missing
+pub example-figures :
+    (hourOf example 10 ≡ Measured (record { sum = ofInt binary64 (pos 998); largest = ofInt binary64 (pos 500); mean = ofInt binary64 (pos 499) }))
+    × (figuresOf (498 ∷ 500 ∷ 2 ∷ []) .largest ≡ ofInt binary64 (pos 500))
+    × (hourOf example 9 ≡ Missing)
+    × (hourOf example 14 ≡ Missing)
+unfolding firstHour lastHour hourIn hourOf measuredOrIdle hasOn isOn amountsAt doseAt total greatest figuresOf inFloat div ofInt pick
+example-figures = (refl, refl, refl, refl)

@@ -130,3 +130,15 @@ pub cases :
     × (oneLine (104 ∷ 9 ∷ 51 ∷ 10 ∷ []) ≡ refused R10 (1 ∷ []))
 unfolding oneLine whole lineOf onGood expect fieldsAt mostOfD mostOfH doseFrom onFrom numberAt digitsFrom isDigit textOf fieldsText decimal digitsOf glyph pick
 cases = (refl, refl, refl, refl, refl, refl, refl, refl, refl)
+
+-- the greatest values of a D line and of an H line, and each one above
+pub greatest-values :
+    (inRange (Dose 9999999 999999 1800000 1) ≡ true)
+    × (inRange (Dose 10000000 0 0 0) ≡ false)
+    × (inRange (Dose 0 1000000 0 0) ≡ false)
+    × (inRange (Dose 0 0 1800001 0) ≡ false)
+    × (inRange (Dose 0 0 0 2) ≡ false)
+    × (inRange (On 9999999) ≡ true)
+    × (inRange (On 10000000) ≡ false)
+unfolding inRange within mostOfD mostOfH
+greatest-values = (refl, refl, refl, refl, refl, refl, refl)

@@ -8,7 +8,8 @@ use lib.ListN.{getD, set}
 use Rattle.laws.specs.Pick.{pick, pick-f}
 use Rattle.paper.specs.Answer.{Answer, done, refused}
 use Rattle.paper.specs.Numbers.{R2}
-use Rattle.settings.specs.Table.{row, table, leastLevel, mostLevel, inRange, firstFrom, firstBad}
+use Rattle.settings.specs.Table.{row, table, leastLevel, mostLevel, inRange, firstFrom, firstBad, defaultSet}
+use Rattle.settings.specs.Columns.{valueOf}
 use Rattle.settings.specs.Named.{Out, out-false}
 use Rattle.settings.specs.declared.Settings.{Settings}
 
@@ -114,6 +115,11 @@ cases =
 pub cases-hold : map (λ (k : Case). firstBad (setOf (k .values))) cases ≡ map (λ (k : Case). k .answer) cases
 unfolding cases setOf firstBad firstFrom table inRange leastLevel mostLevel pick
 cases-hold = refl
+
+-- a default set: AL0, C 10,000, D 100, Pc 0, Pf 0, M 100, p7 4, p8 4, p9 1, address 1, the rest 0
+pub default-values : map valueOf (table defaultSet) ≡ 0 ∷ 10000 ∷ 100 ∷ 0 ∷ 0 ∷ 100 ∷ 4 ∷ 4 ∷ 1 ∷ 0 ∷ 0 ∷ 0 ∷ 0 ∷ 0 ∷ 1 ∷ 0 ∷ 0 ∷ []
+unfolding table defaultSet
+default-values = refl
 
 -- 1..0 holds no number
 none-in : (m : ℕ) → Out (row m 1 0)

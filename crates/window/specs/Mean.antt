@@ -27,3 +27,12 @@ meanOf (x ∷ xs) = roundAway (sum (x ∷ xs)) (length (x ∷ xs))
 pub means : (meanOf (pos 1 ∷ pos 2 ∷ []) ≡ pos 2) × (meanOf (negsuc 0 ∷ negsuc 1 ∷ []) ≡ negsuc 1) × (meanOf (pos 0 ∷ negsuc 0 ∷ []) ≡ negsuc 0)
 unfolding meanOf roundAway nearest sum
 means = (refl, refl, refl)
+
+-- to the nearest, on both sides of zero: 1,1,2 gives 1; 1,2,2 gives 2
+pub thirds :
+    (meanOf (pos 1 ∷ pos 1 ∷ pos 2 ∷ []) ≡ pos 1)
+    × (meanOf (pos 1 ∷ pos 2 ∷ pos 2 ∷ []) ≡ pos 2)
+    × (meanOf (negsuc 0 ∷ negsuc 0 ∷ negsuc 1 ∷ []) ≡ negsuc 0)
+    × (meanOf (negsuc 0 ∷ negsuc 1 ∷ negsuc 1 ∷ []) ≡ negsuc 1)
+unfolding meanOf roundAway nearest sum
+thirds = (refl, refl, refl, refl)
