@@ -427,10 +427,7 @@ def outputs():
                 yield '%s-%d' % (name, ticks), b''.join(
                     record.written(io.BytesIO(data), ticks))
         else:
-            box = replay.Replay()
-            yield name, '\n'.join(
-                '?' if line is None else box.answer(line)
-                for line in replay.lines(io.BytesIO(data))).encode()
+            yield name, b''.join(replay.answered(io.BytesIO(data)))
     for size in (65536, 65537):
         text = journals.exact(random.Random(1), size)
         yield 'exact-%d' % size, hours.printed(text)

@@ -3,6 +3,7 @@ python3 tests/second_test.py"""
 
 import io
 import os
+import random
 import subprocess
 import sys
 
@@ -11,7 +12,7 @@ CASES = os.path.join(ROOT, 'tests', 'cases')
 sys.path.insert(0, ROOT)
 
 from second import (boundary, fields, frames, hours, journal,  # noqa: E402
-                    journals, record, replay, settings)
+                    journals, record, replay, settings, weigher)
 from second.box import Box, mean  # noqa: E402
 from second.refusal import Refused  # noqa: E402
 from second.settings import DEFAULT, Settings  # noqa: E402
@@ -239,6 +240,20 @@ def last_hour_checks():
          ['H\t9999999', 'R\t10\t0'])
 
 
+def weigher_checks():
+    """The generated hours have every kind; rest is rest."""
+    for make, ticks, number in ((weigher.Mill, 12000, 8), (weigher.Ends, 300, 49)):
+        data = b''.join(make(random.Random(1), ticks).hours(number))
+        made = b''.join(record.written(io.BytesIO(data), ticks))
+        kinds = {row.split(b'\t')[1] for row in hours.printed(made).splitlines()}
+        same(make.__name__, kinds, {b'M', b'I', b'X'})
+        still = make(random.Random(1))
+        still.quiet(weigher.AT_REST)
+        before = str(vars(still.box))
+        still.replay.answer(still.tick_line(still.tank.weight))
+        same('at rest', str(vars(still.box)), before)
+
+
 def stored_checks():
     """The stored cases show every refusal, fault and kind of answer."""
     seen, calls = set(), 0
@@ -275,6 +290,7 @@ def main():
     journal_checks()
     replay_checks()
     record_checks()
+    weigher_checks()
     stored_checks()
     print('%d checks, %d failed' % (checks, failed))
     return 1 if failed else 0
