@@ -11,8 +11,8 @@ ROOT = os.path.dirname(os.path.dirname(os.path.abspath(__file__)))
 CASES = os.path.join(ROOT, 'tests', 'cases')
 sys.path.insert(0, ROOT)
 
-from second import (boundary, fields, frames, hours, journal,  # noqa: E402
-                    journals, record, replay, settings, weigher)
+from second import (boundary, fields, frames, generate, hours,  # noqa: E402
+                    journal, journals, record, replay, settings, weigher)
 from second.box import Box, mean  # noqa: E402
 from second.refusal import Refused  # noqa: E402
 from second.settings import DEFAULT, Settings  # noqa: E402
@@ -254,6 +254,16 @@ def weigher_checks():
         same('at rest', str(vars(still.box)), before)
 
 
+def sample_checks():
+    """Three minutes of a weigher; they are no hour."""
+    with open(os.path.join(ROOT, 'samples', 'minutes.record'), 'rb') as file:
+        sample = file.read()
+    same('sample', sample == b''.join(generate.minutes(12, 3)), True)
+    made = program('record', sample)
+    same('its doses', [line[:8] for line in made.splitlines()], [b'D\t491646'] * 5)
+    same('its hours', hours.printed(made), b'491646\tX\n')
+
+
 def stored_checks():
     """The stored cases show every refusal, fault and kind of answer."""
     seen, calls = set(), 0
@@ -291,6 +301,7 @@ def main():
     replay_checks()
     record_checks()
     weigher_checks()
+    sample_checks()
     stored_checks()
     print('%d checks, %d failed' % (checks, failed))
     return 1 if failed else 0
