@@ -1,6 +1,9 @@
-"""Makes input for `replay` and `hours` from a seed.
+"""Makes input for `replay`, `record` and `hours` from a seed.
 
 python3 -m second.generate replay SEED [LINES]
+python3 -m second.generate record SEED [HOURS]      a weigher at work
+python3 -m second.generate minutes SEED [MINUTES]   the same, for less than an hour
+python3 -m second.generate ends SEED [HOURS]        hours with something at their ends
 python3 -m second.generate journal SEED [KIND]
 python3 -m second.generate kinds
 """
@@ -8,8 +11,10 @@ python3 -m second.generate kinds
 import random
 import sys
 
-from second import box, calls, hopper, journals
+from second import box, calls, hopper, journals, weigher
 from second.replay import Replay
+
+MINUTE = 7500       # ticks
 
 
 class Maker:
@@ -119,14 +124,37 @@ class Maker:
             self.out = []
 
 
+def replay(seed, lines=10000):
+    for line in Maker(seed).make(lines):
+        yield line + b'\n'
+
+
+def record(seed, hours=1):
+    return weigher.Mill(random.Random(seed)).hours(hours)
+
+
+def ends(seed, hours=1):
+    """One thing an hour for an odd seed; 49 hours have them all."""
+    return weigher.Ends(random.Random(seed)).hours(hours, 0 if seed % 2 else 2)
+
+
+def minutes(seed, number=3):
+    """The first hour, a restart and the ticks."""
+    mill = weigher.Mill(random.Random(seed), number * MINUTE)
+    lines = b''.join(mill.hours(1)).splitlines(True)
+    return lines[:2 + number * MINUTE]
+
+
+MADE = {'replay': replay, 'record': record, 'minutes': minutes, 'ends': ends}
+
+
 def main(words):
     write = sys.stdout.buffer.write
     if words[:1] == ['kinds']:
         write(''.join(kind + '\n' for kind in journals.KINDS).encode())
-    elif words[:1] == ['replay']:
-        lines = int(words[2]) if len(words) > 2 else 10000
-        for line in Maker(int(words[1])).make(lines):
-            write(line + b'\n')
+    elif words and words[0] in MADE:
+        for text in MADE[words[0]](*map(int, words[1:])):
+            write(text)
     elif words[:1] == ['journal']:
         rng = random.Random(int(words[1]))
         write(journals.make(rng, *words[2:3]))

@@ -169,11 +169,17 @@ def lines(stream):
         yield None if long else line[:-1]
 
 
-def main():
+def answered(stream):
+    """The answer to each line, with its LF."""
     replay = Replay()
-    for line in lines(sys.stdin.buffer):
+    for line in lines(stream):
         answer = '?' if line is None else replay.answer(line)
-        sys.stdout.buffer.write(answer.encode() + b'\n')
+        yield answer.encode() + b'\n'
+
+
+def main():
+    for answer in answered(sys.stdin.buffer):
+        sys.stdout.buffer.write(answer)
 
 
 if __name__ == '__main__':

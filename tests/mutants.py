@@ -275,6 +275,113 @@ MUTANTS = [
      'LONGEST_LINE = 4096', 'LONGEST_LINE = 4097'),
     ('-0 taken', 'replay.py', "rb'0|-?[1-9]", "rb'-?0|-?[1-9]"),
     ('lower-case hex taken', 'replay.py', '[0-9A-F]{2}', '[0-9A-Fa-f]{2}'),
+    ('a last line without LF taken', 'replay.py',
+     "        if line[-1:] != b'\\n':\n            return\n"
+     "        yield None if long else line[:-1]",
+     "        if not line:\n            return\n"
+     "        yield None if long else line.rstrip(b'\\n')"),
+
+    # From samples to a journal.
+    ("the dose's hour from the tick after", 'record.py',
+     'return self.tick(answer',
+     "text = self.tick(answer.split('\\t'))\n"
+     "            return text.replace(b'D\\t%d' % (self.hour - 1), "
+     "b'D\\t%d' % self.hour)\n            return self.tick(answer"),
+    ('H before D', 'record.py',
+     'text += self.end_hour()', 'text = self.end_hour() + text'),
+    ('no dose on the last tick of an hour', 'record.py',
+     'text += self.end_hour()', 'text = self.end_hour()'),
+    ('R1 counted', 'record.py', " and answer[0] != 'R'", ''),
+    ('a tick in a fault not counted', 'record.py',
+     "answer[0] != 'R'", "answer[0] not in 'RF'"),
+    ('a restart never breaks an hour', 'record.py',
+     'if self.gone > 0:', 'if False:'),
+    ("a restart at the hour's start breaks it", 'record.py',
+     'if self.gone > 0:', 'if True:'),
+    ('a restart after the first tick forgiven', 'record.py',
+     'if self.gone > 0:', 'if self.gone > 1:'),
+    ('a restart before the last tick forgiven', 'record.py',
+     'if self.gone > 0:', 'if 0 < self.gone < self.ticks - 1:'),
+    ('a refused restart breaks the hour', 'record.py',
+     "== b'N' and answer == 'A'", "== b'N'"),
+    ('a restart mends a broken hour', 'record.py',
+     '                self.on = False\n',
+     '                self.on = False\n            else:\n'
+     '                self.on = True\n'),
+    ('any accepted call breaks the hour', 'record.py',
+     "line[:1] == b'N' and answer == 'A'", "answer == 'A'"),
+    ('new settings break the hour', 'record.py',
+     "line[:1] == b'N'", "line[:1] in b'NS'"),
+    ('a line that is no call forgiven', 'record.py',
+     "            self.on = False\n        elif", "            pass\n        elif"),
+    ("no call forgiven before the hour's first tick", 'record.py',
+     "            self.on = False\n        elif",
+     "            self.on = self.on and self.gone == 0\n        elif"),
+    ('a long line forgiven', 'record.py',
+     "if answer == '?':", "if line is None:\n            pass\n"
+     "        elif answer == '?':"),
+    ('an empty line forgiven', 'record.py',
+     "if answer == '?':", "if line == b'':\n            pass\n"
+     "        elif answer == '?':"),
+    ('a broken hour breaks the next', 'record.py',
+     'self.hour + 1, 0, True', 'self.hour + 1, 0, self.on'),
+    ('an H for every hour', 'record.py', ' if self.on else', ' if True else'),
+    ('no call counted as a tick', 'record.py',
+     "            self.on = False\n        elif",
+     "            self.on = False\n            self.gone += 1\n        elif"),
+    ('a line read back written as a dose', 'record.py',
+     "elif line[:1] == b'T' and answer[0] != 'R':",
+     "elif line[:1] == b'l' and answer[0] == 'D':\n"
+     "            return journal.write('D', journal.read(\n"
+     "                bytes.fromhex(line[2:].decode()))[1:], ROOM)\n"
+     "        elif line[:1] == b'T' and answer[0] != 'R':"),
+    ('count and amount changed about', 'record.py',
+     "dose = tuple(map(int, answer[2:]))",
+     "dose = tuple(int(answer[at]) for at in (3, 2, 4))"),
+    ('the total for the amount', 'record.py',
+     "dose = tuple(map(int, answer[2:]))",
+     "dose = (int(answer[2]), self.replay.box.total % 1000, int(answer[4]))"),
+    ('settled always', 'record.py',
+     "dose = tuple(map(int, answer[2:]))",
+     "dose = (int(answer[2]), int(answer[3]), 1)"),
+    ('R10 on writing given with the last H', 'record.py',
+     'self.hour, self.gone, self.on = self.hour + 1, 0, True',
+     "if self.hour == 9999999: text += b'R\\t10\\t0\\n'\n"
+     '        self.hour, self.gone, self.on = self.hour + 1, 0, True'),
+    ('R10 on writing at the first R1', 'record.py',
+     "        if answer == '?':",
+     "        if self.hour > 9999999: raise Refused(10, 0)\n"
+     "        if answer == '?':"),
+    ('R10 on writing only for a line', 'record.py',
+     '        if self.hour > journal.HOUR:\n'
+     '            raise Refused(10, 0)\n', ''),
+    ('R10 on writing with line 1', 'record.py',
+     'raise Refused(10, 0)', 'raise Refused(10, 1)'),
+    ('the first line a number by Python', 'record.py',
+     'hour = None if line is None else journal.number(line)',
+     'hour = int(line) if line and line.strip().isdigit() else None'),
+    ('an empty first line is hour 0', 'record.py',
+     'journal.number(line)', "journal.number(line or b'0')"),
+    ('a CR after the first hour taken', 'record.py',
+     'journal.number(line)', "journal.number(line.rstrip(b'\\r'))"),
+    ('a tab after the first hour taken', 'record.py',
+     'journal.number(line)', "journal.number(line.split(b'\\t')[0])"),
+    ('leading zeros of the first hour taken', 'record.py',
+     'journal.number(line)', "journal.number(line.lstrip(b'0') or line)"),
+    ('a sign before the first hour taken', 'record.py',
+     'journal.number(line)', "journal.number(line.lstrip(b'+-'))"),
+    ('a bad first line is no hour and no end', 'record.py',
+     '        raise Refused(10, 1)\n', '        return 0\n'),
+    ('a bad first line told as line 0', 'record.py',
+     'raise Refused(10, 1)', 'raise Refused(10, 0)'),
+    ('lines go on after a refusal', 'record.py',
+     "        yield b'R\\t%d\\t%d\\n' % ((refused.number,) + refused.detail)",
+     "        yield b'R\\t%d\\t%d\\n' % ((refused.number,) + refused.detail)\n"
+     "        yield from written(stream, ticks)"),
+    ('an input without a line refused', 'record.py',
+     '    except Refused as refused:',
+     '        if record is None: raise Refused(10, 1)\n'
+     '    except Refused as refused:'),
 ]
 
 
@@ -296,22 +403,31 @@ def run(folder):
         stderr=subprocess.DEVNULL, timeout=60).returncode
 
 
+def cases():
+    """Name and bytes of each stored case, the small ones first."""
+    paths = [os.path.join(CASES, name) for name in os.listdir(CASES)]
+    for path in sorted(paths, key=lambda path: (os.path.getsize(path), path)):
+        with open(path, 'rb') as file:
+            yield os.path.basename(path), file.read()
+    with open(os.path.join(ROOT, 'crates', 'record', 'stdin'), 'rb') as file:
+        yield 'stdin.record', file.read()
+
+
 def outputs():
-    """Name and output of each case, the small ones first."""
+    """Name and output of each case. An hour of the lines of `record` has 100
+    ticks too, since no case has 450,000."""
     import io
     import random
-    from second import hours, journals, replay
-    for name in sorted(os.listdir(CASES), key=lambda name: os.path.getsize(
-            os.path.join(CASES, name))):
-        with open(os.path.join(CASES, name), 'rb') as file:
-            data = file.read()
+    from second import hours, journals, record, replay
+    for name, data in cases():
         if name.endswith('.journal'):
             yield name, hours.printed(data)
+        elif name.endswith('.record'):
+            for ticks in (record.TICKS, 100):
+                yield '%s-%d' % (name, ticks), b''.join(
+                    record.written(io.BytesIO(data), ticks))
         else:
-            box = replay.Replay()
-            yield name, '\n'.join(
-                '?' if line is None else box.answer(line)
-                for line in replay.lines(io.BytesIO(data))).encode()
+            yield name, b''.join(replay.answered(io.BytesIO(data)))
     for size in (65536, 65537):
         text = journals.exact(random.Random(1), size)
         yield 'exact-%d' % size, hours.printed(text)

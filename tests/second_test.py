@@ -3,6 +3,7 @@ python3 tests/second_test.py"""
 
 import io
 import os
+import random
 import subprocess
 import sys
 
@@ -10,8 +11,8 @@ ROOT = os.path.dirname(os.path.dirname(os.path.abspath(__file__)))
 CASES = os.path.join(ROOT, 'tests', 'cases')
 sys.path.insert(0, ROOT)
 
-from second import (boundary, fields, frames, hours, journal,  # noqa: E402
-                    journals, replay, settings)
+from second import (boundary, fields, frames, generate, hours,  # noqa: E402
+                    journal, journals, record, replay, settings, weigher)
 from second.box import Box, mean  # noqa: E402
 from second.refusal import Refused  # noqa: E402
 from second.settings import DEFAULT, Settings  # noqa: E402
@@ -162,6 +163,107 @@ def replay_checks():
          'R\t9\t2045\nQ\t0\t0\n')
 
 
+# A dose every two ticks once it is calm: AL2 with Wf 0, inputs at level 1.
+QUICK = Settings(2, 10, 1, 1, 1, 1, 4, 4, 1, 0, 0, 1, 1, 1, 1, 0, 0)
+NEW = 'N' + '\t%d' * 19 % (QUICK + (4, 50)) + '\n'
+REFUSED = NEW.replace('N\t2', 'N\t4')
+QUIET, START = 'T\t5\t0\n', 'T\t5\t8\n'
+CALM = QUIET * 65
+
+
+def recorded(text, ticks=4, first=b'7'):
+    """The journal's lines from a first line and the lines after it."""
+    stream = io.BytesIO(first + b'\n' + text.encode())
+    return b''.join(record.written(stream, ticks)).decode().splitlines()
+
+
+def record_checks():
+    same('ticks of an hour', record.TICKS, 450000)
+    text = '7\n' + NEW + CALM + START + QUIET
+    same('program', program('record', text.encode()), b'D\t7\t5\t0\t1\n')
+    for data in (b'', b'7', b'x', b'7\n', b'7\nT\t0\t0', b'x' * 5000, b'0\n'):
+        same('no tick', program('record', data), b'')
+    for first in (b'', b'07', b'00', b'-0', b'-1', b'+7', b'10000000', b'7 ', b' 7',
+                  b'7\t', b'7\r', b'7\0', b'x', b'7.0', b'T\t0\t0', b'H\t7',
+                  b'9' * 4095, b'9' * 4096):
+        seen = recorded('7\n' + QUIET * 9, 4, first)
+        same('first line %r' % first[:9], seen, ['R\t10\t1'])
+    same('first hour 0', recorded(QUIET * 4, 4, b'0'), ['H\t0'])
+    hour_checks()
+    dose_checks()
+    last_hour_checks()
+
+
+def hour_checks():
+    """Which hours have an H, at four ticks to the hour."""
+    same('quiet', recorded(QUIET * 11), ['H\t7', 'H\t8'])
+    same('R1', recorded('T\t5\t16\n' * 9 + QUIET * 3 + 'T\t900001\t16\n'), [])
+    same('fault', recorded('T\t900001\t0\n' + QUIET * 3 + 'T\t0\t255\n'), ['H\t7'])
+    same('other calls', recorded(QUIET + 'Q\nL\t1\nC\nW\t01C3\t9\nX\tFF\nH\t1\t9\n' +
+                                 QUIET * 3), ['H\t7'])
+    same('settings', recorded(QUIET + 'S' + NEW[1:-6] + '\n' + QUIET * 3), ['H\t7'])
+    for no_call in ('x\n', '\n', 'T\t5\t256\n', 'T\t5\n', 'N\n', 'x' * 4096 + '\n'):
+        same('no call before', recorded(no_call + QUIET * 8), ['H\t8'])
+        same('no call within', recorded(QUIET * 2 + no_call + QUIET * 6), ['H\t8'])
+        same('no call between', recorded(QUIET * 4 + no_call + QUIET * 8), ['H\t7', 'H\t9'])
+        same('no call, then a restart', recorded(no_call + NEW + QUIET * 4), [])
+    same('restart before', recorded(NEW + QUIET * 4), ['H\t7'])
+    same('restart after R1', recorded('T\t5\t16\n' + NEW + QUIET * 4), ['H\t7'])
+    for at in (1, 2, 3):
+        same('restart within', recorded(QUIET * at + NEW + QUIET * (8 - at)), ['H\t8'])
+        same('refused within', recorded(QUIET * at + REFUSED + QUIET * (4 - at)), ['H\t7'])
+    same('restart between', recorded(QUIET * 4 + NEW + QUIET * 4), ['H\t7', 'H\t8'])
+    same('a call without LF', recorded(QUIET * 3 + QUIET[:-1]), [])
+
+
+def dose_checks():
+    """The first dose is on tick 67."""
+    doses = NEW + CALM + START * 6
+    same('doses', recorded(doses, 1000),
+         ['D\t7\t5\t0\t1', 'D\t7\t6\t0\t1', 'D\t7\t7\t0\t1'])
+    same('on the last tick', recorded(doses, 67)[:3],
+         ['D\t7\t5\t0\t1', 'H\t7', 'D\t8\t6\t0\t1'])
+    same('on the first tick', recorded(doses, 66)[:2], ['H\t7', 'D\t8\t5\t0\t1'])
+    same('without an H', recorded('x\n' + doses, 67)[:2],
+         ['D\t7\t5\t0\t1', 'D\t8\t6\t0\t1'])
+
+
+def last_hour_checks():
+    last = b'9999999'
+    for ticks in (1, 4):
+        same('R1 after it', recorded(QUIET * ticks + 'T\t5\t16\n' * 9, ticks, last),
+             ['H\t9999999'])
+        same('a tick after it', recorded(QUIET * (ticks + 1), ticks, last),
+             ['H\t9999999', 'R\t10\t0'])
+        same('without an H', recorded('x\n' + QUIET * 9, ticks, last), ['R\t10\t0'])
+    same('a dose after it', recorded(NEW + CALM + START * 8, 66, last),
+         ['H\t9999999', 'R\t10\t0'])
+
+
+def weigher_checks():
+    """The generated hours have every kind; rest is rest."""
+    for make, ticks, number in ((weigher.Mill, 12000, 8), (weigher.Ends, 300, 49)):
+        data = b''.join(make(random.Random(1), ticks).hours(number))
+        made = b''.join(record.written(io.BytesIO(data), ticks))
+        kinds = {row.split(b'\t')[1] for row in hours.printed(made).splitlines()}
+        same(make.__name__, kinds, {b'M', b'I', b'X'})
+        still = make(random.Random(1))
+        still.quiet(weigher.AT_REST)
+        before = str(vars(still.box))
+        still.replay.answer(still.tick_line(still.tank.weight))
+        same('at rest', str(vars(still.box)), before)
+
+
+def sample_checks():
+    """Three minutes of a weigher; they are no hour."""
+    with open(os.path.join(ROOT, 'samples', 'minutes.record'), 'rb') as file:
+        sample = file.read()
+    same('sample', sample == b''.join(generate.minutes(12, 3)), True)
+    made = program('record', sample)
+    same('its doses', [line[:8] for line in made.splitlines()], [b'D\t491646'] * 5)
+    same('its hours', hours.printed(made), b'491646\tX\n')
+
+
 def stored_checks():
     """The stored cases show every refusal, fault and kind of answer."""
     seen, calls = set(), 0
@@ -197,6 +299,9 @@ def main():
     tick_checks()
     journal_checks()
     replay_checks()
+    record_checks()
+    weigher_checks()
+    sample_checks()
     stored_checks()
     print('%d checks, %d failed' % (checks, failed))
     return 1 if failed else 0

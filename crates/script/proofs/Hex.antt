@@ -1,0 +1,128 @@
+-- Bytes read as hexadecimal digits, by the digits that stand there. Assumes nothing.
+use mathlib.Core.Path.{_≡_, refl, sym, ap, _∙_}
+use mathlib.Core.Bool.{Bool, true, false, _&&_, _||_}
+use mathlib.Core.List.{List, [], _∷_, _++_, append-assoc, append-nil}
+use Prim.Native.Nat.{ℕ, zero, suc, _+_, _*_, _/_, _%_, _≤_, _<_}
+use native.Mathlib.Omega.{arith}
+use native.Mathlib.Numerals.{add-one}
+use lib.Dec.{leb, eqb}
+use lib.ListN.{length, getD, take, drop, set, drop-of-length-le}
+use lib.Seq.{drop-cons, take-suc-set, getD-drop}
+use borrow.Author.Tests.{eq-eqb, ne-eqb, leb-true}
+use Rattle.laws.specs.Pick.{pick, pick-t, pick-f}
+use Rattle.laws.specs.Whole.{true-false, false-true}
+use Rattle.laws.specs.Decimal.{Parsed, good, bad, glyph, hexOf, isDigit}
+use Rattle.journal.specs.Line.{TAB, onGood}
+use Rattle.controller.specs.Bounds.{and-left, and-right}
+use Rattle.script.specs.Call.{isHex, hexValue, bytesAt}
+use Rattle.script.specs.Reading.{on-on, on-same}
+
+-- a digit that is no decimal one
+pub hex-range : (b : ℕ) → isHex b ≡ true → isDigit b ≡ false → (65 ≤ b) × (b ≤ 70)
+unfolding isHex
+hex-range b e d =
+    let f : (leb 65 b && leb b 70) ≡ true = rw d at e in
+    (leb-true 65 b (and-left (leb 65 b) (leb b 70) f), leb-true b 70 (and-right (leb 65 b) (leb b 70) f))
+
+-- 0 is no digit
+pub hex-some : (b : ℕ) → isHex b ≡ true → 0 < b
+unfolding isHex isDigit
+hex-some b e = go b e
+  where
+    go : (b : ℕ) → isHex b ≡ true → 0 < b
+    go zero e = false-true e
+    go (suc b) e = omega arith
+
+-- the two digits of a byte
+pub hex-two : (b : ℕ) → b < 256 → glyph (b / 16) ∷ glyph (b % 16) ∷ [] ≡ hexOf 2 b
+unfolding hexOf
+hex-two b h = let e : b / 16 ≡ b / 16 % 16 = omega arith in ap (λ (d : ℕ). glyph d ∷ glyph (b % 16) ∷ []) e
+
+-- ---- what the definition reads, by the bytes that stand there
+
+tab-list : (a : ℕ) (l : List ℕ) → a ≡ TAB → bytesAt (a ∷ l) ≡ good [] (a ∷ l)
+unfolding bytesAt
+tab-list a [] e = pick-t _ _ _ (eq-eqb _ _ e)
+tab-list a (b ∷ l) e = pick-t _ _ _ (eq-eqb _ _ e)
+
+high-list : (a : ℕ) (l : List ℕ) → (a ≡ TAB → ⊥) → isHex a ≡ false → bytesAt (a ∷ l) ≡ bad
+unfolding bytesAt
+high-list a [] n h = pick-f _ _ _ (ne-eqb _ _ n)
+high-list a (b ∷ l) n h = pick-f _ _ _ (ne-eqb _ _ n) ∙ pick-f _ _ _ (ap (λ (t : Bool). t && isHex b) h)
+
+low-list : (a : ℕ) (l : List ℕ) → (a ≡ TAB → ⊥) → isHex (getD l 0 0) ≡ false → bytesAt (a ∷ l) ≡ bad
+unfolding bytesAt
+low-list a [] n h = pick-f _ _ _ (ne-eqb _ _ n)
+low-list a (b ∷ l) n h = pick-f _ _ _ (ne-eqb _ _ n) ∙ pick-f _ _ _ (and-false (isHex a) (isHex b) h)
+  where
+    and-false : (c d : Bool) → d ≡ false → (c && d) ≡ false
+    and-false true d e = e
+    and-false false d e = refl
+
+two-list : (a b : ℕ) (l : List ℕ) → (a ≡ TAB → ⊥) → isHex a ≡ true → isHex b ≡ true
+    → bytesAt (a ∷ b ∷ l) ≡ onGood (bytesAt l) (λ bytes rest. good ((hexValue a * 16 + hexValue b) ∷ bytes) rest)
+unfolding bytesAt
+two-list a b l n h k = pick-f _ _ _ (ne-eqb _ _ n) ∙ pick-t _ _ _ (ap (λ (t : Bool). t && isHex b) h ∙ k)
+
+-- a byte at a place and what follows it
+pub cut : (s : List ℕ) (p : ℕ) → p < length s → drop p s ≡ getD s p 0 ∷ drop (p + 1) s
+cut s p h = drop-cons s p 0 h ∙ ap (λ (n : ℕ). getD s p 0 ∷ drop n s) (sym (add-one p))
+
+-- ---- n bytes are in `out`, and what is left from place p on gives the whole
+
+abbrev pub Left : List ℕ → ℕ → List ℕ → ℕ → ℕ → Type 0
+Left s at out p n = onGood (bytesAt (drop p s)) (λ bytes rest. good (take n out ++ bytes) rest) ≡ bytesAt (drop at s)
+
+module _ (s : List ℕ) (at : ℕ) (out : List ℕ) (p n : ℕ) (left : Left s at out p n) where
+  stop : {q : Parsed (List ℕ)} → bytesAt (drop p s) ≡ q → onGood q (λ bytes rest. good (take n out ++ bytes) rest) ≡ bytesAt (drop at s)
+  stop e = ap (λ (r : Parsed (List ℕ)). onGood r (λ bytes rest. good (take n out ++ bytes) rest)) (sym e) ∙ left
+
+  ends : bytesAt (drop p s) ≡ good [] (drop p s) → bytesAt (drop at s) ≡ good (take n out) (drop p s)
+  unfolding onGood
+  ends e = sym (stop e) ∙ ap (λ (l : List ℕ). good l (drop p s)) (append-nil (take n out))
+
+  pub left-tab : p < length s → getD s p 0 ≡ TAB → bytesAt (drop at s) ≡ good (take n out) (drop p s)
+  left-tab h e = ends (rw (cut s p h) (tab-list (getD s p 0) (drop (p + 1) s) e))
+
+  pub left-end : length s ≤ p → bytesAt (drop at s) ≡ good (take n out) (drop p s)
+  unfolding bytesAt
+  left-end h = ends (rw (drop-of-length-le s {i = p} h) refl)
+
+  pub left-high : p < length s → (getD s p 0 ≡ TAB → ⊥) → isHex (getD s p 0) ≡ false → bytesAt (drop at s) ≡ bad
+  unfolding onGood
+  left-high h t e = sym (stop {q = bad} (rw (cut s p h) (high-list (getD s p 0) (drop (p + 1) s) t e)))
+
+  pub left-low : p < length s → (getD s p 0 ≡ TAB → ⊥) → isHex (getD s (p + 1) 0) ≡ false → bytesAt (drop at s) ≡ bad
+  unfolding onGood
+  left-low h t e =
+      let z : p + 1 + 0 ≡ p + 1 = omega arith in
+      let f : isHex (getD (drop (p + 1) s) 0 0) ≡ false = ap isHex (getD-drop (p + 1) s 0 0 ∙ ap (λ (k : ℕ). getD s k 0) z) ∙ e in
+      sym (stop {q = bad} (rw (cut s p h) (low-list (getD s p 0) (drop (p + 1) s) t f)))
+
+  pub left-two : p + 1 < length s → n < length out → (getD s p 0 ≡ TAB → ⊥) → isHex (getD s p 0) ≡ true → isHex (getD s (p + 1) 0) ≡ true
+      → Left s at (set out n (hexValue (getD s p 0) * 16 + hexValue (getD s (p + 1) 0))) (p + 2) (n + 1)
+  unfolding onGood
+  left-two h k t a b =
+      let v = hexValue (getD s p 0) * 16 + hexValue (getD s (p + 1) 0) in
+      let z : p + 1 + 1 ≡ p + 2 = omega arith in
+      let l : p < length s = omega arith in
+      let both : drop p s ≡ getD s p 0 ∷ getD s (p + 1) 0 ∷ drop (p + 2) s = cut s p l ∙ ap (λ (r : List ℕ). getD s p 0 ∷ r) (cut s (p + 1) h) ∙ ap (λ (i : ℕ). getD s p 0 ∷ getD s (p + 1) 0 ∷ drop i s) z in
+      let e : bytesAt (drop p s) ≡ onGood (bytesAt (drop (p + 2) s)) (λ bytes rest. good (v ∷ bytes) rest) = rw both (two-list (getD s p 0) (getD s (p + 1) 0) (drop (p + 2) s) t a b) in
+      on-same (bytesAt (drop (p + 2) s)) (λ bytes rest. ap (λ (r : List ℕ). good r rest) (grown bytes))
+      ∙ sym (on-on (bytesAt (drop (p + 2) s)) (λ bytes rest. good (v ∷ bytes) rest) (λ bytes rest. good (take n out ++ bytes) rest))
+      ∙ stop e
+    where
+      grown : (bytes : List ℕ) → take (n + 1) (set out n (hexValue (getD s p 0) * 16 + hexValue (getD s (p + 1) 0))) ++ bytes ≡ take n out ++ (hexValue (getD s p 0) * 16 + hexValue (getD s (p + 1) 0)) ∷ bytes
+      grown bytes =
+          let v = hexValue (getD s p 0) * 16 + hexValue (getD s (p + 1) 0) in
+          ap (λ (i : ℕ). take i (set out n v) ++ bytes) (add-one n)
+          ∙ ap (λ (r : List ℕ). r ++ bytes) (take-suc-set out n v k)
+          ∙ append-assoc (take n out) (v ∷ []) bytes
+
+pub left-none : (s : List ℕ) (at : ℕ) (out : List ℕ) → Left s at out at 0
+unfolding onGood
+left-none s at out = on-id (bytesAt (drop at s))
+  where
+    on-id : (p : Parsed (List ℕ)) → onGood p (λ bytes rest. good bytes rest) ≡ p
+    on-id (good v rest) = refl
+    on-id bad = refl

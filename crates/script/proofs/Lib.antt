@@ -1,0 +1,6 @@
+pub mod Scanning
+pub mod Hex
+pub mod Figures
+pub mod Lines
+pub mod Texts
+pub mod Shown

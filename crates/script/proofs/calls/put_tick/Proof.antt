@@ -1,0 +1,113 @@
+use mathlib.Core.Path.{sym, ap, _∙_}
+use Rattle.controller.specs.declared.TickAnswer.{TickAnswer}
+use Rattle.controller.specs.Says.{saysTick}
+use Rattle.script.specs.Answer.{valuesText, refusedText, recordText, tickText}
+use Rattle.script.specs.Print.{prints-text}
+use Rattle.script.proofs.Texts.{dose-text}
+use borrow.Author.Needs.{needs}
+use Rattle.script.proofs.calls.put_tick.Statement.{statement}
+use Rattle.script.proofs.calls.put_tick.Tie as tie
+
+returns : tie.Need-returns
+unfolding tickText recordText valuesText
+returns c = prints-text (sym (ap (λ (a : TickAnswer). tickText (saysTick a)) (c .before .before .before .before .before .before .answer .given .1))) (c .before .before .put-values .ensures)
+
+returns-2 : tie.Need-returns-2
+returns-2 c =
+    prints-text (dose-text _ _ _ (c .before .before .before .before .before .before .before .flag .ensures) ∙ sym (ap (λ (a : TickAnswer). tickText (saysTick a)) (c .before .before .before .before .before .before .before .before .before .answer2 .given .1))) (c .before .before .put-values2 .ensures)
+
+returns-3 : tie.Need-returns-3
+returns-3 c = prints-text (sym (ap (λ (a : TickAnswer). tickText (saysTick a)) (c .before .before .before .before .before .answer3 .given .1))) (c .before .before .put-fault .ensures)
+
+returns-4 : tie.Need-returns-4
+unfolding tickText refusedText valuesText
+returns-4 c = prints-text (sym (ap (λ (a : TickAnswer). tickText (saysTick a)) (c .before .before .before .before .before .enum-told .given .1))) (c .before .before .put-values3 .ensures)
+
+enum-known-answer : tie.Need-enum-known-answer
+enum-known-answer c = search needs
+
+cast-t13 : tie.Need-cast-t13
+cast-t13 c = search needs
+
+slice-aggregate-put-values : tie.Need-slice-aggregate-put-values
+slice-aggregate-put-values c = search needs
+
+put-values-requires : tie.Need-put-values-requires
+put-values-requires c κs = search needs
+
+enum-known-answer-2 : tie.Need-enum-known-answer-2
+enum-known-answer-2 c = search needs
+
+flag-requires : tie.Need-flag-requires
+flag-requires c κs = search needs
+
+cast-t19 : tie.Need-cast-t19
+cast-t19 c = search needs
+
+cast-t20 : tie.Need-cast-t20
+cast-t20 c = search needs
+
+cast-t21 : tie.Need-cast-t21
+cast-t21 c = search needs
+
+slice-aggregate-put-values-2 : tie.Need-slice-aggregate-put-values-2
+slice-aggregate-put-values-2 c = search needs
+
+put-values-requires-2 : tie.Need-put-values-requires-2
+put-values-requires-2 c κs = search needs
+
+enum-known-answer-3 : tie.Need-enum-known-answer-3
+enum-known-answer-3 c = search needs
+
+put-fault-requires : tie.Need-put-fault-requires
+put-fault-requires c κs = search needs
+
+enum-told : tie.Need-enum-told
+enum-told c = search needs
+
+slice-aggregate-put-values-3 : tie.Need-slice-aggregate-put-values-3
+slice-aggregate-put-values-3 c = search needs
+
+put-values-requires-3 : tie.Need-put-values-requires-3
+put-values-requires-3 c κs = search needs
+
+same-length : tie.Need-same-length
+same-length c = search needs
+
+same-length-2 : tie.Need-same-length-2
+same-length-2 c = search needs
+
+same-length-3 : tie.Need-same-length-3
+same-length-3 c = search needs
+
+same-length-4 : tie.Need-same-length-4
+same-length-4 c = search needs
+
+pub put-tick-spec : {M : Type 1} → statement M
+put-tick-spec =
+    tie.close
+    (tie.spec
+    enum-known-answer
+    cast-t13
+    slice-aggregate-put-values
+    put-values-requires
+    enum-known-answer-2
+    flag-requires
+    cast-t19
+    cast-t20
+    cast-t21
+    slice-aggregate-put-values-2
+    put-values-requires-2
+    enum-known-answer-3
+    put-fault-requires
+    enum-told
+    slice-aggregate-put-values-3
+    put-values-requires-3
+    same-length
+    returns
+    same-length-2
+    returns-2
+    same-length-3
+    returns-3
+    same-length-4
+    returns-4)

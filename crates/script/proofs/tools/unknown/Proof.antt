@@ -1,0 +1,22 @@
+use mathlib.Core.Path.{refl}
+use Rattle.script.specs.Answer.{valuesText, onCall}
+use borrow.Author.Needs.{needs}
+use Rattle.script.proofs.tools.unknown.Statement.{statement}
+use Rattle.script.proofs.tools.unknown.Tie as tie
+
+returns : tie.Need-returns
+unfolding valuesText onCall
+returns c = record { text = λ k. c .before .before .put-values .ensures; stays = λ k. refl }
+
+slice-aggregate-put-values : tie.Need-slice-aggregate-put-values
+slice-aggregate-put-values c = search needs
+
+put-values-requires : tie.Need-put-values-requires
+put-values-requires c κs = search needs
+
+same-length : tie.Need-same-length
+same-length c = search needs
+
+pub unknown-spec : {M : Type 1} → statement M
+unknown-spec =
+    tie.close (tie.spec slice-aggregate-put-values put-values-requires same-length returns)

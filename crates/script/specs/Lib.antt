@@ -1,0 +1,7 @@
+pub mod Call
+pub mod Answer
+pub mod Print
+pub mod Reading
+pub mod Steps
+pub mod Cases
+pub mod Input

@@ -1,0 +1,140 @@
+-- Fields read at a place of a line, one by one, and what the readers' steps answer. Assumes nothing.
+use mathlib.Core.Path.{_≡_, refl, sym, ap, _∙_}
+use mathlib.Core.Bool.{Bool, true, false}
+use mathlib.Core.List.{List, [], _∷_}
+use Prim.Native.Nat.{ℕ, zero, suc, _≤_}
+use lib.Dec.{eqb}
+use lib.IntN.{ℤ}
+use lib.ListN.{length, take, drop}
+use Rattle.laws.specs.Pick.{pick, pick-map}
+use Rattle.laws.specs.Decimal.{Parsed, good, bad, numberAt}
+use Rattle.settings.specs.declared.Settings.{Settings}
+use Rattle.settings.specs.Cases.{setOf}
+use Rattle.journal.specs.Line.{TAB, expect, onGood}
+use Rattle.journal.specs.Scan.{fieldAt}
+use Rattle.script.specs.Call.{greatest32, numberField, flagField, signedAt, signedField, bytesAt, bytesField, numbersField, setField}
+use Rattle.script.specs.declared.Num.{Num}
+use Rattle.script.specs.declared.Num.the-variants as N
+use Rattle.script.specs.declared.Signed.{Signed}
+use Rattle.script.specs.declared.Signed.the-variants as S
+use Rattle.script.specs.declared.Flag.{Flag}
+use Rattle.script.specs.declared.Flag.the-variants as F
+use Rattle.script.specs.declared.Bytes.{Bytes}
+use Rattle.script.specs.declared.Bytes.the-variants as B
+use Rattle.script.specs.declared.Set.{Set}
+use Rattle.script.specs.declared.Set.the-variants as T
+use Rattle.script.specs.declared.Numbers.{Numbers}
+
+-- ---- what a step answers: the value, and the bytes of s that follow it
+
+abbrev pub leads : List ℕ → Num → Parsed ℕ
+leads s (N.Good v next) = good v (drop next s)
+leads s N.Bad = bad
+
+abbrev pub leadsSigned : List ℕ → Signed → Parsed ℤ
+leadsSigned s (S.Good v next) = good v (drop next s)
+leadsSigned s S.Bad = bad
+
+abbrev pub leadsFlag : List ℕ → Flag → Parsed Bool
+leadsFlag s (F.Good v next) = good v (drop next s)
+leadsFlag s F.Bad = bad
+
+abbrev pub leadsSet : List ℕ → Set → Parsed Settings
+leadsSet s (T.Good v next) = good v (drop next s)
+leadsSet s T.Bad = bad
+
+-- n bytes, decoded at the start of `out`
+abbrev pub leadsBytes : List ℕ → List ℕ → Bytes → Parsed (List ℕ)
+leadsBytes s out (B.Good n next) = good (take n out) (drop next s)
+leadsBytes s out B.Bad = bad
+
+abbrev pub decoded : Bytes → ℕ
+decoded (B.Good n next) = n
+decoded B.Bad = 0
+
+pub record Decodes (s : List ℕ) (rule : Parsed (List ℕ)) (out old : List ℕ) (r : Bytes) : Type 0 where
+  pub reads : rule ≡ leadsBytes s out r
+  pub inside : decoded r ≤ length out
+  pub long : length out ≡ length old
+
+-- n numbers
+pub record Counts (s : List ℕ) (n : ℕ) (rule : Parsed (List ℕ)) (r : Numbers) : Type 0 where
+  pub reads : rule ≡ pick (r .good) (good (take n (r .values)) (drop (r .next) s)) bad
+  pub all : length (r .values) ≡ 17
+
+-- ---- a field by itself: a tab and what follows it
+
+unfoldable pub signedFieldAt : List ℕ → Parsed ℤ
+signedFieldAt l = expect TAB l signedAt
+
+unfoldable pub flagAt : List ℕ → Parsed Bool
+flagAt l = onGood (fieldAt 1 l) (λ n rest. good (eqb n 1) rest)
+
+unfoldable pub bytesFieldAt : List ℕ → Parsed (List ℕ)
+bytesFieldAt l = expect TAB l bytesAt
+
+unfoldable pub numbersAt : ℕ → List ℕ → Parsed (List ℕ)
+numbersAt zero l = good [] l
+numbersAt (suc n) l = onGood (fieldAt greatest32 l) (λ v rest. onGood (numbersAt n rest) (λ vs rest'. good (v ∷ vs) rest'))
+
+unfoldable pub setAt : List ℕ → Parsed Settings
+setAt l = onGood (numbersAt 17 l) (λ vs rest. good (setOf vs) rest)
+
+-- ---- the definitions go on behind the field
+
+pub on-good : {X Y : Type 0} {p : Parsed X} {v : X} {rest : List ℕ} (k : X → List ℕ → Parsed Y) → p ≡ good v rest → onGood p k ≡ k v rest
+unfolding onGood
+on-good k e = ap (λ (p : Parsed _). onGood p k) e
+
+pub on-bad : {X Y : Type 0} {p : Parsed X} (k : X → List ℕ → Parsed Y) → p ≡ bad → onGood p k ≡ bad
+unfolding onGood
+on-bad k e = ap (λ (p : Parsed _). onGood p k) e
+
+pub on-same : {X Y : Type 0} (p : Parsed X) {f g : X → List ℕ → Parsed Y} → ((v : X) (rest : List ℕ) → f v rest ≡ g v rest) → onGood p f ≡ onGood p g
+unfolding onGood
+on-same (good v rest) h = h v rest
+on-same bad h = refl
+
+pub on-on : {X Y Z : Type 0} (p : Parsed X) (f : X → List ℕ → Parsed Y) (g : Y → List ℕ → Parsed Z)
+    → onGood (onGood p f) g ≡ onGood p (λ v rest. onGood (f v rest) g)
+unfolding onGood
+on-on (good v rest) f g = refl
+on-on bad f g = refl
+
+on-expect : {X Y : Type 0} (b : ℕ) (l : List ℕ) (f : List ℕ → Parsed X) (next : X → List ℕ → Parsed Y)
+    → expect b l (λ rest. onGood (f rest) next) ≡ onGood (expect b l f) next
+unfolding expect onGood
+on-expect b [] f next = refl
+on-expect b (x ∷ xs) f next = sym (pick-map (λ p. onGood p next) (eqb x b) (f xs) bad)
+
+pub number-field : {X : Type 0} (most : ℕ) (l : List ℕ) (next : ℕ → List ℕ → Parsed X) → numberField most l next ≡ onGood (fieldAt most l) next
+unfolding numberField fieldAt
+number-field most l next = on-expect TAB l (numberAt most) next
+
+pub signed-field : {X : Type 0} (l : List ℕ) (next : ℤ → List ℕ → Parsed X) → signedField l next ≡ onGood (signedFieldAt l) next
+unfolding signedField signedFieldAt
+signed-field l next = on-expect TAB l signedAt next
+
+pub bytes-field : {X : Type 0} (l : List ℕ) (next : List ℕ → List ℕ → Parsed X) → bytesField l next ≡ onGood (bytesFieldAt l) next
+unfolding bytesField bytesFieldAt
+bytes-field l next = on-expect TAB l bytesAt next
+
+pub flag-field : {X : Type 0} (l : List ℕ) (next : Bool → List ℕ → Parsed X) → flagField l next ≡ onGood (flagAt l) next
+unfolding flagField flagAt onGood
+flag-field l next =
+    number-field 1 l (λ n rest. next (eqb n 1) rest)
+    ∙ sym (on-on (fieldAt 1 l) (λ n rest. good (eqb n 1) rest) next)
+
+pub numbers-field : {X : Type 0} (n : ℕ) (l : List ℕ) (next : List ℕ → List ℕ → Parsed X) → numbersField n l next ≡ onGood (numbersAt n l) next
+unfolding numbersField numbersAt onGood
+numbers-field zero l next = refl
+numbers-field (suc n) l next =
+    number-field greatest32 l (λ v rest. numbersField n rest (λ vs rest'. next (v ∷ vs) rest'))
+    ∙ on-same (fieldAt greatest32 l) (λ v rest. numbers-field n rest (λ vs rest'. next (v ∷ vs) rest') ∙ sym (on-on (numbersAt n rest) (λ vs rest'. good (v ∷ vs) rest') next))
+    ∙ sym (on-on (fieldAt greatest32 l) (λ v rest. onGood (numbersAt n rest) (λ vs rest'. good (v ∷ vs) rest')) next)
+
+pub set-field : {X : Type 0} (l : List ℕ) (next : Settings → List ℕ → Parsed X) → setField l next ≡ onGood (setAt l) next
+unfolding setField setAt onGood
+set-field l next =
+    numbers-field 17 l (λ vs rest. next (setOf vs) rest)
+    ∙ sym (on-on (numbersAt 17 l) (λ vs rest. good (setOf vs) rest) next)

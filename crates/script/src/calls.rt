@@ -1,0 +1,253 @@
+// The calls of the box.
+use crate::Answered;
+use crate::LinkCall;
+use crate::RestartCall;
+use crate::SetCall;
+use crate::TickCall;
+use crate::read;
+use crate::print;
+use crate::Flag;
+use crate::Num;
+use crate::Set;
+use crate::Signed;
+use crate::unknown;
+use controller::Controller;
+use controller::Fault;
+use controller::ResetAnswer;
+use controller::RestartAnswer;
+use controller::SetAnswer;
+use controller::TickAnswer;
+ghost use mathlib.Core.Path.{_≡_};
+ghost use Prim.Native.Nat.{_≤_};
+ghost use lib.ListN.{length, drop};
+ghost use Rattle.laws.specs.Decimal.{good};
+ghost use Rattle.controller.specs.Sound.{Sound};
+ghost use Rattle.controller.specs.Tick.{saysFault};
+ghost use Rattle.controller.specs.Says.{saysTick, saysSet, saysReset, saysRestart};
+ghost use Rattle.script.specs.Call as calls;
+ghost use Rattle.script.specs.Call.{tickAt, linkAt, settingsAt, restartAt, atEnd};
+ghost use Rattle.script.specs.Answer.{tickText, doneText, onCall};
+ghost use Rattle.script.specs.Print.{Prints};
+ghost use Rattle.script.specs.Steps.{asTick, asLink, asSet, asRestart, inUse, Answers};
+
+// T sample inputs
+fn read_tick(line: &[u8]) -> TickCall
+    ensures { λ r. ⌜ atEnd (tickAt (drop 1 (now (line .entry)))) ≡ asTick r ⌝ }
+{
+    let Signed::Good(sample, after) = read::signed_at(line, 1) else {
+        return TickCall::Unknown;
+    };
+    let Num::Good(inputs, end) = read::field_at(line, after, 255) else {
+        return TickCall::Unknown;
+    };
+    if end < line.len() {
+        return TickCall::Unknown;
+    }
+    TickCall::Tick(sample, inputs as u8)
+}
+
+// F, number, channel (0 for F21)
+fn put_fault(out: &mut [u8], why: Fault) -> usize
+    requires { ⌜ 4096 ≤ length (now out) ⌝ }
+    ensures { λ r. ⌜ Prints 4096 (now (out .entry)) 0 (tickText (saysFault why)) (now (out .exit)) r ⌝ }
+{
+    match why {
+        Fault::F14(channel) => print::put_values(out, b'F', &[14, channel as u64]),
+        Fault::F21 => print::put_values(out, b'F', &[21, 0]),
+    }
+}
+
+// O, D, F or R.
+fn put_tick(out: &mut [u8], answer: TickAnswer) -> usize
+    requires { ⌜ 4096 ≤ length (now out) ⌝ }
+    ensures { λ r. ⌜ Prints 4096 (now (out .entry)) 0 (tickText (saysTick answer)) (now (out .exit)) r ⌝ }
+{
+    match answer {
+        TickAnswer::Outputs(outputs) => print::put_values(out, b'O', &[outputs as u64]),
+        TickAnswer::Dose { outputs, record } => {
+            let settled = print::flag(record.settled);
+            print::put_values(
+                out,
+                b'D',
+                &[
+                    outputs as u64,
+                    record.count as u64,
+                    record.amount as u64,
+                    settled,
+                ],
+            )
+        }
+        TickAnswer::Fault(why) => put_fault(out, why),
+        TickAnswer::R1 => print::put_values(out, b'R', &[1]),
+    }
+}
+
+pub(crate) fn tick(c: Controller, line: &[u8], out: &mut [u8]) -> Answered
+    requires { ⌜ Sound c × (4096 ≤ length (now out)) ⌝ }
+    ensures { λ r. ⌜ Answers (onCall c (atEnd (tickAt (drop 1 (now (line .entry)))))) (now (out .entry)) (now (out .exit)) r ⌝ }
+{
+    let TickCall::Tick(sample, inputs) = read_tick(line) else {
+        return unknown(c, out);
+    };
+    let ticked = c.tick(sample, inputs);
+    let answer = ticked.answer;
+    let next = ticked.next;
+    let len = put_tick(out, answer);
+    Answered { next, len }
+}
+
+// L 0 or 1
+fn read_link(line: &[u8]) -> LinkCall
+    ensures { λ r. ⌜ atEnd (linkAt (drop 1 (now (line .entry)))) ≡ asLink r ⌝ }
+{
+    let Flag::Good(on, end) = read::flag_at(line, 1) else {
+        return LinkCall::Unknown;
+    };
+    if end < line.len() {
+        return LinkCall::Unknown;
+    }
+    LinkCall::Link(on)
+}
+
+pub(crate) fn link(c: Controller, line: &[u8], out: &mut [u8]) -> Answered
+    requires { ⌜ Sound c × (4096 ≤ length (now out)) ⌝ }
+    ensures { λ r. ⌜ Answers (onCall c (atEnd (linkAt (drop 1 (now (line .entry)))))) (now (out .entry)) (now (out .exit)) r ⌝ }
+{
+    let LinkCall::Link(on) = read_link(line) else {
+        return unknown(c, out);
+    };
+    let next = c.link(on);
+    let len = print::put_values(out, b'A', &[]);
+    Answered { next, len }
+}
+
+// S SET
+fn read_settings(line: &[u8]) -> SetCall
+    ensures { λ r. ⌜ atEnd (settingsAt (drop 1 (now (line .entry)))) ≡ asSet r ⌝ }
+{
+    let Set::Good(set, end) = read::set_at(line, 1) else {
+        return SetCall::Unknown;
+    };
+    if end < line.len() {
+        return SetCall::Unknown;
+    }
+    SetCall::Set(set)
+}
+
+fn put_set(out: &mut [u8], answer: SetAnswer) -> usize
+    requires { ⌜ 4096 ≤ length (now out) ⌝ }
+    ensures { λ r. ⌜ Prints 4096 (now (out .entry)) 0 (doneText (saysSet answer)) (now (out .exit)) r ⌝ }
+{
+    match answer {
+        SetAnswer::Taken => print::put_values(out, b'A', &[]),
+        SetAnswer::R3 => print::put_values(out, b'R', &[3]),
+        SetAnswer::R2(row) => print::put_values(out, b'R', &[2, row as u64]),
+    }
+}
+
+pub(crate) fn settings(c: Controller, line: &[u8], out: &mut [u8]) -> Answered
+    requires { ⌜ Sound c × (4096 ≤ length (now out)) ⌝ }
+    ensures { λ r. ⌜ Answers (onCall c (atEnd (settingsAt (drop 1 (now (line .entry)))))) (now (out .entry)) (now (out .exit)) r ⌝ }
+{
+    let SetCall::Set(set) = read_settings(line) else {
+        return unknown(c, out);
+    };
+    let set_to = c.settings(set);
+    let answer = set_to.answer;
+    let next = set_to.next;
+    let len = put_set(out, answer);
+    Answered { next, len }
+}
+
+fn put_reset(out: &mut [u8], answer: ResetAnswer) -> usize
+    requires { ⌜ 4096 ≤ length (now out) ⌝ }
+    ensures { λ r. ⌜ Prints 4096 (now (out .entry)) 0 (doneText (saysReset answer)) (now (out .exit)) r ⌝ }
+{
+    match answer {
+        ResetAnswer::Done => print::put_values(out, b'A', &[]),
+        ResetAnswer::R3 => print::put_values(out, b'R', &[3]),
+    }
+}
+
+pub(crate) fn reset(c: Controller, line: &[u8], out: &mut [u8]) -> Answered
+    requires { ⌜ Sound c × (4096 ≤ length (now out)) ⌝ }
+    ensures { λ r. ⌜ Answers (onCall c (atEnd (good calls.reset (drop 1 (now (line .entry)))))) (now (out .entry)) (now (out .exit)) r ⌝ }
+{
+    if 1 < line.len() {
+        return unknown(c, out);
+    }
+    let reset_to = c.reset();
+    let answer = reset_to.answer;
+    let next = reset_to.next;
+    let len = put_reset(out, answer);
+    Answered { next, len }
+}
+
+pub(crate) fn counters(c: Controller, line: &[u8], out: &mut [u8]) -> Answered
+    requires { ⌜ Sound c × (4096 ≤ length (now out)) ⌝ }
+    ensures { λ r. ⌜ Answers (onCall c (atEnd (good calls.counters (drop 1 (now (line .entry)))))) (now (out .entry)) (now (out .exit)) r ⌝ }
+{
+    if 1 < line.len() {
+        return unknown(c, out);
+    }
+    let now = c.counters();
+    let len = print::put_values(out, b'Q', &[now.count as u64, now.total as u64]);
+    Answered { next: c, len }
+}
+
+// N SET count total
+fn read_restart(line: &[u8]) -> RestartCall
+    ensures { λ r. ⌜ atEnd (restartAt (drop 1 (now (line .entry)))) ≡ asRestart r ⌝ }
+{
+    let Set::Good(set, after_set) = read::set_at(line, 1) else {
+        return RestartCall::Unknown;
+    };
+    let Num::Good(count, after_count) = read::field_at(line, after_set, read::GREATEST) else {
+        return RestartCall::Unknown;
+    };
+    let Num::Good(total, end) = read::field_at(line, after_count, read::GREATEST) else {
+        return RestartCall::Unknown;
+    };
+    if end < line.len() {
+        return RestartCall::Unknown;
+    }
+    RestartCall::Restart(set, count, total)
+}
+
+// A, R 2 row or R 15.
+fn put_restart(out: &mut [u8], answer: RestartAnswer) -> usize
+    requires { ⌜ 4096 ≤ length (now out) ⌝ }
+    ensures { λ r. ⌜ Prints 4096 (now (out .entry)) 0 (doneText (saysRestart answer)) (now (out .exit)) r ⌝ }
+{
+    match answer {
+        RestartAnswer::Done => print::put_values(out, b'A', &[]),
+        RestartAnswer::R2(row) => print::put_values(out, b'R', &[2, row as u64]),
+        RestartAnswer::R15 => print::put_values(out, b'R', &[15]),
+    }
+}
+
+// A refused restart leaves the old controller in use.
+fn in_use(answer: RestartAnswer, old: Controller, new: Controller) -> Controller
+    ensures { λ r. ⌜ r ≡ inUse answer old new ⌝ }
+{
+    match answer {
+        RestartAnswer::Done => new,
+        RestartAnswer::R2(_) => old,
+        RestartAnswer::R15 => old,
+    }
+}
+
+pub(crate) fn restart(c: Controller, line: &[u8], out: &mut [u8]) -> Answered
+    requires { ⌜ Sound c × (4096 ≤ length (now out)) ⌝ }
+    ensures { λ r. ⌜ Answers (onCall c (atEnd (restartAt (drop 1 (now (line .entry)))))) (now (out .entry)) (now (out .exit)) r ⌝ }
+{
+    let RestartCall::Restart(set, count, total) = read_restart(line) else {
+        return unknown(c, out);
+    };
+    let restarted = Controller::restart(set, count, total);
+    let answer = restarted.answer;
+    let new = restarted.next;
+    let next = in_use(answer, c, new);
+    let len = put_restart(out, answer);
+    Answered { next, len }
+}

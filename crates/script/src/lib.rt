@@ -1,0 +1,152 @@
+// One call to a line: what a line of a script asks, and the line that answers it.
+mod blocks;
+mod calls;
+mod print;
+mod read;
+mod tools;
+
+pub use blocks::Fed;
+pub use blocks::Replay;
+pub use blocks::feed;
+use controller::Controller;
+use field::Field;
+use field::Weight;
+use journal::Line;
+use settings::Settings;
+ghost use Prim.Native.Nat.{_≤_};
+ghost use lib.ListN.{length};
+ghost use Rattle.laws.specs.Decimal.{bad};
+ghost use Rattle.controller.specs.Sound.{Sound};
+ghost use Rattle.script.specs.Answer.{onCall};
+ghost use Rattle.script.specs.Steps.{Answers};
+
+// The next controller, and how many bytes the answer has.
+pub struct Answered {
+    pub next: Controller,
+    pub len: usize,
+}
+
+// A number read at a place: its value and the place after it, or none.
+enum Num {
+    Good(u32, usize),
+    Bad,
+}
+
+enum Signed {
+    Good(i32, usize),
+    Bad,
+}
+
+enum Flag {
+    Good(bool, usize),
+    Bad,
+}
+
+// Bytes read at a place: how many, and the place after them.
+enum Bytes {
+    Good(usize, usize),
+    Bad,
+}
+
+// n numbers read at a place; the others are 0.
+struct Numbers {
+    good: bool,
+    next: usize,
+    values: [u32; 17],
+}
+
+enum Set {
+    Good(Settings, usize),
+    Bad,
+}
+
+enum TickCall {
+    Tick(i32, u8),
+    Unknown,
+}
+
+enum LinkCall {
+    Link(bool),
+    Unknown,
+}
+
+enum SetCall {
+    Set(Settings),
+    Unknown,
+}
+
+enum RestartCall {
+    Restart(Settings, u32, u32),
+    Unknown,
+}
+
+enum WeightCall {
+    Weight(Weight),
+    Unknown,
+}
+
+enum FieldCall {
+    Field(Field),
+    Unknown,
+}
+
+// So many bytes, and the room of a buffer.
+enum RoomCall {
+    Room(usize, usize),
+    Unknown,
+}
+
+enum BytesCall {
+    Bytes(usize),
+    Unknown,
+}
+
+enum LineCall {
+    Line(Line, usize),
+    Unknown,
+}
+
+// So many bytes hold every answer.
+pub const ENOUGH: usize = 4096;
+
+// A line has at most so many bytes, its LF left out.
+pub const LONGEST: usize = 4095;
+
+// A line that is no call is answered ? and calls nothing.
+fn unknown(c: Controller, out: &mut [u8]) -> Answered
+    requires { ⌜ Sound c × (4096 ≤ length (now out)) ⌝ }
+    ensures { λ r. ⌜ Answers (onCall c bad) (now (out .entry)) (now (out .exit)) r ⌝ }
+{
+    let len = print::put_values(out, b'?', &[]);
+    Answered { next: c, len }
+}
+
+// The answer to a line that has a letter.
+fn by_letter(c: Controller, line: &[u8], out: &mut [u8]) -> Answered {
+    match line[0] {
+        b'T' => calls::tick(c, line, out),
+        b'L' => calls::link(c, line, out),
+        b'S' => calls::settings(c, line, out),
+        b'C' => calls::reset(c, line, out),
+        b'Q' => calls::counters(c, line, out),
+        b'N' => calls::restart(c, line, out),
+        letter => {
+            let len = tools::by_letter(letter, line, out);
+            Answered { next: c, len }
+        }
+    }
+}
+
+// The answer to a line, its LF left out; a buffer that is not enough is left as it was, and nothing is called.
+pub fn answer(c: Controller, line: &[u8], out: &mut [u8]) -> Answered {
+    if out.len() < ENOUGH {
+        return Answered { next: c, len: 0 };
+    }
+    if line.len() == 0 {
+        return unknown(c, out);
+    }
+    if LONGEST < line.len() {
+        return unknown(c, out);
+    }
+    by_letter(c, line, out)
+}

@@ -1,0 +1,159 @@
+// The fields of an answer, put into a lent buffer that has room for them.
+ghost use mathlib.Core.Path.{_≡_};
+ghost use mathlib.Core.List.{[], _∷_, _++_};
+ghost use Prim.Native.Nat.{_+_, _*_, _≤_, _<_};
+ghost use lib.IntN.{natAbs};
+ghost use lib.ListN.{length};
+ghost use Rattle.laws.specs.Pick.{pick};
+ghost use Rattle.laws.specs.Decimal.{glyph, decimal, hexOf};
+ghost use Rattle.script.specs.Answer.{bytesText, signedText, lineText, valuesText};
+ghost use Rattle.script.specs.Print.{Prints, pieces, fieldOf};
+
+const TAB: u8 = 9;
+
+const LF: u8 = 10;
+
+// One byte.
+fn put_byte(out: &mut [u8], at: usize, b: u8) -> usize
+    requires { ⌜ at + 1 ≤ length (now out) ⌝ }
+    ensures { λ r. ⌜ Prints 1 (now (out .entry)) at (b ∷ []) (now (out .exit)) r ⌝ }
+{
+    text::put_byte(out, at, b)
+}
+
+// A number.
+fn put_number(out: &mut [u8], at: usize, n: u64) -> usize
+    requires { ⌜ at + 20 ≤ length (now out) ⌝ }
+    ensures { λ r. ⌜ Prints 20 (now (out .entry)) at (decimal n) (now (out .exit)) r ⌝ }
+{
+    text::put_decimal(out, at, n)
+}
+
+// A tab and a number.
+fn put_field(out: &mut [u8], at: usize, n: u64) -> usize
+    requires { ⌜ at + 21 ≤ length (now out) ⌝ }
+    ensures { λ r. ⌜ Prints 21 (now (out .entry)) at (fieldOf n) (now (out .exit)) r ⌝ }
+{
+    let after = put_byte(out, at, TAB);
+    put_number(out, after, n)
+}
+
+// A tab and a number for each value.
+fn put_fields(out: &mut [u8], at: usize, values: &[u64]) -> usize
+    requires { ⌜ at + 21 * length (now values) ≤ length (now out) ⌝ }
+    ensures { λ r. ⌜ Prints (21 * length (now (values .entry))) (now (out .entry)) at (pieces fieldOf (now (values .entry))) (now (out .exit)) r ⌝ }
+{
+    let mut p = at;
+    let mut i: usize = 0;
+    while i < values.len() {
+        p = put_field(out, p, values[i]);
+        i += 1;
+    }
+    p
+}
+
+// A letter and the values.
+fn put_start(out: &mut [u8], letter: u8, values: &[u64]) -> usize
+    requires { ⌜ 1 + 21 * length (now values) ≤ length (now out) ⌝ }
+    ensures { λ r. ⌜ Prints (1 + 21 * length (now (values .entry))) (now (out .entry)) 0 (letter ∷ pieces fieldOf (now (values .entry))) (now (out .exit)) r ⌝ }
+{
+    let after = put_byte(out, 0, letter);
+    put_fields(out, after, values)
+}
+
+// The whole line of a letter and values.
+pub(crate) fn put_values(out: &mut [u8], letter: u8, values: &[u64]) -> usize
+    requires { ⌜ (length (now values) ≤ 16) × (4096 ≤ length (now out)) ⌝ }
+    ensures { λ r. ⌜ Prints 4096 (now (out .entry)) 0 (lineText (letter ∷ []) (valuesText (now (values .entry)))) (now (out .exit)) r ⌝ }
+{
+    let after = put_start(out, letter, values);
+    put_byte(out, after, LF)
+}
+
+// The ASCII code of a hexadecimal digit, in upper case.
+fn hex_digit(d: u8) -> u8
+    requires { ⌜ d < 16 ⌝ }
+    ensures { λ r. ⌜ r ≡ glyph d ⌝ }
+{
+    if d < 10 { 48 + d } else { 55 + d }
+}
+
+// The two hexadecimal digits of a byte.
+fn put_hex(out: &mut [u8], at: usize, b: u8) -> usize
+    requires { ⌜ at + 2 ≤ length (now out) ⌝ }
+    ensures { λ r. ⌜ Prints 2 (now (out .entry)) at (hexOf 2 b) (now (out .exit)) r ⌝ }
+{
+    let high = hex_digit(b / 16);
+    let low = hex_digit(b % 16);
+    let after = put_byte(out, at, high);
+    put_byte(out, after, low)
+}
+
+// Bytes, two digits a byte.
+fn put_bytes(out: &mut [u8], at: usize, bytes: &[u8]) -> usize
+    requires { ⌜ at + 2 * length (now bytes) ≤ length (now out) ⌝ }
+    ensures { λ r. ⌜ Prints (2 * length (now (bytes .entry))) (now (out .entry)) at (bytesText (now (bytes .entry))) (now (out .exit)) r ⌝ }
+{
+    let mut p = at;
+    let mut i: usize = 0;
+    while i < bytes.len() {
+        p = put_hex(out, p, bytes[i]);
+        i += 1;
+    }
+    p
+}
+
+// The whole line of a letter, values and bytes.
+pub(crate) fn put_shown(out: &mut [u8], letter: u8, values: &[u64], bytes: &[u8]) -> usize
+    requires { ⌜ (length (now values) ≤ 3) × (length (now bytes) ≤ 2000) × (4096 ≤ length (now out)) ⌝ }
+    ensures { λ r. ⌜ Prints 4096 (now (out .entry)) 0 (lineText (letter ∷ []) (valuesText (now (values .entry)) ++ bytesText (now (bytes .entry)) ∷ [])) (now (out .exit)) r ⌝ }
+{
+    let after_values = put_start(out, letter, values);
+    let after_tab = put_byte(out, after_values, TAB);
+    let after_bytes = put_bytes(out, after_tab, bytes);
+    put_byte(out, after_bytes, LF)
+}
+
+// How far a number is from 0, at every i32.
+fn size_of(value: i32) -> u64
+    ensures { λ r. ⌜ r ≡ natAbs value ⌝ }
+{
+    let wide = value as i64;
+    if wide < 0 {
+        (0 - wide) as u64
+    } else {
+        wide as u64
+    }
+}
+
+// A number that may begin with a minus.
+fn put_signed(out: &mut [u8], at: usize, value: i32) -> usize
+    requires { ⌜ at + 21 ≤ length (now out) ⌝ }
+    ensures { λ r. ⌜ Prints 21 (now (out .entry)) at (signedText value) (now (out .exit)) r ⌝ }
+{
+    let size = size_of(value);
+    if value < 0 {
+        let after = put_byte(out, at, b'-');
+        return put_number(out, after, size);
+    }
+    put_number(out, at, size)
+}
+
+// The whole line of P, a weight and values.
+pub(crate) fn put_weight(out: &mut [u8], weight: i32, values: &[u64]) -> usize
+    requires { ⌜ (length (now values) ≤ 3) × (4096 ≤ length (now out)) ⌝ }
+    ensures { λ r. ⌜ Prints 4096 (now (out .entry)) 0 (lineText (80 ∷ []) (signedText weight ∷ valuesText (now (values .entry)))) (now (out .exit)) r ⌝ }
+{
+    let after_letter = put_byte(out, 0, b'P');
+    let after_tab = put_byte(out, after_letter, TAB);
+    let after_weight = put_signed(out, after_tab, weight);
+    let after = put_fields(out, after_weight, values);
+    put_byte(out, after, LF)
+}
+
+// 1 or 0.
+pub(crate) fn flag(on: bool) -> u64
+    ensures { λ r. ⌜ r ≡ pick on 1 0 ⌝ }
+{
+    if on { 1 } else { 0 }
+}

@@ -1,0 +1,363 @@
+// The calls of the writers and readers, which need no controller.
+use crate::Bytes;
+use crate::BytesCall;
+use crate::FieldCall;
+use crate::Flag;
+use crate::LineCall;
+use crate::Num;
+use crate::RoomCall;
+use crate::Signed;
+use crate::WeightCall;
+use crate::print;
+use crate::read;
+use field::Field;
+use field::Got;
+use field::Weight;
+use field::Written;
+use frame::Found;
+use frame::Wrote as Framed;
+use hourly::Asked;
+use hourly::Hour;
+use hourly::Printed;
+use journal::Line;
+use journal::One;
+use journal::Refusal;
+use journal::Wrote;
+ghost use mathlib.Core.Path.{_≡_};
+ghost use mathlib.Core.List.{[]};
+ghost use Prim.Native.Nat.{_*_, _≤_};
+ghost use lib.ListN.{length, drop, replicate};
+ghost use Rattle.laws.specs.Decimal.{bad};
+ghost use Rattle.field.specs.Says.{saysWritten, saysGot};
+ghost use Rattle.frame.specs.Frame as frames;
+ghost use Rattle.frame.specs.Says.{Reads};
+ghost use Rattle.frame.specs.Read as frames-read;
+ghost use Rattle.journal.specs.Line as lines;
+ghost use Rattle.journal.specs.Says.{saysOne};
+ghost use Rattle.hourly.specs.Text.{printOf};
+ghost use Rattle.hourly.specs.Says.{saysAsked};
+ghost use Rattle.script.specs.Call as calls;
+ghost use Rattle.script.specs.Call.{writeFieldAt, readFieldAt, roomAt, bytesCall, doseAt, onAt, hourAt, atEnd};
+ghost use Rattle.script.specs.Answer.{filledText, fieldText, weightText, frameText, readLineText, hourText, hoursText};
+ghost use Rattle.script.specs.Print.{Prints};
+ghost use Rattle.script.specs.Steps.{asWeight, asField, asLine, roomOf, ReadsLine, ReadsRoom, ReadsBytes, Untouched, Tells, toolBy};
+
+// A line that is no call.
+fn unknown(out: &mut [u8]) -> usize
+    requires { ⌜ 4096 ≤ length (now out) ⌝ }
+    ensures { λ r. ⌜ Tells bad (now (out .entry)) (now (out .exit)) r ⌝ }
+{
+    print::put_values(out, b'?', &[])
+}
+
+// Room for the bytes of every line.
+fn no_bytes() -> [u8; 2048]
+    ensures { λ r. ⌜ length r ≡ 2048 ⌝ }
+{
+    [0u8; 2048]
+}
+
+// A buffer before a call.
+fn untouched() -> [u8; 2000]
+    ensures { λ r. ⌜ Untouched r ⌝ }
+{
+    [0xA5u8; 2000]
+}
+
+// G weight stable over point
+fn read_weight(line: &[u8]) -> WeightCall
+    ensures { λ r. ⌜ atEnd (writeFieldAt (drop 1 (now (line .entry)))) ≡ asWeight r ⌝ }
+{
+    let Signed::Good(value, after_value) = read::signed_at(line, 1) else {
+        return WeightCall::Unknown;
+    };
+    let Flag::Good(stable, after_stable) = read::flag_at(line, after_value) else {
+        return WeightCall::Unknown;
+    };
+    let Flag::Good(over, after_over) = read::flag_at(line, after_stable) else {
+        return WeightCall::Unknown;
+    };
+    let Num::Good(point, end) = read::field_at(line, after_over, 255) else {
+        return WeightCall::Unknown;
+    };
+    if end < line.len() {
+        return WeightCall::Unknown;
+    }
+    WeightCall::Weight(Weight {
+        value,
+        stable,
+        over,
+        point: point as u8,
+    })
+}
+
+fn put_written(out: &mut [u8], written: Written) -> usize
+    requires { ⌜ 4096 ≤ length (now out) ⌝ }
+    ensures { λ r. ⌜ Prints 4096 (now (out .entry)) 0 (fieldText (saysWritten written)) (now (out .exit)) r ⌝ }
+{
+    match written {
+        Written::Bytes(f) => print::put_shown(out, b'P', &[], &[f.low, f.middle, f.high, f.con]),
+        Written::R16 => print::put_values(out, b'R', &[16]),
+    }
+}
+
+fn write_field(line: &[u8], out: &mut [u8]) -> usize
+    requires { ⌜ 4096 ≤ length (now out) ⌝ }
+    ensures { λ r. ⌜ Tells (atEnd (writeFieldAt (drop 1 (now (line .entry))))) (now (out .entry)) (now (out .exit)) r ⌝ }
+{
+    let WeightCall::Weight(weight) = read_weight(line) else {
+        return unknown(out);
+    };
+    let written = field::write(weight);
+    put_written(out, written)
+}
+
+// K four bytes
+fn read_four(line: &[u8]) -> FieldCall
+    requires { ⌜ length (now line) ≤ 4095 ⌝ }
+    ensures { λ r. ⌜ atEnd (readFieldAt (drop 1 (now (line .entry)))) ≡ asField r ⌝ }
+{
+    let mut bytes = no_bytes();
+    let Bytes::Good(n, end) = read::bytes_at(line, 1, &mut bytes) else {
+        return FieldCall::Unknown;
+    };
+    if n != 4 {
+        return FieldCall::Unknown;
+    }
+    if end < line.len() {
+        return FieldCall::Unknown;
+    }
+    FieldCall::Field(Field {
+        low: bytes[0],
+        middle: bytes[1],
+        high: bytes[2],
+        con: bytes[3],
+    })
+}
+
+fn put_got(out: &mut [u8], got: Got) -> usize
+    requires { ⌜ 4096 ≤ length (now out) ⌝ }
+    ensures { λ r. ⌜ Prints 4096 (now (out .entry)) 0 (weightText (saysGot got)) (now (out .exit)) r ⌝ }
+{
+    match got {
+        Got::Values(w) => {
+            let stable = print::flag(w.stable);
+            let over = print::flag(w.over);
+            print::put_weight(out, w.value, &[stable, over, w.point as u64])
+        }
+        Got::R16 => print::put_values(out, b'R', &[16]),
+    }
+}
+
+fn read_field(line: &[u8], out: &mut [u8]) -> usize
+    requires { ⌜ (length (now line) ≤ 4095) × (4096 ≤ length (now out)) ⌝ }
+    ensures { λ r. ⌜ Tells (atEnd (readFieldAt (drop 1 (now (line .entry))))) (now (out .entry)) (now (out .exit)) r ⌝ }
+{
+    let FieldCall::Field(four) = read_four(line) else {
+        return unknown(out);
+    };
+    let got = field::read(four);
+    put_got(out, got)
+}
+
+// Bytes, and the room of a buffer.
+pub(crate) fn read_room(line: &[u8], bytes: &mut [u8], most: u32) -> RoomCall
+    requires { ⌜ length (now line) ≤ 2 * length (now bytes) ⌝ }
+    ensures { λ r. ⌜ ReadsRoom most (now (line .entry)) (now (bytes .exit)) (now (bytes .entry)) r ⌝ }
+{
+    let Bytes::Good(n, after) = read::bytes_at(line, 1, bytes) else {
+        return RoomCall::Unknown;
+    };
+    let Num::Good(room, end) = read::field_at(line, after, most) else {
+        return RoomCall::Unknown;
+    };
+    if end < line.len() {
+        return RoomCall::Unknown;
+    }
+    RoomCall::Room(n, room as usize)
+}
+
+// A frame written into a buffer, and the whole buffer shown.
+fn show_frame(body: &[u8], buffer: &mut [u8], out: &mut [u8]) -> usize
+    requires before { ⌜ now buffer ≡ replicate (length (now buffer)) 0xA5 ⌝ }
+    requires room { ⌜ (length (now buffer) ≤ 2000) × (4096 ≤ length (now out)) ⌝ }
+    ensures { λ r. ⌜ Prints 4096 (now (out .entry)) 0 (filledText [] (length (now (buffer .entry))) (frames.writeOf (now (body .entry)) (length (now (buffer .entry))))) (now (out .exit)) r ⌝ }
+{
+    match frame::write_frame(body, buffer) {
+        Framed::Frame(len) => print::put_shown(out, b'P', &[len as u64], buffer),
+        Framed::R14 => print::put_shown(out, b'R', &[14], buffer),
+        Framed::R8 => print::put_shown(out, b'R', &[8], buffer),
+    }
+}
+
+// W bytes room
+fn write_frame(line: &[u8], out: &mut [u8]) -> usize
+    requires { ⌜ (length (now line) ≤ 4095) × (4096 ≤ length (now out)) ⌝ }
+    ensures { λ r. ⌜ Tells (atEnd (roomAt 600 calls.writeFrame (drop 1 (now (line .entry))))) (now (out .entry)) (now (out .exit)) r ⌝ }
+{
+    let mut bytes = no_bytes();
+    let RoomCall::Room(n, room) = read_room(line, &mut bytes, 600) else {
+        return unknown(out);
+    };
+    let mut buffer = untouched();
+    show_frame(&bytes[..n], &mut buffer[..room], out)
+}
+
+// Bytes alone.
+fn read_bytes(line: &[u8], bytes: &mut [u8]) -> BytesCall
+    requires { ⌜ length (now line) ≤ 2 * length (now bytes) ⌝ }
+    ensures { λ r. ⌜ ReadsBytes (now (line .entry)) (now (bytes .exit)) (now (bytes .entry)) r ⌝ }
+{
+    let Bytes::Good(n, end) = read::bytes_at(line, 1, bytes) else {
+        return BytesCall::Unknown;
+    };
+    if end < line.len() {
+        return BytesCall::Unknown;
+    }
+    BytesCall::Bytes(n)
+}
+
+// The first finished body, or why there is none.
+fn show_body(bytes: &[u8], out: &mut [u8]) -> usize
+    requires { ⌜ 4096 ≤ length (now out) ⌝ }
+    ensures { λ r. ⌜ Prints 4096 (now (out .entry)) 0 (frameText (frames-read.readOf (now (bytes .entry)))) (now (out .exit)) r ⌝ }
+{
+    let back = frame::read_frame(bytes);
+    let found = back.found;
+    let body = back.body;
+    match found {
+        Found::Body { place, len } => {
+            print::put_shown(out, b'P', &[place as u64, len as u64], &body[..len])
+        }
+        Found::R9(place) => print::put_values(out, b'R', &[9, place as u64]),
+        Found::R6(place) => print::put_values(out, b'R', &[6, place as u64]),
+    }
+}
+
+// X bytes
+fn read_frame(line: &[u8], out: &mut [u8]) -> usize
+    requires { ⌜ (length (now line) ≤ 4095) × (4096 ≤ length (now out)) ⌝ }
+    ensures { λ r. ⌜ Tells (atEnd (bytesCall calls.readFrame (drop 1 (now (line .entry))))) (now (out .entry)) (now (out .exit)) r ⌝ }
+{
+    let mut bytes = no_bytes();
+    let BytesCall::Bytes(n) = read_bytes(line, &mut bytes) else {
+        return unknown(out);
+    };
+    show_body(&bytes[..n], out)
+}
+
+// D hour count amount settled room
+fn read_dose(line: &[u8]) -> LineCall
+    ensures { λ r. ⌜ ReadsLine (atEnd (doseAt (drop 1 (now (line .entry))))) r ⌝ }
+{
+    let numbers = read::numbers_at(line, 1, 4);
+    if !numbers.good {
+        return LineCall::Unknown;
+    }
+    let Num::Good(room, end) = read::field_at(line, numbers.next, 64) else {
+        return LineCall::Unknown;
+    };
+    if end < line.len() {
+        return LineCall::Unknown;
+    }
+    let v = numbers.values;
+    LineCall::Line(
+        Line::Dose {
+            hour: v[0],
+            count: v[1],
+            amount: v[2],
+            settled: v[3],
+        },
+        room as usize,
+    )
+}
+
+// H hour room
+fn read_on(line: &[u8]) -> LineCall
+    ensures { λ r. ⌜ ReadsLine (atEnd (onAt (drop 1 (now (line .entry))))) r ⌝ }
+{
+    let Num::Good(hour, after) = read::field_at(line, 1, read::GREATEST) else {
+        return LineCall::Unknown;
+    };
+    let Num::Good(room, end) = read::field_at(line, after, 64) else {
+        return LineCall::Unknown;
+    };
+    if end < line.len() {
+        return LineCall::Unknown;
+    }
+    LineCall::Line(Line::On { hour }, room as usize)
+}
+
+// A line written into a buffer, and the whole buffer shown.
+fn show_line(line: Line, buffer: &mut [u8], out: &mut [u8]) -> usize
+    requires before { ⌜ now buffer ≡ replicate (length (now buffer)) 0xA5 ⌝ }
+    requires room { ⌜ (length (now buffer) ≤ 2000) × (4096 ≤ length (now out)) ⌝ }
+    ensures { λ r. ⌜ Prints 4096 (now (out .entry)) 0 (filledText [] (length (now (buffer .entry))) (lines.writeOf line (length (now (buffer .entry))))) (now (out .exit)) r ⌝ }
+{
+    match journal::write(line, buffer) {
+        Wrote::Line(len) => print::put_shown(out, b'P', &[len as u64], buffer),
+        Wrote::R10 => print::put_shown(out, b'R', &[10, 0], buffer),
+        Wrote::R8 => print::put_shown(out, b'R', &[8], buffer),
+    }
+}
+
+fn write_line(call: LineCall, out: &mut [u8]) -> usize
+    requires { ⌜ (roomOf call ≤ 64) × (4096 ≤ length (now out)) ⌝ }
+    ensures { λ r. ⌜ Tells (asLine call) (now (out .entry)) (now (out .exit)) r ⌝ }
+{
+    let LineCall::Line(line, room) = call else {
+        return unknown(out);
+    };
+    let mut buffer = untouched();
+    show_line(line, &mut buffer[..room], out)
+}
+
+// The line that was read, or R10.
+fn put_one(out: &mut [u8], one: One) -> usize
+    requires { ⌜ 4096 ≤ length (now out) ⌝ }
+    ensures { λ r. ⌜ Prints 4096 (now (out .entry)) 0 (readLineText (saysOne one)) (now (out .exit)) r ⌝ }
+{
+    let One::Line(found) = one else {
+        return print::put_values(out, b'R', &[10, 1]);
+    };
+    match found {
+        Line::Dose {
+            hour,
+            count,
+            amount,
+            settled,
+        } => print::put_values(
+            out,
+            b'D',
+            &[hour as u64, count as u64, amount as u64, settled as u64],
+        ),
+        Line::On { hour } => print::put_values(out, b'H', &[hour as u64]),
+    }
+}
+
+// l bytes
+fn read_line(line: &[u8], out: &mut [u8]) -> usize
+    requires { ⌜ (length (now line) ≤ 4095) × (4096 ≤ length (now out)) ⌝ }
+    ensures { λ r. ⌜ Tells (atEnd (bytesCall calls.readLine (drop 1 (now (line .entry))))) (now (out .entry)) (now (out .exit)) r ⌝ }
+{
+    let mut bytes = no_bytes();
+    let BytesCall::Bytes(n) = read_bytes(line, &mut bytes) else {
+        return unknown(out);
+    };
+    let one = journal::read_line(&bytes[..n]);
+    put_one(out, one)
+}
+
+// A call that needs no controller, by its letter.
+pub(crate) fn by_letter(letter: u8, line: &[u8], out: &mut [u8]) -> usize {
+    match letter {
+        b'W' => write_frame(line, out),
+        b'X' => read_frame(line, out),
+        b'G' => write_field(line, out),
+        b'K' => read_field(line, out),
+        b'D' => write_line(read_dose(line), out),
+        b'H' => write_line(read_on(line), out),
+        b'l' => read_line(line, out),
+        _ => unknown(out),
+    }
+}
