@@ -4,3 +4,4 @@ pub mod Figures
 pub mod Lines
 pub mod Texts
 pub mod Shown
+pub mod Telling
