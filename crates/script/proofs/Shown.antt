@@ -18,6 +18,7 @@ use Rattle.frame.specs.declared.Found.{Found}
 use Rattle.frame.specs.declared.Found.the-variants as F
 use Rattle.frame.specs.declared.Read.{Read}
 use Rattle.frame.specs.Read.{Finished, readOf}
+use Rattle.frame.specs.ReadLaws.{done-whole}
 use Rattle.frame.specs.Says.{saysFound, placeAndLength, bytesOf, Reads}
 use Rattle.script.specs.Call.{Call, readField, fieldFrom}
 use Rattle.script.specs.Answer.{numberText, signedText, flagText, bytesText, lineText, valuesText, refusedText, filledText, frameText, weightText}
@@ -46,11 +47,11 @@ shown {a} {rule} {old} {new} e f = filled (length old) a rule new (f .says) (f .
 
 -- ---- the frame reader
 
-bodied : (a : Answer Finished) (body : List ℕ) (place len : ℕ)
+bodied : (a : Answer Finished) (body : List ℕ) (place len : ℕ) → ((f : Finished) → a ≡ done f → length (f .bytes) ≤ 255)
     → done (place, len) ≡ told placeAndLength a → body ≡ bytesIn (told bytesOf a) ++ replicate (255 - length (bytesIn (told bytesOf a))) 0
-    → (lineText (80 ∷ []) (valuesText (place ∷ len ∷ []) ++ bytesText (take len body) ∷ []) ≡ frameText a) × (len ≤ length body)
+    → (lineText (80 ∷ []) (valuesText (place ∷ len ∷ []) ++ bytesText (take len body) ∷ []) ≡ frameText a) × (len ≤ length body) × (len ≤ 255)
 unfolding told bytesIn frameText valuesText
-bodied (done f) body place len e h =
+bodied (done f) body place len most e h =
     let x : _≡_ {A = ℕ × ℕ} (place, len) (f .place, length (f .bytes)) = cc in
     let p : place ≡ f .place = ap (λ (t : ℕ × ℕ). t .0) x in
     let n : len ≡ length (f .bytes) = ap (λ (t : ℕ × ℕ). t .1) x in
@@ -58,13 +59,14 @@ bodied (done f) body place len e h =
     (ap (λ (k : ℕ). lineText (80 ∷ []) (numberText k ∷ numberText len ∷ bytesText (take len body) ∷ [])) p
     ∙ ap (λ (k : ℕ). lineText (80 ∷ []) (numberText (f .place) ∷ numberText k ∷ bytesText (take len body) ∷ [])) n
     ∙ ap (λ (l : List ℕ). lineText (80 ∷ []) (numberText (f .place) ∷ numberText (length (f .bytes)) ∷ bytesText l ∷ [])) b,
-    omega (arith, ap length h, length-append (f .bytes) (replicate (255 - length (f .bytes)) 0), n))
-bodied (refused n vs) body place len e h = let z : _≡_ {A = ℕ} 0 1 = cc in no-way z
-bodied (fault n vs) body place len e h = let z : _≡_ {A = ℕ} 0 1 = cc in no-way z
+    omega (arith, ap length h, length-append (f .bytes) (replicate (255 - length (f .bytes)) 0), n),
+    omega (arith, n, most f refl))
+bodied (refused n vs) body place len most e h = let z : _≡_ {A = ℕ} 0 1 = cc in no-way z
+bodied (fault n vs) body place len most e h = let z : _≡_ {A = ℕ} 0 1 = cc in no-way z
 
 pub body-shown : (s : List ℕ) (r : Read) (place len : ℕ) → Reads s r → r .found ≡ F.Body place len
-    → (lineText (80 ∷ []) (valuesText (place ∷ len ∷ []) ++ bytesText (take len (r .body)) ∷ []) ≡ frameText (readOf s)) × (len ≤ length (r .body))
-body-shown s r place len h e = bodied (readOf s) (r .body) place len (ap saysFound (sym e) ∙ h .says) (h .holds)
+    → (lineText (80 ∷ []) (valuesText (place ∷ len ∷ []) ++ bytesText (take len (r .body)) ∷ []) ≡ frameText (readOf s)) × (len ≤ length (r .body)) × (len ≤ 255)
+body-shown s r place len h e = bodied (readOf s) (r .body) place len (λ f k. done-whole s f k .sized .most) (ap saysFound (sym e) ∙ h .says) (h .holds)
 
 bodiless : (a : Answer Finished) (n : ℕ) (vs : List ℕ) → refused n vs ≡ told placeAndLength a → lineText (82 ∷ []) (valuesText (n ∷ vs)) ≡ frameText a
 unfolding told frameText refusedText valuesText
