@@ -75,7 +75,11 @@ div-no-nan f (fin s m e) (fin t zero d) a b v w h =
     absurd (omega arith)
 div-no-nan f (fin s m e) (fin t (suc n) d) a b v w h = rw eqb·suc-zero (round-no-nan f _ _ _)
 
--- a mean of whole numbers is no NaN
+-- a whole number is no NaN, nor is a mean of whole numbers
+pub whole-no-nan : (n : ℕ) → T (not (isNan (inFloat n)))
+unfolding ofInt inFloat
+whole-no-nan n = round-no-nan binary64 false n 1
+
 pub mean-no-nan : (a b : ℕ) → a ≤ 2 ^ 53 → b ≤ 2 ^ 53 → 0 < b → T (not (isNan (div binary64 (inFloat a) (inFloat b))))
 unfolding ofInt inFloat
 mean-no-nan a b h k p = div-no-nan binary64 (round binary64 false a 1) (round binary64 false b 1) a b (round-whole binary64 false a h) (round-whole binary64 false b k) p
