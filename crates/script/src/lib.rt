@@ -1,6 +1,7 @@
 // One call to a line: what a line of a script asks, and the line that answers it.
 mod blocks;
 mod calls;
+mod hours;
 mod print;
 mod read;
 mod tools;
@@ -90,7 +91,7 @@ enum FieldCall {
     Unknown,
 }
 
-// So many bytes, and the room of a buffer.
+// So many bytes, and the room of a buffer or an hour.
 enum RoomCall {
     Room(usize, usize),
     Unknown,
