@@ -5,3 +5,5 @@ pub mod Lines
 pub mod Texts
 pub mod Shown
 pub mod Telling
+pub mod Journals
+pub mod Letters
