@@ -8,8 +8,8 @@ use Rattle.laws.specs.Decimal.{bad}
 use Rattle.script.specs.Call.{atEnd}
 use Rattle.script.specs.Steps.{Tells, toolBy, tells-as}
 
-pub tool-at : (k : ℕ) {letter r : ℕ} {l old new : List ℕ} → letter ≡ k → Tells (atEnd (toolBy k l)) old new r → Tells (atEnd (toolBy letter l)) old new r
-tool-at k {letter} {r} {l} e t = tells-as (ap (λ (x : ℕ). atEnd (toolBy x l)) e) t
+pub tool-at : (k : ℕ) (l : List ℕ) {letter r : ℕ} {old new : List ℕ} → letter ≡ k → Tells (atEnd (toolBy k l)) old new r → Tells (atEnd (toolBy letter l)) old new r
+tool-at k l e t = tells-as (ap (λ (x : ℕ). atEnd (toolBy x l)) e) t
 
 pub no-tool : (letter : ℕ) (l : List ℕ)
     → (letter ≡ 87 → ⊥) → (letter ≡ 88 → ⊥) → (letter ≡ 71 → ⊥) → (letter ≡ 75 → ⊥) → (letter ≡ 68 → ⊥)

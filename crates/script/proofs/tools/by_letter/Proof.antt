@@ -1,4 +1,6 @@
 use mathlib.Core.Path.{ap}
+use denote.Ref.{now}
+use lib.ListN.{drop}
 use Rattle.laws.specs.Pick.{pick}
 use Rattle.script.specs.Call.{atEnd}
 use Rattle.script.specs.Steps.{toolBy, tells-as}
@@ -9,39 +11,39 @@ use Rattle.script.proofs.tools.by_letter.Tie as tie
 
 returns : tie.Need-returns
 unfolding toolBy pick
-returns c = tool-at 87 (c .before .before .before .before .match .keys1) (c .before .before .write-frame .ensures)
+returns c = tool-at 87 (drop 1 (now (c .before .before .before .before .before .before .before .args .line))) (c .before .before .before .before .match .keys1) (c .before .before .write-frame .ensures)
 
 returns-2 : tie.Need-returns-2
 unfolding toolBy pick
-returns-2 c = tool-at 88 (c .before .before .before .before .match .keys2) (c .before .before .read-frame .ensures)
+returns-2 c = tool-at 88 (drop 1 (now (c .before .before .before .before .before .before .before .args .line))) (c .before .before .before .before .match .keys2) (c .before .before .read-frame .ensures)
 
 returns-3 : tie.Need-returns-3
 unfolding toolBy pick
-returns-3 c = tool-at 71 (c .before .before .before .before .match .keys3) (c .before .before .write-field .ensures)
+returns-3 c = tool-at 71 (drop 1 (now (c .before .before .before .before .before .before .before .args .line))) (c .before .before .before .before .match .keys3) (c .before .before .write-field .ensures)
 
 returns-4 : tie.Need-returns-4
 unfolding toolBy pick
-returns-4 c = tool-at 75 (c .before .before .before .before .match .keys4) (c .before .before .read-field .ensures)
+returns-4 c = tool-at 75 (drop 1 (now (c .before .before .before .before .before .before .before .args .line))) (c .before .before .before .before .match .keys4) (c .before .before .read-field .ensures)
 
 returns-5 : tie.Need-returns-5
 unfolding toolBy pick
-returns-5 c = tool-at 68 (c .before .before .before .before .before .match .keys5) (tells-as (c .before .before .before .before .read-dose .ensures .reads) (c .before .before .write-line .ensures))
+returns-5 c = tool-at 68 (drop 1 (now (c .before .before .before .before .before .before .before .before .args .line))) (c .before .before .before .before .before .match .keys5) (tells-as (c .before .before .before .before .read-dose .ensures .reads) (c .before .before .write-line .ensures))
 
 returns-6 : tie.Need-returns-6
 unfolding toolBy pick
-returns-6 c = tool-at 72 (c .before .before .before .before .before .match .keys6) (tells-as (c .before .before .before .before .read-on .ensures .reads) (c .before .before .write-line2 .ensures))
+returns-6 c = tool-at 72 (drop 1 (now (c .before .before .before .before .before .before .before .before .args .line))) (c .before .before .before .before .before .match .keys6) (tells-as (c .before .before .before .before .read-on .ensures .reads) (c .before .before .write-line2 .ensures))
 
 returns-7 : tie.Need-returns-7
 unfolding toolBy pick
-returns-7 c = tool-at 108 (c .before .before .before .before .match .keys7) (c .before .before .read-line .ensures)
+returns-7 c = tool-at 108 (drop 1 (now (c .before .before .before .before .before .before .before .args .line))) (c .before .before .before .before .match .keys7) (c .before .before .read-line .ensures)
 
 returns-8 : tie.Need-returns-8
 unfolding toolBy pick
-returns-8 c = tool-at 117 (c .before .before .before .before .match .keys8) (c .before .before .ask-hour .ensures)
+returns-8 c = tool-at 117 (drop 1 (now (c .before .before .before .before .before .before .before .args .line))) (c .before .before .before .before .match .keys8) (c .before .before .ask-hour .ensures)
 
 returns-9 : tie.Need-returns-9
 unfolding toolBy pick
-returns-9 c = tool-at 106 (c .before .before .before .before .match .keys9) (c .before .before .print-hours .ensures)
+returns-9 c = tool-at 106 (drop 1 (now (c .before .before .before .before .before .before .before .args .line))) (c .before .before .before .before .match .keys9) (c .before .before .print-hours .ensures)
 
 returns-10 : tie.Need-returns-10
 unfolding atEnd
