@@ -1,26 +1,23 @@
 -- The texts of the writers' and readers' answers as letters, values and bytes. Assumes nothing.
-use mathlib.Core.Path.{_≡_, refl, sym, ap, _∙_, subst}
-use mathlib.Core.Bool.{Bool, true, false}
+use mathlib.Core.Path.{_≡_, refl, sym, ap, _∙_}
 use mathlib.Core.List.{List, [], _∷_, _++_, append-nil}
-use Prim.Native.Nat.{ℕ, zero, suc, _-_, _≤_, _<_}
+use Prim.Native.Nat.{ℕ, zero, suc, _-_, _≤_}
 use native.Mathlib.Omega.{arith}
-use lib.Dec.{eqb}
-use lib.ListN.{length, getD, take, drop, replicate, length-append, length-replicate}
+use lib.ListN.{length, getD, take, replicate, length-append}
 use lib.Seq.{take-at, length-take-le, getD-take}
 use borrow.Author.Tests.{eq-eqb, ne-eqb}
 use Rattle.laws.specs.Pick.{pick, pick-t, pick-f}
-use Rattle.laws.specs.Decimal.{Parsed, good, bad}
+use Rattle.laws.specs.Decimal.{Parsed, bad}
 use Rattle.paper.specs.Answer.{Answer, done, refused, fault, told, bytesIn, leaves, Fills}
 use Rattle.field.specs.declared.Field.{Field}
 use Rattle.field.specs.declared.Weight.{Weight}
 use Rattle.field.specs.Field.{four}
-use Rattle.frame.specs.declared.Found.{Found}
 use Rattle.frame.specs.declared.Found.the-variants as F
 use Rattle.frame.specs.declared.Read.{Read}
 use Rattle.frame.specs.Read.{Finished, readOf}
 use Rattle.frame.specs.ReadLaws.{done-whole}
 use Rattle.frame.specs.Says.{saysFound, placeAndLength, bytesOf, Reads}
-use Rattle.script.specs.Call.{Call, readField, fieldFrom}
+use Rattle.script.specs.Call.{fieldFrom}
 use Rattle.script.specs.Answer.{numberText, signedText, flagText, bytesText, lineText, valuesText, refusedText, filledText, frameText, weightText}
 
 no-way : {Q : Type 0} → _≡_ {A = ℕ} 0 1 → Q
@@ -55,12 +52,13 @@ bodied (done f) body place len most e h =
     let x : _≡_ {A = ℕ × ℕ} (place, len) (f .place, length (f .bytes)) = cc in
     let p : place ≡ f .place = ap (λ (t : ℕ × ℕ). t .0) x in
     let n : len ≡ length (f .bytes) = ap (λ (t : ℕ × ℕ). t .1) x in
-    let b : take len body ≡ f .bytes = ap (take len) h ∙ take-at (f .bytes) (replicate (255 - length (f .bytes)) 0) len (sym n) in
-    (ap (λ (k : ℕ). lineText (80 ∷ []) (numberText k ∷ numberText len ∷ bytesText (take len body) ∷ [])) p
-    ∙ ap (λ (k : ℕ). lineText (80 ∷ []) (numberText (f .place) ∷ numberText k ∷ bytesText (take len body) ∷ [])) n
-    ∙ ap (λ (l : List ℕ). lineText (80 ∷ []) (numberText (f .place) ∷ numberText (length (f .bytes)) ∷ bytesText l ∷ [])) b,
-    omega (arith, ap length h, length-append (f .bytes) (replicate (255 - length (f .bytes)) 0), n),
-    omega (arith, n, most f refl))
+    let b : take len body ≡ f .bytes = ap (take len) h ∙ take-at (f .bytes) (replicate (255 - length (f .bytes)) 0) len (sym n) in (
+      ap (λ (k : ℕ). lineText (80 ∷ []) (numberText k ∷ numberText len ∷ bytesText (take len body) ∷ [])) p
+          ∙ ap (λ (k : ℕ). lineText (80 ∷ []) (numberText (f .place) ∷ numberText k ∷ bytesText (take len body) ∷ [])) n
+          ∙ ap (λ (l : List ℕ). lineText (80 ∷ []) (numberText (f .place) ∷ numberText (length (f .bytes)) ∷ bytesText l ∷ [])) b,
+      omega (arith, ap length h, length-append (f .bytes) (replicate (255 - length (f .bytes)) 0), n),
+      omega (arith, n, most f refl),
+    )
 bodied (refused n vs) body place len most e h = let z : _≡_ {A = ℕ} 0 1 = cc in no-way z
 bodied (fault n vs) body place len most e h = let z : _≡_ {A = ℕ} 0 1 = cc in no-way z
 

@@ -5,7 +5,7 @@ use Prim.Native.Nat.{ℕ, _≤_}
 use native.Mathlib.Omega.{arith}
 use lib.ListN.{length, getD, take, drop, replicate}
 use lib.Seq.{length-take-le, getD-take}
-use Rattle.laws.specs.Decimal.{Parsed, good, bad}
+use Rattle.laws.specs.Decimal.{good, bad}
 use Rattle.journal.specs.declared.Line.{Line}
 use Rattle.journal.specs.declared.Line.the-variants.{Dose}
 use Rattle.journal.specs.Line as lines

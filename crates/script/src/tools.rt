@@ -27,7 +27,6 @@ ghost use lib.ListN.{length, drop, replicate};
 ghost use Rattle.laws.specs.Decimal.{bad};
 ghost use Rattle.field.specs.Says.{saysWritten, saysGot};
 ghost use Rattle.frame.specs.Frame as frames;
-ghost use Rattle.frame.specs.Says.{Reads};
 ghost use Rattle.frame.specs.Read as frames-read;
 ghost use Rattle.journal.specs.Line as lines;
 ghost use Rattle.journal.specs.Says.{saysOne};
@@ -86,6 +85,7 @@ fn read_weight(line: &[u8]) -> WeightCall
     })
 }
 
+// The four bytes of a weight, or R16.
 fn put_written(out: &mut [u8], written: Written) -> usize
     requires { ⌜ 4096 ≤ length (now out) ⌝ }
     ensures { λ r. ⌜ Prints 4096 (now (out .entry)) 0 (fieldText (saysWritten written)) (now (out .exit)) r ⌝ }
@@ -96,6 +96,7 @@ fn put_written(out: &mut [u8], written: Written) -> usize
     }
 }
 
+// The weight of a line as a field.
 fn write_field(line: &[u8], out: &mut [u8]) -> usize
     requires { ⌜ 4096 ≤ length (now out) ⌝ }
     ensures { λ r. ⌜ Tells (atEnd (writeFieldAt (drop 1 (now (line .entry))))) (now (out .entry)) (now (out .exit)) r ⌝ }
@@ -130,6 +131,7 @@ fn read_four(line: &[u8]) -> FieldCall
     })
 }
 
+// The weight of a field, or R16.
 fn put_got(out: &mut [u8], got: Got) -> usize
     requires { ⌜ 4096 ≤ length (now out) ⌝ }
     ensures { λ r. ⌜ Prints 4096 (now (out .entry)) 0 (weightText (saysGot got)) (now (out .exit)) r ⌝ }
@@ -144,6 +146,7 @@ fn put_got(out: &mut [u8], got: Got) -> usize
     }
 }
 
+// The field of a line as a weight.
 fn read_field(line: &[u8], out: &mut [u8]) -> usize
     requires { ⌜ (length (now line) ≤ 4095) × (4096 ≤ length (now out)) ⌝ }
     ensures { λ r. ⌜ Tells (atEnd (readFieldAt (drop 1 (now (line .entry))))) (now (out .entry)) (now (out .exit)) r ⌝ }
@@ -296,6 +299,7 @@ fn show_line(line: Line, buffer: &mut [u8], out: &mut [u8]) -> usize
     }
 }
 
+// The line that a call asks for, in a buffer of its room.
 fn write_line(call: LineCall, out: &mut [u8]) -> usize
     requires { ⌜ (roomOf call ≤ 64) × (4096 ≤ length (now out)) ⌝ }
     ensures { λ r. ⌜ Tells (asLine call) (now (out .entry)) (now (out .exit)) r ⌝ }

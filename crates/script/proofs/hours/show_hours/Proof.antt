@@ -3,7 +3,7 @@ use mathlib.Core.List.{List, [], _∷_, _++_}
 use Prim.Native.Nat.{ℕ}
 use Rattle.hourly.specs.declared.Printed.{Printed}
 use Rattle.hourly.specs.Says.{saysPrinted}
-use Rattle.script.specs.Answer.{lineText, valuesText, bytesText, journalNamed, lineNamed}
+use Rattle.script.specs.Answer.{lineText, valuesText, bytesText, journalNamed}
 use Rattle.script.specs.Print.{prints-text}
 use Rattle.laws.specs.Pick.{pick}
 use Rattle.script.proofs.Shown.{shownText}
