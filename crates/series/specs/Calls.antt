@@ -17,7 +17,8 @@ use Rattle.controller.specs.Calls.{restartOf, controllerIn, freshOf, linkOf}
 use Rattle.controller.specs.Says.{saysRestart, Ticks, Sets, Resets, Restarts, Replies}
 use Rattle.controller.specs.Made.{Made}
 use Rattle.controller.specs.Done.{refused-done, fault-done}
-use Rattle.series.specs.Events.{tick, link, request, settings, reset, restart, restartedFrom, eventOf, run, Carried}
+use Rattle.series.specs.Events.{tick, link, request, settings, reset, restart, restartedFrom, eventOf, run}
+use Rattle.series.specs.Carried.{Carried}
 
 pub fresh-is : (r : Controller) → Made freshOf r → r ≡ run freshOf []
 unfolding run

@@ -9,6 +9,7 @@ use Rattle.laws.specs.Pick.{pick}
 use Rattle.paper.specs.Answer.{Answer, done, refused, fault}
 use Rattle.settings.specs.declared.Settings.{Settings}
 use Rattle.controller.specs.declared.Controller.{Controller}
+use Rattle.controller.specs.declared.Counters.{Counters}
 use Rattle.controller.specs.declared.Record.{Record}
 use Rattle.controller.specs.Tick.{Told, tickOf}
 use Rattle.controller.specs.Calls.{restartOf, settingsOf, resetOf, linkOf, isReady}
@@ -45,40 +46,37 @@ unfoldable pub run : Controller → List Event → Controller
 run c [] = c
 run c (e ∷ es) = run (eventOf c e) es
 
--- the one condition: an accepted restart's numbers are what the counters' call answers just before it
-unfoldable pub Carried : Controller → Event → Type 0
-Carried c (tick x i) = Unit {0}
-Carried c (link on) = Unit {0}
-Carried c (request s reply) = Unit {0}
-Carried c (settings set) = Unit {0}
-Carried c reset = Unit {0}
-Carried c (restart set count total) =
-    (c' : Controller) → restartOf set count total ≡ done c' → (count ≡ c .counters .count) × (total ≡ c .counters .total)
-
-unfoldable pub Series : Controller → List Event → Type 0
-Series c [] = Unit {0}
-Series c (e ∷ es) = Carried c e × Series (eventOf c e) es
-
 -- ---- what is seen from outside
 
--- w as it was noted, and the amounts of the doses completed since the last accepted reset, in order
+-- w as it was noted; the count and total that the last accepted restart was given, 0 and 0 after an accepted reset; and the amounts of the doses completed since, in order
 pub record Outside : Type 0 where
   pub notes : Noted
+  pub stored : Counters
   pub doses : List ℕ
 
 unfoldable pub nothingSeen : Outside
-nothingSeen = record { notes = record { began = pos 0; opened = pos 0 }; doses = [] }
+nothingSeen = record { notes = record { began = pos 0; opened = pos 0 }; stored = record { count = 0; total = 0 }; doses = [] }
 
--- only a tick completes doses, and only an accepted reset forgets them
+-- counted anew from these two numbers
+unfoldable pub anew : ℕ → ℕ → Outside → Outside
+anew count total o = record { notes = o .notes; stored = record { count = count; total = total }; doses = [] }
+
+-- a refused restart brings no numbers
+unfoldable pub anewIf : Answer Controller → ℕ → ℕ → Outside → Outside
+anewIf (done c) count total o = anew count total o
+anewIf (refused n vs) count total o = o
+anewIf (fault n vs) count total o = o
+
+-- only a tick completes doses
 unfoldable pub seenAfter : Controller → Event → Outside → Outside
 seenAfter c (tick x i) o =
     let c' = tickOf c x i .next in
-    record { notes = noted c c' (wAt c x c') (o .notes); doses = o .doses ++ dosesSeen c x c' (o .notes) }
+    record { notes = noted c c' (wAt c x c') (o .notes); stored = o .stored; doses = o .doses ++ dosesSeen c x c' (o .notes) }
 seenAfter c (link on) o = o
 seenAfter c (request s reply) o = o
 seenAfter c (settings set) o = o
-seenAfter c reset o = record { notes = o .notes; doses = pick (isReady c) [] (o .doses) }
-seenAfter c (restart set count total) o = o
+seenAfter c reset o = pick (isReady c) (anew 0 0 o) o
+seenAfter c (restart set count total) o = anewIf (restartOf set count total) count total o
 
 unfoldable pub seen : Controller → Outside → List Event → Outside
 seen c o [] = o

@@ -29,8 +29,9 @@ use Rattle.controller.specs.State.{restarted}
 use Rattle.controller.specs.Tick.{tickOf, step2, step3, steps4and5, steps6to8, mismatched, runsAfter, runAfter, expected, step7, step8, seenOf, wOf, stableOf, filterOf, equalZ, none, calmRun, startOf, outside, faulted, saysFault, outputsOf, worth, input, overCapacity, changed, countersAfter, countedOf, recordsOf}
 use Rattle.controller.specs.Calls.{atReady, readyIn, isReady, storedBad, restartOf, freshOf, linkOf}
 use Rattle.controller.specs.Outside.{wAt, clear, inDoseSettle, shuts3, leavesSettle, completes, begins, opens3, noted, amountSeen, dosesSeen}
-use Rattle.series.specs.Events.{Event, tick, link, request, settings, reset, restart, restartedFrom, eventOf, Carried, Series, nothingSeen, seenAfter, seen, recordsIn, recordsAt, records}
+use Rattle.series.specs.Events.{Event, tick, link, request, settings, reset, restart, restartedFrom, eventOf, nothingSeen, anew, anewIf, seenAfter, seen, recordsIn, recordsAt, records}
 use Rattle.series.specs.Statement.{dosesAfter}
+use Rattle.series.specs.Carried.{Carried, Series}
 use Rattle.series.specs.Lines.{Stamped, lineFor, doseLines, JournalOf}
 
 -- n ticks with the sample x and the inputs i
@@ -57,7 +58,7 @@ pub two-doses :
     (dosesAfter twoOfAL1 ≡ 112 ∷ 250 ∷ [])
     × (dosesAfter twoOfAL2 ≡ 200 ∷ 150 ∷ [])
     × (dosesAfter twoOfAL3 ≡ 250 ∷ 100 ∷ [])
-unfolding seen seenAfter eventOf restartedFrom nothingSeen restartOf storedBad onDone firstBad firstFrom table inRange leastLevel mostLevel wAt clear inDoseSettle shuts3 leavesSettle completes begins opens3 noted amountSeen dosesSeen atReady readyIn isReady linkOf freshOf restarted defaultSet tickOf step2 step3 steps4and5 steps6to8 mismatched runsAfter runAfter expected step7 step8 seenOf wOf stableOf filterOf equalZ none calmRun startOf outside faulted saysFault outputsOf worth input overCapacity changed countersAfter countedOf recordsOf stepOf ready readyToFill readyToDose waits zeroed nearZero fillBegins coarseStage fineStage fill full hold settle settleEnds dischargeOpens discharge amountOf load calm doseCoarse doseFine doseSettle reachedWf reachedWc notBelowZero Wc Wf samplesOf pushOf emptyWindow meanOf roundAway nearest sum pick xor setOf
+unfolding seen seenAfter anewIf anew eventOf restartedFrom nothingSeen restartOf storedBad onDone firstBad firstFrom table inRange leastLevel mostLevel wAt clear inDoseSettle shuts3 leavesSettle completes begins opens3 noted amountSeen dosesSeen atReady readyIn isReady linkOf freshOf restarted defaultSet tickOf step2 step3 steps4and5 steps6to8 mismatched runsAfter runAfter expected step7 step8 seenOf wOf stableOf filterOf equalZ none calmRun startOf outside faulted saysFault outputsOf worth input overCapacity changed countersAfter countedOf recordsOf stepOf ready readyToFill readyToDose waits zeroed nearZero fillBegins coarseStage fineStage fill full hold settle settleEnds dischargeOpens discharge amountOf load calm doseCoarse doseFine doseSettle reachedWf reachedWc notBelowZero Wc Wf samplesOf pushOf emptyWindow meanOf roundAway nearest sum pick xor setOf
 two-doses = (refl, refl, refl)
 
 -- ---- they are series: their restart carries the fresh controller's counters over, and nothing else restarts
@@ -109,7 +110,7 @@ after-dose : (h c a s : ℕ) (l : Line) → hourIn l ≡ h → Follows (Dose h c
 unfolding hourIn closes
 after-dose h c a s l e = record { onward = omega arith; beyond = λ k. false-true k }
 
-pub journal-AL1 : JournalOf twoOfAL1 (stamp (dose 1 112) ∷ stamp (dose 2 250) ∷ []) (Dose 10 1 112 1 ∷ Dose 10 2 250 1 ∷ On 10 ∷ [])
+pub journal-AL1 : JournalOf freshOf twoOfAL1 (stamp (dose 1 112) ∷ stamp (dose 2 250) ∷ []) (Dose 10 1 112 1 ∷ Dose 10 2 250 1 ∷ On 10 ∷ [])
 unfolding doseLines lineFor hourIn closes firstHour journalText textOf fieldsText decimal digitsOf glyph pick
 journal-AL1 =
     record {

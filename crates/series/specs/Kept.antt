@@ -2,7 +2,7 @@
 use mathlib.Core.Path.{_≡_, refl, sym, ap, _∙_}
 use mathlib.Core.Bool.{Bool, true, false}
 use mathlib.Core.List.{List, [], _∷_, _++_, append-assoc, append-nil}
-use Prim.Native.Nat.{ℕ, _+_, _%_}
+use Prim.Native.Nat.{ℕ, _+_, _%_, _≤_}
 use native.Mathlib.Omega.{arith}
 use lib.IntN.{ℤ}
 use lib.ListN.{length, length-append}
@@ -23,14 +23,29 @@ use Rattle.controller.specs.Done.{on-done, failed}
 use Rattle.controller.specs.Keeps.{tick-sound, link-sound, request-sound, settings-sound, reset-sound, restart-sound, fresh-sound}
 use Rattle.controller.specs.Outside.{Agrees, dosesSeen}
 use Rattle.controller.specs.OutsideLaws.{countedIn, tick-agrees, tick-counters}
-use Rattle.series.specs.Events.{Event, tick, link, request, settings, reset, restart, restartedFrom, eventOf, run, Carried, Series, Outside, nothingSeen, seenAfter, seen}
+use Rattle.series.specs.Events.{Event, tick, link, request, settings, reset, restart, restartedFrom, eventOf, run, Outside, nothingSeen, anew, anewIf, seenAfter, seen}
 
--- the controller is sound, what its phase keeps is what was noted, and its count and total are those of the doses seen
+-- every event keeps a controller sound
+pub event-sound : (c : Controller) (e : Event) → Sound c → Sound (eventOf c e)
+unfolding eventOf restartedFrom
+event-sound c (tick x i) s = tick-sound c x i s
+event-sound c (link on) s = link-sound c on s
+event-sound c (request b reply) s = request-sound c b (length reply) s
+event-sound c (settings set) s = settings-sound c set s
+event-sound c reset s = reset-sound c s
+event-sound c (restart set count total) s = go (restartOf set count total) refl
+  where
+    go : (a : Answer Controller) → restartOf set count total ≡ a → Sound (restartedFrom c a)
+    go (done d) e = restart-sound set count total d e
+    go (refused n vs) e = s
+    go (fault n vs) e = s
+
+-- the controller is sound, what its phase keeps is what was noted, and its count and total are the numbers stored and the doses seen since
 pub record Kept (c : Controller) (o : Outside) : Type 0 where
   pub sound : Sound c
   pub agrees : Agrees (c .phase) (o .notes)
-  pub count : c .counters .count ≡ length (o .doses) % 1000000
-  pub total : c .counters .total ≡ total (o .doses) % 1000000000
+  pub count : c .counters .count ≡ (o .stored .count + length (o .doses)) % 1000000
+  pub total : c .counters .total ≡ (o .stored .total + total (o .doses)) % 1000000000
 
 -- ---- a tick
 
@@ -39,26 +54,27 @@ unfolding total
 total-append [] bs = omega arith
 total-append (a ∷ as') bs = omega (arith, total-append as' bs)
 
--- count and total are those of these doses
-abbrev pub Counts : Counters → List ℕ → Type 0
-Counts n doses = (n .count ≡ length doses % 1000000) × (n .total ≡ total doses % 1000000000)
+-- count and total are the numbers stored and these doses
+abbrev pub Counts : Counters → Counters → List ℕ → Type 0
+Counts n stored doses = (n .count ≡ (stored .count + length doses) % 1000000) × (n .total ≡ (stored .total + total doses) % 1000000000)
 
-pub one-more : (n : Counters) (doses : List ℕ) (amount : ℕ) → Counts n doses → Counts (countedOf n amount) (doses ++ amount ∷ [])
+pub one-more : (n stored : Counters) (doses : List ℕ) (amount : ℕ) → Counts n stored doses → Counts (countedOf n amount) stored (doses ++ amount ∷ [])
 unfolding countedOf total
-one-more n doses amount h = (omega (arith, length-append doses (amount ∷ [])), omega (arith, total-append doses (amount ∷ [])))
+one-more n stored doses amount h =
+    (omega (arith, length-append doses (amount ∷ [])), omega (arith, total-append doses (amount ∷ [])))
 
 -- doses counted in are doses put at the end
-counted-more : (n : Counters) (doses more : List ℕ) → Counts n doses → Counts (countedIn n more) (doses ++ more)
+pub counted-more : (n stored : Counters) (doses more : List ℕ) → Counts n stored doses → Counts (countedIn n more) stored (doses ++ more)
 unfolding countedIn
-counted-more n doses [] h = rw append-nil h
-counted-more n doses (amount ∷ more) h =
-    rw append-assoc at (counted-more (countedOf n amount) (doses ++ amount ∷ []) more (one-more n doses amount h))
+counted-more n stored doses [] h = rw append-nil h
+counted-more n stored doses (amount ∷ more) h =
+    rw append-assoc at (counted-more (countedOf n amount) stored (doses ++ amount ∷ []) more (one-more n stored doses amount h))
 
 pub kept-tick : (c : Controller) (o : Outside) (x : ℤ) (i : ℕ) → Kept c o → Kept (eventOf c (tick x i)) (seenAfter c (tick x i) o)
 unfolding eventOf seenAfter
 kept-tick c o x i k =
     let e = tick-counters c x i (o .notes) (k .sound) (k .agrees) in
-    let n = counted-more (c .counters) (o .doses) (dosesSeen c x (tickOf c x i .next) (o .notes)) (k .count, k .total) in
+    let n = counted-more (c .counters) (o .stored) (o .doses) (dosesSeen c x (tickOf c x i .next) (o .notes)) (k .count, k .total) in
     record {
       sound = tick-sound c x i (k .sound);
       agrees = tick-agrees c x i (o .notes) (k .sound) (k .agrees);
@@ -113,7 +129,7 @@ kept-settings c o set k =
 
 -- in Ready the counters and the doses are forgotten together, else neither
 reset-kept : (c : Controller) (o : Outside) (ready : Bool) → isReady c ≡ ready → Kept c o → Kept (eventOf c reset) (seenAfter c reset o)
-unfolding eventOf seenAfter resetOf resetAnswer after pick total
+unfolding eventOf seenAfter resetOf resetAnswer after pick total anew
 reset-kept c o true e k = record { sound = reset-sound c (k .sound); agrees = rw e (k .agrees); count = rw e refl; total = rw e refl }
 reset-kept c o false e k =
     record { sound = reset-sound c (k .sound); agrees = rw e (k .agrees); count = rw e (k .count); total = rw e (k .total) }
@@ -128,39 +144,44 @@ unfolding restartOf
 restart-is set count total c e =
     on-done (firstBad set) _ c e (λ u good h. sym (failed (storedBad count total) (restarted set count total) R15 [] c h .1))
 
-restart-kept : (c : Controller) (o : Outside) (set : Settings) (count total : ℕ) (a : Answer Controller) → restartOf set count total ≡ a → Carried c (restart set count total) → Kept c o → Kept (restartedFrom c a) o
-unfolding restartedFrom Carried restarted Agrees
-restart-kept c o set count total (done d) e same k =
-    let is = restart-is set count total d e in
-    let h = same d e in
-    record {
-      sound = restart-sound set count total d e;
-      agrees = rw is tt;
-      count = ap (λ (x : Controller). x .counters .count) is ∙ h .0 ∙ k .count;
-      total = ap (λ (x : Controller). x .counters .total) is ∙ h .1 ∙ k .total;
-    }
-restart-kept c o set count total (refused n vs) e same k = k
-restart-kept c o set count total (fault n vs) e same k = k
+-- counted from the numbers given
+stored-counts : (n : Counters) → n .count ≤ 999999 → n .total ≤ 999999999 → Counts n n []
+unfolding total
+stored-counts n h k = (omega arith, omega arith)
 
--- where the counters' numbers are carried over
-pub kept-restart : (c : Controller) (o : Outside) (set : Settings) (count total : ℕ) → Carried c (restart set count total) → Kept c o → Kept (eventOf c (restart set count total)) (seenAfter c (restart set count total) o)
+restart-kept : (c : Controller) (o : Outside) (set : Settings) (count total : ℕ) (a : Answer Controller) → restartOf set count total ≡ a → Kept c o → Kept (restartedFrom c a) (anewIf a count total o)
+unfolding restartedFrom restarted Agrees anewIf anew
+restart-kept c o set count total (done d) e k =
+    let is = restart-is set count total d e in
+    let s = restart-sound set count total d e in
+    let n = stored-counts (d .counters) (s .count) (s .total) in
+    record {
+      sound = s;
+      agrees = rw is tt;
+      count = ap (λ (x : Controller). x .counters .count) is ∙ (rw is at (n .0));
+      total = ap (λ (x : Controller). x .counters .total) is ∙ (rw is at (n .1));
+    }
+restart-kept c o set count total (refused n vs) e k = k
+restart-kept c o set count total (fault n vs) e k = k
+
+pub kept-restart : (c : Controller) (o : Outside) (set : Settings) (count total : ℕ) → Kept c o → Kept (eventOf c (restart set count total)) (seenAfter c (restart set count total) o)
 unfolding eventOf seenAfter
-kept-restart c o set count total same k = restart-kept c o set count total (restartOf set count total) refl same k
+kept-restart c o set count total k = restart-kept c o set count total (restartOf set count total) refl k
 
 -- ---- any series
 
-pub kept-event : (c : Controller) (o : Outside) (e : Event) → Carried c e → Kept c o → Kept (eventOf c e) (seenAfter c e o)
-kept-event c o (tick x i) same k = kept-tick c o x i k
-kept-event c o (link on) same k = kept-link c o on k
-kept-event c o (request s reply) same k = kept-request c o s reply k
-kept-event c o (settings set) same k = kept-settings c o set k
-kept-event c o reset same k = kept-reset c o k
-kept-event c o (restart set count total) same k = kept-restart c o set count total same k
+pub kept-event : (c : Controller) (o : Outside) (e : Event) → Kept c o → Kept (eventOf c e) (seenAfter c e o)
+kept-event c o (tick x i) k = kept-tick c o x i k
+kept-event c o (link on) k = kept-link c o on k
+kept-event c o (request s reply) k = kept-request c o s reply k
+kept-event c o (settings set) k = kept-settings c o set k
+kept-event c o reset k = kept-reset c o k
+kept-event c o (restart set count total) k = kept-restart c o set count total k
 
-pub kept-run : (es : List Event) (c : Controller) (o : Outside) → Series c es → Kept c o → Kept (run c es) (seen c o es)
-unfolding run seen Series
-kept-run [] c o s k = k
-kept-run (e ∷ es) c o s k = kept-run es (eventOf c e) (seenAfter c e o) (s .1) (kept-event c o e (s .0) k)
+pub kept-run : (es : List Event) (c : Controller) (o : Outside) → Kept c o → Kept (run c es) (seen c o es)
+unfolding run seen
+kept-run [] c o k = k
+kept-run (e ∷ es) c o k = kept-run es (eventOf c e) (seenAfter c e o) (kept-event c o e k)
 
 pub kept-fresh : Kept freshOf nothingSeen
 unfolding freshOf restarted nothingSeen Agrees total

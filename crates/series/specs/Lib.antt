@@ -1,6 +1,7 @@
 pub mod Events
 pub mod Statement
 pub mod Kept
+pub mod Carried
 pub mod Proved
 pub mod Calls
 pub mod Records

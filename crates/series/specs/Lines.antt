@@ -20,9 +20,10 @@ use Rattle.hourly.specs.declared.Hour.the-variants.{Missing}
 use Rattle.hourly.specs.Hours.{doseAt, amountsAt, hasOn, measuredOrIdle, hourOf, askOf}
 use Rattle.hourly.specs.Text.{hoursText, rowFrom, rowOf, printOf}
 use Rattle.controller.specs.declared.Record.{Record}
-use Rattle.controller.specs.Calls.{freshOf}
+use Rattle.controller.specs.declared.Controller.{Controller}
+use Rattle.controller.specs.Sound.{Sound}
 use Rattle.controller.specs.Promises.{AllRecordable}
-use Rattle.series.specs.Events.{Event, Series, records}
+use Rattle.series.specs.Events.{Event, records}
 use Rattle.series.specs.Records.{records-recordable}
 
 -- ---- a journal of a series
@@ -44,9 +45,9 @@ doseLines [] = []
 doseLines (Dose h c a s ∷ ls) = Dose h c a s ∷ doseLines ls
 doseLines (On h ∷ ls) = doseLines ls
 
--- lines in order, within a journal's hours and bytes, whose D lines carry the records of the series in order; H lines stand anywhere
-pub record JournalOf (es : List Event) (stamps : List Stamped) (ls : List Line) : Type 0 where
-  pub whole : map doseOf stamps ≡ records freshOf es
+-- lines in order, within a journal's hours and bytes, whose D lines carry the records of a series from c in order; H lines stand anywhere
+pub record JournalOf (c : Controller) (es : List Event) (stamps : List Stamped) (ls : List Line) : Type 0 where
+  pub whole : map doseOf stamps ≡ records c es
   pub doses : doseLines ls ≡ map lineFor stamps
   pub order : Ordered ls
   pub hours : Each (λ l. hourIn l ≤ 9999999) ls
@@ -74,10 +75,10 @@ lines-range (Dose x c a s ∷ ls) (t ∷ ts) e r h =
     let hour : x ≡ t .hour = ap hourIn same in
     (rw same (stamped-range t (omega arith) (r .0 .count) (r .0 .amount)), lines-range ls ts (cc) (r .1) (h .1))
 
-pub lines-read : (es : List Event) (stamps : List Stamped) (ls : List Line) → Series freshOf es → JournalOf es stamps ls → journalOf (journalText ls) ≡ done ls
-lines-read es stamps ls s j =
+pub lines-read : (c : Controller) (es : List Event) (stamps : List Stamped) (ls : List Line) → Sound c → JournalOf c es stamps ls → journalOf (journalText ls) ≡ done ls
+lines-read c es stamps ls s j =
     ordered-journal ls (j .order)
-    (lines-range ls stamps (j .doses) (subst AllRecordable (sym (j .whole)) (records-recordable es s)) (j .hours))
+    (lines-range ls stamps (j .doses) (subst AllRecordable (sym (j .whole)) (records-recordable es c s)) (j .hours))
     (j .size)
 
 -- ---- each hour's doses
@@ -107,7 +108,7 @@ stamped-amounts h (s ∷ more) =
 unfoldable pub hourWith : Bool → List Record → Hour
 hourWith on rs = pick on (measuredOrIdle (amountsOf rs)) Missing
 
-module _ (es : List Event) (stamps : List Stamped) (ls : List Line) (j : JournalOf es stamps ls) where
+module _ (c : Controller) (es : List Event) (stamps : List Stamped) (ls : List Line) (j : JournalOf c es stamps ls) where
   -- the amounts of an hour are those of the doses completed in it: so its number of doses and its sum are theirs
   pub hour-amounts : (h : ℕ) → amountsAt h ls ≡ amountsOf (completedIn h stamps)
   hour-amounts h = doses-amounts h ls ∙ ap (amountsAt h) (j .doses) ∙ stamped-amounts h stamps
@@ -117,15 +118,15 @@ module _ (es : List Event) (stamps : List Stamped) (ls : List Line) (j : Journal
   hour-kind h = ap (λ (l : List ℕ). pick (hasOn h ls) (measuredOrIdle l) Missing) (hour-amounts h)
 
   -- and so are its kind, its figures and its row in print
-  pub hour-answer : Series freshOf es → (h : ℕ) → askOf (journalText ls) h ≡ done (hourWith (hasOn h ls) (completedIn h stamps))
+  pub hour-answer : Sound c → (h : ℕ) → askOf (journalText ls) h ≡ done (hourWith (hasOn h ls) (completedIn h stamps))
   unfolding askOf told
   hour-answer s h =
-      ap (told (λ (m : List Line). hourOf m h)) (lines-read es stamps ls s j) ∙ ap done (hour-kind h)
+      ap (told (λ (m : List Line). hourOf m h)) (lines-read c es stamps ls s j) ∙ ap done (hour-kind h)
 
   pub hour-row : (h : ℕ) → rowOf ls h ≡ rowFrom (hourWith (hasOn h ls) (completedIn h stamps)) (amountsOf (completedIn h stamps))
   unfolding rowOf
   hour-row h = ap₂ rowFrom (hour-kind h) (hour-amounts h)
 
-  pub hours-printed : Series freshOf es → (room : ℕ) → printOf (journalText ls) room ≡ inRoom [] room (hoursText ls)
+  pub hours-printed : Sound c → (room : ℕ) → printOf (journalText ls) room ≡ inRoom [] room (hoursText ls)
   unfolding printOf onDone
-  hours-printed s room = ap (λ (a : Answer (List Line)). onDone a (λ m. inRoom [] room (hoursText m))) (lines-read es stamps ls s j)
+  hours-printed s room = ap (λ (a : Answer (List Line)). onDone a (λ m. inRoom [] room (hoursText m))) (lines-read c es stamps ls s j)

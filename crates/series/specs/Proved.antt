@@ -20,7 +20,7 @@ use Rattle.controller.specs.Keeps.{tick-sound}
 use Rattle.controller.specs.Promises.{never-together, fault-unfilled, tick-unfilled}
 use Rattle.controller.specs.Outside.{wAt, clear}
 use Rattle.controller.specs.OutsideLaws.{tick-set, tick-weight}
-use Rattle.series.specs.Events.{Event, Outside, Series, eventOf, run, seen, nothingSeen}
+use Rattle.series.specs.Events.{Event, Outside, run, seen, nothingSeen}
 use Rattle.series.specs.Statement.{accepted, Demand3}
 use Rattle.series.specs.Kept.{Kept, kept-run, kept-fresh}
 
@@ -61,14 +61,6 @@ kept-demand es k =
       sound = k .sound;
     }
 
-pub demand-3 : (es : List Event) → Series freshOf es → Demand3 es
-demand-3 es s = kept-demand es (kept-run es freshOf nothingSeen s kept-fresh)
-
--- so it holds at every step of a series
-begins-series : (es more : List Event) (c : Controller) → Series c (es ++ more) → Series c es
-unfolding Series
-begins-series [] more c s = tt
-begins-series (e ∷ es) more c s = (s .0, begins-series es more (eventOf c e) (s .1))
-
-pub demand-3-along : (es more : List Event) → Series freshOf (es ++ more) → Demand3 es
-demand-3-along es more s = demand-3 es (begins-series es more freshOf s)
+-- over any series of calls from a fresh controller, and so at each of its steps
+pub demand-3 : (es : List Event) → Demand3 es
+demand-3 es = kept-demand es (kept-run es freshOf nothingSeen kept-fresh)

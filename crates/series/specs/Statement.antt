@@ -2,13 +2,14 @@
 use mathlib.Core.Path.{_≡_}
 use mathlib.Core.Bool.{Bool, true, false, _&&_}
 use mathlib.Core.List.{List, [], _∷_}
-use Prim.Native.Nat.{ℕ, _%_}
+use Prim.Native.Nat.{ℕ, _+_, _%_}
 use lib.IntN.{ℤ}
 use lib.ListN.{length}
 use Rattle.paper.specs.Answer.{Answer, done, refused, fault}
 use Rattle.dosing.specs.Gates.{fillingOpen, emptyingOpen}
 use Rattle.hourly.specs.Hours.{total}
 use Rattle.controller.specs.declared.Controller.{Controller}
+use Rattle.controller.specs.declared.Counters.{Counters}
 use Rattle.controller.specs.Tick.{Told, tickOf, overCapacity}
 use Rattle.controller.specs.Calls.{freshOf}
 use Rattle.controller.specs.Sound.{Sound}
@@ -21,9 +22,12 @@ accepted (done t) = true
 accepted (refused n vs) = false
 accepted (fault n vs) = true
 
--- the controller after a series from the fresh one, and the amounts of the doses seen to complete since the last accepted reset
+-- the controller after a series from the fresh one, the numbers that it was last given, and the amounts of the doses seen to complete since
 abbrev pub boxAfter : List Event → Controller
 boxAfter es = run freshOf es
+
+abbrev pub storedAfter : List Event → Counters
+storedAfter es = seen freshOf nothingSeen es .stored
 
 abbrev pub dosesAfter : List Event → List ℕ
 dosesAfter es = seen freshOf nothingSeen es .doses
@@ -39,7 +43,7 @@ pub record Demand3 (es : List Event) : Type 0 where
   -- or in a fault
   pub in-fault : clear (boxAfter es .condition) ≡ false → fillingOpen (boxAfter es .set) (boxAfter es .gates) ≡ false
   -- count and total are those of the doses that the rules complete
-  pub count : boxAfter es .counters .count ≡ length (dosesAfter es) % 1000000
-  pub total : boxAfter es .counters .total ≡ total (dosesAfter es) % 1000000000
+  pub count : boxAfter es .counters .count ≡ (storedAfter es .count + length (dosesAfter es)) % 1000000
+  pub total : boxAfter es .counters .total ≡ (storedAfter es .total + total (dosesAfter es)) % 1000000000
   -- each call's contract applies at every step
   pub sound : Sound (boxAfter es)
