@@ -51,7 +51,7 @@ fn unknown(out: &mut [u8]) -> usize
 }
 
 // Room for the bytes of every line.
-fn no_bytes() -> [u8; 2048]
+pub(crate) fn no_bytes() -> [u8; 2048]
     ensures { λ r. ⌜ length r ≡ 2048 ⌝ }
 {
     [0u8; 2048]
@@ -349,7 +349,10 @@ fn read_line(line: &[u8], out: &mut [u8]) -> usize
 }
 
 // A call that needs no controller, by its letter.
-pub(crate) fn by_letter(letter: u8, line: &[u8], out: &mut [u8]) -> usize {
+pub(crate) fn by_letter(letter: u8, line: &[u8], out: &mut [u8]) -> usize
+    requires { ⌜ (length (now line) ≤ 4095) × (4096 ≤ length (now out)) ⌝ }
+    ensures { λ r. ⌜ Tells (atEnd (toolBy letter (drop 1 (now (line .entry))))) (now (out .entry)) (now (out .exit)) r ⌝ }
+{
     match letter {
         b'W' => write_frame(line, out),
         b'X' => read_frame(line, out),
