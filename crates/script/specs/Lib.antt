@@ -6,3 +6,5 @@ pub mod Steps
 pub mod Reply
 pub mod Cases
 pub mod Input
+pub mod Blocks
+pub mod Feeding

@@ -67,6 +67,12 @@ enum TickCall {
     Unknown,
 }
 
+// A line of a block that is a tick, and the place of its LF.
+enum TickLine {
+    Tick(i32, u8, usize),
+    Other,
+}
+
 enum LinkCall {
     Link(bool),
     Unknown,
