@@ -58,7 +58,7 @@ fn put_fault(out: &mut [u8], why: Fault) -> usize
 }
 
 // O, D, F or R.
-fn put_tick(out: &mut [u8], answer: TickAnswer) -> usize
+pub(crate) fn put_tick(out: &mut [u8], answer: TickAnswer) -> usize
     requires { ⌜ 4096 ≤ length (now out) ⌝ }
     ensures { λ r. ⌜ Prints 4096 (now (out .entry)) 0 (tickText (saysTick answer)) (now (out .exit)) r ⌝ }
 {
