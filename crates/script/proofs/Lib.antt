@@ -1,4 +1,3 @@
-pub mod Scanning
 pub mod Hex
 pub mod Figures
 pub mod Lines

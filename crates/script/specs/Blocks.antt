@@ -11,7 +11,7 @@ use borrow.Author.Tests.{eqb-true, eqb-false, ne-eqb, ltb-true, ltb-false, le-le
 use Rattle.laws.specs.Pick.{pick, pick-t, pick-f, pick-all}
 use Rattle.laws.specs.Over.{over}
 use Rattle.paper.specs.Answer.{same}
-use Rattle.journal.specs.Line.{LF}
+use Rattle.text.specs.Scan.{LF}
 use Rattle.controller.specs.declared.Controller.{Controller}
 use Rattle.controller.specs.Calls.{freshOf}
 use Rattle.controller.specs.Sound.{Sound}

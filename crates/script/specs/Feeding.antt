@@ -5,7 +5,7 @@ use Prim.Native.Nat.{ℕ, _+_, _-_, _≤_, _<_}
 use lib.IntN.{ℤ}
 use lib.ListN.{length, getD, take, drop}
 use lib.Seq.{sets}
-use Rattle.journal.specs.Line.{LF}
+use Rattle.text.specs.Scan.{LF}
 use Rattle.controller.specs.declared.Controller.{Controller}
 use Rattle.controller.specs.Sound.{Sound}
 use Rattle.script.specs.Call.{tick}

@@ -1,15 +1,15 @@
 // The calls of the box.
 use crate::Answered;
-use crate::LinkCall;
-use crate::RestartCall;
-use crate::SetCall;
-use crate::TickCall;
-use crate::read;
-use crate::print;
 use crate::Flag;
+use crate::LinkCall;
 use crate::Num;
+use crate::RestartCall;
 use crate::Set;
+use crate::SetCall;
 use crate::Signed;
+use crate::TickCall;
+use crate::print;
+use crate::read;
 use crate::unknown;
 use controller::Controller;
 use controller::Fault;

@@ -12,9 +12,9 @@ ghost use Prim.Native.Nat.{_*_, _≤_};
 ghost use lib.ListN.{length, drop, getD};
 ghost use Rattle.laws.specs.Decimal.{isDigit, numberAt};
 ghost use Rattle.settings.specs.Cases.{setOf};
-ghost use Rattle.journal.specs.Scan.{fieldAt};
+ghost use Rattle.text.specs.Scan.{fieldAt, leads};
 ghost use Rattle.script.specs.Call.{minus, plus, isHex, hexValue, bytesAt};
-ghost use Rattle.script.specs.Reading.{leads, leadsSigned, leadsFlag, leadsSet, Decodes, Counts, signedFieldAt, flagAt, bytesFieldAt, numbersAt, setAt};
+ghost use Rattle.script.specs.Reading.{leadsSigned, leadsFlag, leadsSet, Decodes, Counts, signedFieldAt, flagAt, bytesFieldAt, numbersAt, setAt};
 
 const TAB: u8 = 9;
 

@@ -5,9 +5,9 @@ use lib.ListN.{take, drop}
 use borrow.Author.Tests.{not-true, not-false}
 use Rattle.laws.specs.Pick.{pick-t, pick-f}
 use Rattle.laws.specs.Decimal.{good}
-use Rattle.journal.specs.Scan.{fieldAt}
+use Rattle.text.specs.Scan.{fieldAt, leads}
 use Rattle.script.specs.Call.{atEnd}
-use Rattle.script.specs.Reading.{leads, numbersAt, on-good, on-bad}
+use Rattle.script.specs.Reading.{numbersAt, on-good, on-bad}
 use Rattle.script.proofs.Figures.{field-most}
 use Rattle.script.proofs.Lines.{at-end, past-end, dose-direct}
 use Rattle.script.proofs.Telling.{dose-of}

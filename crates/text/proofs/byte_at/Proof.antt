@@ -4,8 +4,8 @@ use Prim.Native.Nat.{ℕ}
 use denote.Ref.{now}
 use lib.ListN.{List·getD-eq-default}
 use borrow.Author.Needs.{needs}
-use Rattle.journal.proofs.byte_at.Statement.{statement}
-use Rattle.journal.proofs.byte_at.Tie as tie
+use Rattle.text.proofs.byte_at.Statement.{statement}
+use Rattle.text.proofs.byte_at.Tie as tie
 
 shared-slice-read-result : tie.Need-shared-slice-read-result
 shared-slice-read-result c = search needs

@@ -1,7 +1,7 @@
 use Rattle.laws.specs.Pick.{picks}
 use Rattle.laws.specs.Decimal.{isDigit}
-use Rattle.journal.proofs.is_digit.Statement.{statement}
-use Rattle.journal.proofs.is_digit.Tie as tie
+use Rattle.text.proofs.is_digit.Statement.{statement}
+use Rattle.text.proofs.is_digit.Tie as tie
 
 returns : tie.Need-returns
 unfolding isDigit

@@ -8,15 +8,15 @@ use lib.Seq.{sets}
 use Rattle.laws.specs.Decimal.{glyph, hexOf}
 use Rattle.laws.specs.DecimalLaws.{hex-length}
 use Rattle.text.proofs.Laws.{store-last, hex-step, hex-none}
-use Rattle.text.proofs.store_hex16.Statement.{statement}
-use Rattle.text.proofs.store_hex16.Tie as tie
+use Rattle.text.proofs.store_hex.Statement.{statement}
+use Rattle.text.proofs.store_hex.Tie as tie
 
 abbrev Inv-loop : tie.InvT-loop
-Inv-loop out₀ at n v₀ k₀ out v k =
-    (length out ≡ length out₀) × (k ≤ 16) × (sets out at (hexOf k v) ≡ sets out₀ at (hexOf 16 n))
+Inv-loop out₀ at digits n v₀ k₀ out v k =
+    (length out ≡ length out₀) × (k ≤ digits) × (sets out at (hexOf k v) ≡ sets out₀ at (hexOf digits n))
 
 abbrev μ-loop : tie.MeasureT-loop
-μ-loop out₀ at n v₀ k₀ out v k = k
+μ-loop out₀ at digits n v₀ k₀ out v k = k
 
 loop-holds : tie.Need-loop-holds Inv-loop μ-loop
 loop-holds c = (refl, omega arith, refl)
@@ -56,8 +56,8 @@ returns c =
     let e : hexOf (s .k) (s .v) ≡ [] = ap (λ (j : ℕ). hexOf j (s .v)) z ∙ hex-none (s .v) in
     ap (sets (s .out) (a .at)) (sym e) ∙ s .inv .2
 
-pub store-hex16-spec : {M : Type 1} → statement M
-store-hex16-spec =
+pub store-hex-spec : {M : Type 1} → statement M
+store-hex-spec =
     tie.close
     (tie.spec
     Inv-loop

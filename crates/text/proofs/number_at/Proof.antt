@@ -11,9 +11,10 @@ use borrow.Author.Tests.{not-true, not-false, lt-ltb, le-ltb}
 use Rattle.laws.specs.Pick.{pick-t, pick-f, so}
 use Rattle.laws.specs.Decimal.{isDigit, numberAt}
 use Rattle.laws.specs.DecimalLaws.{digit-range}
-use Rattle.journal.proofs.Scanning.{byte-inside, onward, digits-digit, digits-end, number-none, number-zero, number-digits}
-use Rattle.journal.proofs.number_at.Statement.{statement}
-use Rattle.journal.proofs.number_at.Tie as tie
+use Rattle.text.specs.ScanLaws.{byte-inside}
+use Rattle.text.proofs.Scanning.{onward, digits-digit, digits-end, number-none, number-zero, number-digits}
+use Rattle.text.proofs.number_at.Statement.{statement}
+use Rattle.text.proofs.number_at.Tie as tie
 
 abbrev Inv-loop : tie.InvT-loop
 Inv-loop s at most first v₀ i₀ v i = (i ≤ length s) × (v ≤ most * 10 + 9) × (numberAt most (drop at s) ≡ onward most v (drop i s))
