@@ -20,7 +20,7 @@ use Rattle.hourly.specs.declared.Figures.{Figures}
 use Rattle.hourly.specs.declared.Hour.{Hour}
 use Rattle.hourly.specs.declared.Hour.the-variants.{Measured, Idle, Missing}
 use Rattle.hourly.specs.declared.Tally.{Tally}
-use Rattle.hourly.proofs.Floats.{whole-back, mean-no-nan}
+use Rattle.hourly.specs.Floats.{whole-back, mean-no-nan}
 
 -- the tally of an hour answers as the hour does
 pub hour-tally : (ls : List Line) (h : ℕ) → hourFrom (tallyOf ls h) ≡ hourOf ls h

@@ -1,4 +1,3 @@
-pub mod Floats
 pub mod Tallying
 pub mod Answering
 pub mod Printing

@@ -29,7 +29,7 @@ use Rattle.hourly.specs.Tally.{outside, tallyOf, linesOf, Tells, shownBy
 use Rattle.hourly.specs.declared.Hour.{Hour}
 use Rattle.hourly.specs.declared.Hour.the-variants.{Missing}
 use Rattle.hourly.specs.declared.Tally.{Tally}
-use Rattle.hourly.proofs.Floats.{whole-back}
+use Rattle.hourly.specs.Floats.{whole-back}
 use Rattle.hourly.proofs.Answering.{hour-tally}
 use Rattle.hourly.proofs.Tallying.{Found, found-accepted}
 

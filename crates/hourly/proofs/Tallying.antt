@@ -29,7 +29,7 @@ use Rattle.hourly.specs.Accepted.{InRange, Ranged, Accepted, accepted, e
 use Rattle.hourly.specs.Bounds.{modest}
 use Rattle.hourly.specs.Tally.{outside, noTally, withDose, withOn, counted, tallyOf, Tells, linesIn, linesOf}
 use Rattle.hourly.specs.declared.Tally.{Tally}
-use Rattle.hourly.proofs.Floats.{add-whole}
+use Rattle.hourly.specs.Floats.{add-whole}
 
 -- ---- one line more
 

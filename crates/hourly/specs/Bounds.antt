@@ -13,7 +13,7 @@ use Rattle.laws.specs.Decimal.{decimal, hexOf}
 use Rattle.laws.specs.DecimalLaws.{decimal-length, hex-length}
 use Rattle.paper.specs.Answer.{done, refused, onDone, inRoom}
 use Rattle.paper.specs.Numbers.{R8}
-use Rattle.journal.specs.Line.{LF, TAB}
+use Rattle.text.specs.Scan.{LF, TAB}
 use Rattle.journal.specs.Journal.{hourIn, journalOf, firstHour, lastHour}
 use Rattle.journal.specs.LineLaws.{dose-range}
 use Rattle.journal.specs.JournalLaws.{Each, hour-range}

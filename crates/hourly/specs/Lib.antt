@@ -7,5 +7,6 @@ pub mod Rows
 pub mod Determined
 pub mod Accepted
 pub mod Bounds
+pub mod Floats
 pub mod Exact
 pub mod Report

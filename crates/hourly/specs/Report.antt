@@ -17,7 +17,8 @@ use Rattle.paper.specs.Answer.{Answer, done, refused, fault, told}
 use Rattle.paper.specs.Numbers.{R10, R11, R12, R13}
 use Rattle.text.specs.Put.{Puts}
 use Rattle.text.specs.PutLaws.{room-is, room-not, puts-fit, puts-none, puts-length}
-use Rattle.journal.specs.Line.{LF, TAB, lineOf}
+use Rattle.text.specs.Scan.{LF, TAB}
+use Rattle.journal.specs.Line.{lineOf}
 use Rattle.journal.specs.Journal.{hourIn, outOfOrder, tooFar, pastAfter, noPast, ordered, onLine, readFrom, journalOf}
 use Rattle.journal.specs.LineLaws.{refused-done}
 use Rattle.journal.specs.declared.Line.{Line}

@@ -11,7 +11,7 @@ use lib.Ieee.Fits.{div-fits}
 use Rattle.laws.specs.Pick.{pick-all}
 use Rattle.laws.specs.Decimal.{decimal, hexOf}
 use Rattle.laws.specs.DecimalLaws.{decimal-apart, hex-apart, hex-length}
-use Rattle.journal.specs.Line.{LF, TAB}
+use Rattle.text.specs.Scan.{LF, TAB}
 use Rattle.journal.specs.declared.Line.{Line}
 use Rattle.hourly.specs.Hours.{amountsAt, hasOn, total, figuresOf, measuredOrIdle, hourOf, inFloat}
 use Rattle.hourly.specs.Text.{Row, measured, idle, missing, letterM, letterI, letterX, HourRow, rowFrom, rowOf, rowText, rowsOf, rowsText, hoursText, spanOf}

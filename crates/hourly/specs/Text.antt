@@ -9,7 +9,7 @@ use lib.Ieee.{Float, binary64, toBits, div, ofInt}
 use Rattle.laws.specs.Pick.{pick}
 use Rattle.laws.specs.Decimal.{decimal, digitsOf, glyph, hexOf}
 use Rattle.paper.specs.Answer.{Answer, onDone, inRoom}
-use Rattle.journal.specs.Line.{LF, TAB}
+use Rattle.text.specs.Scan.{LF, TAB}
 use Rattle.journal.specs.Journal.{journalOf, firstHour, lastHour, hourIn, example}
 use Rattle.journal.specs.declared.Line.{Line}
 use Rattle.journal.specs.declared.Line.the-variants.{Dose, On}

@@ -13,14 +13,15 @@ use Rattle.laws.specs.Pick.{pick, pick-t, pick-f, pick-map, pick-all}
 use Rattle.laws.specs.Decimal.{Parsed, good, bad, numberAt}
 use Rattle.paper.specs.Answer.{Answer, done, refused}
 use Rattle.paper.specs.Numbers.{R10}
-use Rattle.journal.specs.Line.{TAB, LF, letterD, letterH, mostOfD, mostOfH, expect, onGood, fieldsAt, doseFrom, onFrom, lineOf, Placed, placed, whole}
+use Rattle.text.specs.Scan.{TAB, LF, expect, onGood, Scans, fieldAt}
+use Rattle.text.specs.ScanLaws.{from-place, expect-hit, expect-miss}
+use Rattle.journal.specs.Line.{letterD, letterH, mostOfD, mostOfH, fieldsAt, doseFrom, onFrom, lineOf, Placed, placed, whole}
 use Rattle.journal.specs.LineLaws.{line-shorter, placed-good}
-use Rattle.journal.specs.Scan.{Scans, fieldAt, fieldsAfter, lineFrom}
+use Rattle.journal.specs.Fields.{fieldsAfter, lineFrom}
 use Rattle.journal.specs.declared.Line.{Line}
 use Rattle.journal.specs.declared.Line.the-variants.{On}
-use Rattle.journal.specs.declared.Num.{Num}
-use Rattle.journal.specs.declared.Num.the-variants.{Good, Bad}
-use Rattle.journal.proofs.Scanning.{from-place, expect-hit, expect-miss}
+use Rattle.text.specs.declared.Num.{Num}
+use Rattle.text.specs.declared.Num.the-variants.{Good, Bad}
 
 fields-step : (m : ℕ) (ms got l : List ℕ) → fieldsAt (m ∷ ms) got l ≡ onGood (fieldAt m l) (λ v rest. fieldsAt ms (got ++ v ∷ []) rest)
 unfolding fieldsAt fieldAt expect onGood

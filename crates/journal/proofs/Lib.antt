@@ -1,4 +1,3 @@
-pub mod Scanning
 pub mod Fields
 pub mod Carried
 pub mod Storing

@@ -9,7 +9,8 @@ use Rattle.laws.specs.Pick.{pick}
 use Rattle.laws.specs.Decimal.{decimal, digitsOf, glyph, Parsed, good, bad, numberAt, digitsFrom, isDigit}
 use Rattle.paper.specs.Answer.{Answer, done, refused, told}
 use Rattle.paper.specs.Numbers.{R10, R11, R12, R13}
-use Rattle.journal.specs.Line.{lineOf, textOf, fieldsText, expect, onGood, fieldsAt, doseFrom, onFrom, mostOfD, mostOfH}
+use Rattle.text.specs.Scan.{expect, onGood}
+use Rattle.journal.specs.Line.{lineOf, textOf, fieldsText, fieldsAt, doseFrom, onFrom, mostOfD, mostOfH}
 use Rattle.journal.specs.declared.Line.{Line}
 use Rattle.journal.specs.declared.Line.the-variants.{Dose, On}
 use Rattle.journal.specs.declared.Past.{Past}

@@ -4,5 +4,5 @@ pub mod Journal
 pub mod JournalLaws
 pub mod Order
 pub mod Says
-pub mod Scan
+pub mod Fields
 pub mod Store

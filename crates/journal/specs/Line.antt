@@ -9,16 +9,11 @@ use Rattle.laws.specs.Pick.{pick}
 use Rattle.laws.specs.Decimal.{decimal, digitsOf, glyph, Parsed, good, bad, numberAt, digitsFrom, isDigit}
 use Rattle.paper.specs.Answer.{Answer, done, refused, inRoom}
 use Rattle.paper.specs.Numbers.{R8, R10}
+use Rattle.text.specs.Scan.{TAB, LF, expect, onGood}
 use Rattle.journal.specs.declared.Line.{Line}
 use Rattle.journal.specs.declared.Line.the-variants.{Dose, On}
 
--- LF, the tab, D and H
-abbrev pub LF : ℕ
-LF = 10
-
-abbrev pub TAB : ℕ
-TAB = 9
-
+-- D and H
 abbrev pub letterD : ℕ
 letterD = 68
 
@@ -61,16 +56,6 @@ unfoldable pub writeOf : Line → ℕ → Answer (List ℕ)
 writeOf l room = pick (inRange l) (inRoom [] room (textOf l)) (refused R10 (0 ∷ []))
 
 -- ---- reading
-
--- the byte b has to stand next
-unfoldable pub expect : {X : Type 0} → ℕ → List ℕ → (List ℕ → Parsed X) → Parsed X
-expect b [] next = bad
-expect b (x ∷ xs) next = let rest = next xs in pick (eqb x b) rest bad
-
--- where a value is good, go on behind it
-unfoldable pub onGood : {X Y : Type 0} → Parsed X → (X → List ℕ → Parsed Y) → Parsed Y
-onGood (good v rest) next = next v rest
-onGood bad next = bad
 
 -- a tab and a number for each greatest value, then LF; `got` holds the values so far
 unfoldable pub fieldsAt : List ℕ → List ℕ → List ℕ → Parsed (List ℕ)

@@ -14,7 +14,9 @@ use Rattle.laws.specs.Decimal.{Parsed, good, bad, numberAt, decimal, isDigit}
 use Rattle.laws.specs.DecimalLaws.{Stops, number-decimal, number-only, decimal-some, decimal-length}
 use Rattle.paper.specs.Answer.{done, refused, inRoom}
 use Rattle.paper.specs.Numbers.{R8, R10}
-use Rattle.journal.specs.Line.{Placed, placed, lineAt, writeOf, oneLine, whole, LF, TAB, letterD, letterH, mostOfD, mostOfH, fieldsText, textOf, within, inRange, expect, onGood, fieldsAt, doseFrom, onFrom, lineOf}
+use Rattle.text.specs.Scan.{LF, TAB, expect, onGood}
+use Rattle.text.specs.ScanLaws.{bad-good}
+use Rattle.journal.specs.Line.{Placed, placed, lineAt, writeOf, oneLine, whole, letterD, letterH, mostOfD, mostOfH, fieldsText, textOf, within, inRange, fieldsAt, doseFrom, onFrom, lineOf}
 use Rattle.journal.specs.declared.Line.{Line}
 use Rattle.journal.specs.declared.Line.the-variants.{Dose, On}
 
@@ -36,10 +38,6 @@ within-length [] [] e = refl
 within-length [] (m ∷ ms) e = false-true e
 within-length (v ∷ vs) [] e = false-true e
 within-length (v ∷ vs) (m ∷ ms) e = ap suc (within-length vs ms (and-right (leb v m) (within vs ms) e))
-
--- nothing good is nothing read
-bad-good : {X Y : Type 0} {x : X} {rest : List ℕ} → bad ≡ good x rest → Y
-bad-good e = let z : _≡_ {A = ℕ} 0 1 = cc in let f : ⊥ = omega arith in absurd f
 
 -- a refusal is no value
 pub refused-done : {X Y : Type 0} {x : X} {n : ℕ} {vs : List ℕ} → refused n vs ≡ done x → Y

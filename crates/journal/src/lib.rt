@@ -1,16 +1,18 @@
 // The journal: D and H lines, written and read, and the refusals of a whole journal.
+use text::Num;
 ghost use mathlib.Core.Path.{_≡_};
 ghost use mathlib.Core.Bool.{_&&_};
 ghost use mathlib.Core.List.{[], _∷_};
 ghost use Prim.Native.Nat.{_+_, _≤_};
-ghost use lib.ListN.{length, drop, getD};
+ghost use lib.ListN.{length, drop};
 ghost use Rattle.laws.specs.Pick.{pick};
-ghost use Rattle.laws.specs.Decimal.{good, isDigit, numberAt, decimal};
+ghost use Rattle.laws.specs.Decimal.{good, decimal};
 ghost use Rattle.paper.specs.Answer.{Fills, told};
-ghost use Rattle.journal.specs.Line.{TAB, LF, mostOfD, mostOfH, textOf, inRange, writeOf, expect, onGood, fieldsAt, doseFrom, onFrom, placed, lineAt, oneLine, echoOf};
+ghost use Rattle.text.specs.Scan.{TAB, LF, expect, onGood};
+ghost use Rattle.journal.specs.Line.{mostOfD, mostOfH, textOf, inRange, writeOf, fieldsAt, doseFrom, onFrom, placed, lineAt, oneLine, echoOf};
 ghost use Rattle.journal.specs.Journal.{hourIn, closes, outOfOrder, tooFar, noPast, pastAfter, journalOf, summaryOf};
 ghost use Rattle.journal.specs.Says.{saysWrote, saysOne, saysEchoed, saysAt, saysJudged};
-ghost use Rattle.journal.specs.Scan.{Scans, fieldAt, fieldsAfter, lineFrom};
+ghost use Rattle.journal.specs.Fields.{fieldsAfter, lineFrom};
 ghost use Rattle.journal.specs.Store.{FieldLength, Stores};
 ghost use Rattle.journal.specs.declared.Line.the-variants.{Dose, On};
 
@@ -73,12 +75,6 @@ pub struct Past {
     pub closed: bool,
     pub first: u32,
     pub last: u32,
-}
-
-// A number read at a place: its value and the place after it, or none.
-enum Num {
-    Good(u32, usize),
-    Bad,
 }
 
 const TAB: u8 = 9;
@@ -219,62 +215,11 @@ pub fn write(line: Line, out: &mut [u8]) -> Wrote
     Wrote::Line(written)
 }
 
-// The byte at a place, 0 past the end.
-fn byte_at(s: &[u8], at: usize) -> u8
-    ensures { λ r. ⌜ r ≡ getD (now (s .entry)) at 0 ⌝ }
-{
-    if at < s.len() { s[at] } else { 0 }
-}
-
-// Whether a byte is a digit.
-fn is_digit(b: u8) -> bool
-    ensures { λ r. ⌜ r ≡ isDigit b ⌝ }
-{
-    if b < 48 {
-        return false;
-    }
-    b <= 57
-}
-
-// The number at a place, each byte looked at once; it is refused as soon as it is above `most`.
-fn number_at(s: &[u8], at: usize, most: u32) -> Num
-    ensures { λ r. ⌜ Scans (now (s .entry)) (numberAt most (drop at (now (s .entry)))) r ⌝ }
-{
-    let first = byte_at(s, at);
-    if !is_digit(first) {
-        return Num::Bad;
-    }
-    if first <= 48 {
-        return Num::Good(0, at + 1);
-    }
-    let mut v = (first - 48) as u64;
-    let mut i = at + 1;
-    while v <= most as u64 {
-        let b = byte_at(s, i);
-        if !is_digit(b) {
-            return Num::Good(v as u32, i);
-        }
-        v = v * 10 + (b - 48) as u64;
-        i += 1;
-    }
-    Num::Bad
-}
-
-// A tab and a number at a place.
-fn field_at(s: &[u8], at: usize, most: u32) -> Num
-    ensures { λ r. ⌜ Scans (now (s .entry)) (fieldAt most (drop at (now (s .entry)))) r ⌝ }
-{
-    if byte_at(s, at) != TAB {
-        return Num::Bad;
-    }
-    number_at(s, at + 1, most)
-}
-
 // The line whose LF has to stand at a place.
 fn end_at(s: &[u8], at: usize, line: Line) -> At
     ensures { λ r. ⌜ saysAt r ≡ placed (length (now (s .entry))) (expect LF (drop at (now (s .entry))) (λ rest. good line rest)) ⌝ }
 {
-    if byte_at(s, at) != LF {
+    if text::byte_at(s, at) != LF {
         return At::R10;
     }
     At::Line { line, next: at + 1 }
@@ -284,16 +229,16 @@ fn end_at(s: &[u8], at: usize, line: Line) -> At
 fn dose_at(s: &[u8], at: usize) -> At
     ensures { λ r. ⌜ saysAt r ≡ placed (length (now (s .entry))) (onGood (fieldsAt mostOfD [] (drop at (now (s .entry)))) (λ vs rest. good (doseFrom vs) rest)) ⌝ }
 {
-    let Num::Good(hour, after_hour) = field_at(s, at, MOST[0]) else {
+    let Num::Good(hour, after_hour) = text::field_at(s, at, MOST[0]) else {
         return At::R10;
     };
-    let Num::Good(count, after_count) = field_at(s, after_hour, MOST[1]) else {
+    let Num::Good(count, after_count) = text::field_at(s, after_hour, MOST[1]) else {
         return At::R10;
     };
-    let Num::Good(amount, after_amount) = field_at(s, after_count, MOST[2]) else {
+    let Num::Good(amount, after_amount) = text::field_at(s, after_count, MOST[2]) else {
         return At::R10;
     };
-    let Num::Good(settled, after_settled) = field_at(s, after_amount, MOST[3]) else {
+    let Num::Good(settled, after_settled) = text::field_at(s, after_amount, MOST[3]) else {
         return At::R10;
     };
     end_at(
@@ -312,7 +257,7 @@ fn dose_at(s: &[u8], at: usize) -> At
 fn on_at(s: &[u8], at: usize) -> At
     ensures { λ r. ⌜ saysAt r ≡ placed (length (now (s .entry))) (onGood (fieldsAt mostOfH [] (drop at (now (s .entry)))) (λ vs rest. good (onFrom vs) rest)) ⌝ }
 {
-    let Num::Good(hour, after_hour) = field_at(s, at, MOST[0]) else {
+    let Num::Good(hour, after_hour) = text::field_at(s, at, MOST[0]) else {
         return At::R10;
     };
     end_at(s, after_hour, Line::On { hour })
@@ -322,7 +267,7 @@ fn on_at(s: &[u8], at: usize) -> At
 pub fn line_at(bytes: &[u8], at: usize) -> At
     ensures { λ r. ⌜ saysAt r ≡ lineAt (now (bytes .entry)) at ⌝ }
 {
-    let letter = byte_at(bytes, at);
+    let letter = text::byte_at(bytes, at);
     if letter == D {
         return dose_at(bytes, at + 1);
     }
@@ -506,14 +451,14 @@ pub fn read(bytes: &[u8]) -> Judged
         let mut k: usize = 0;
         let mut p = at + 1;
         'fields: while k < fields {
-            let Num::Good(v, next) = field_at(bytes, p, MOST[k]) else {
+            let Num::Good(v, next) = text::field_at(bytes, p, MOST[k]) else {
                 break 'lines Judged::Refused(Refusal::R10(line));
             };
             got[k] = v;
             p = next;
             k += 1;
         }
-        if byte_at(bytes, p) != LF {
+        if text::byte_at(bytes, p) != LF {
             break 'lines Judged::Refused(Refusal::R10(line));
         }
         let this = line_from(fields, got);

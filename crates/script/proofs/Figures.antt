@@ -18,12 +18,11 @@ use Rattle.laws.specs.Pick.{pick, pick-t, pick-f}
 use Rattle.laws.specs.Whole.{below-zero, true-false, fits64, abs-neg}
 use Rattle.laws.specs.Decimal.{Parsed, good, bad, decimal, numberAt}
 use Rattle.laws.specs.DecimalLaws.{number-only}
-use Rattle.journal.specs.Line.{expect, onGood}
-use Rattle.journal.specs.Scan.{fieldAt}
+use Rattle.text.specs.Scan.{expect, onGood, fieldAt}
+use Rattle.text.specs.ScanLaws.{from-place, bad-good}
 use Rattle.script.specs.Call.{greatest32, minus, plus, signedAt}
 use Rattle.script.specs.Answer.{signedText}
 use Rattle.script.specs.Reading.{on-good, on-bad, on-on, on-same, numbersAt}
-use Rattle.script.proofs.Scanning.{from-place}
 
 -- ---- signs
 
@@ -83,9 +82,6 @@ signed-plus s p n =
 
 pub number-most : (most : ℕ) (l : List ℕ) {v : ℕ} {rest : List ℕ} → numberAt most l ≡ good v rest → v ≤ most
 number-most most l {v} {rest} e = number-only most l v rest e .1
-
-bad-good : {X Q : Type 0} {v : X} {rest : List ℕ} → bad ≡ good v rest → Q
-bad-good e = let z : _≡_ {A = ℕ} 0 1 = cc in let f : ⊥ = omega arith in absurd f
 
 pub field-most : (most : ℕ) (l : List ℕ) {v : ℕ} {rest : List ℕ} → fieldAt most l ≡ good v rest → v ≤ most
 unfolding fieldAt expect pick

@@ -12,7 +12,7 @@ use borrow.Author.Tests.{eq-eqb, ne-eqb, leb-true}
 use Rattle.laws.specs.Pick.{pick, pick-t, pick-f}
 use Rattle.laws.specs.Whole.{true-false, false-true}
 use Rattle.laws.specs.Decimal.{Parsed, good, bad, glyph, hexOf, isDigit}
-use Rattle.journal.specs.Line.{TAB, onGood}
+use Rattle.text.specs.Scan.{TAB, onGood}
 use Rattle.controller.specs.Bounds.{and-left, and-right}
 use Rattle.script.specs.Call.{isHex, hexValue, bytesAt}
 use Rattle.script.specs.Reading.{on-on, on-same}

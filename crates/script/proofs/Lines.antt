@@ -8,8 +8,7 @@ use lib.ListN.{length, getD, take, drop, drop-of-length-le}
 use Rattle.laws.specs.Decimal.{Parsed, good, bad}
 use Rattle.field.specs.Field.{four, weight}
 use Rattle.settings.specs.declared.Settings.{Settings}
-use Rattle.journal.specs.Line.{onGood}
-use Rattle.journal.specs.Scan.{fieldAt}
+use Rattle.text.specs.Scan.{onGood, fieldAt}
 use Rattle.journal.specs.declared.Line.the-variants.{Dose, On}
 use Rattle.script.specs.Call.{Call, tick, link, settings, restart, writeField, readField, writeLine, greatest32, tickAt, linkAt, settingsAt, restartAt, writeFieldAt, readFieldAt, fieldFrom, roomAt, bytesCall, doseAt, onAt, atEnd}
 use Rattle.script.specs.Reading.{on-same, number-field, signed-field, flag-field, bytes-field, numbers-field, set-field, signedFieldAt, flagAt, bytesFieldAt, numbersAt, setAt}
@@ -45,21 +44,21 @@ unfolding restartAt
 restart-direct l =
     set-field l _
     ∙ on-same (setAt l) (λ set rest.
-      number-field greatest32 rest _
-      ∙ on-same (fieldAt greatest32 rest) (λ count rest'. number-field greatest32 rest' (λ total rest''. good (restart set count total) rest'')))
+    number-field greatest32 rest _
+    ∙ on-same (fieldAt greatest32 rest) (λ count rest'. number-field greatest32 rest' (λ total rest''. good (restart set count total) rest'')))
 
 pub weight-direct : (l : List ℕ)
     → writeFieldAt l
     ≡ onGood (signedFieldAt l) (λ w rest. onGood (flagAt rest) (λ stable rest'. onGood (flagAt rest') (λ over rest''.
-      onGood (fieldAt 255 rest'') (λ point rest'''. good (writeField (weight w stable over point)) rest'''))))
+    onGood (fieldAt 255 rest'') (λ point rest'''. good (writeField (weight w stable over point)) rest'''))))
 unfolding writeFieldAt
 weight-direct l =
     signed-field l _
     ∙ on-same (signedFieldAt l) (λ w rest.
-      flag-field rest _
-      ∙ on-same (flagAt rest) (λ stable rest'.
-        flag-field rest' _
-        ∙ on-same (flagAt rest') (λ over rest''. number-field 255 rest'' (λ point rest'''. good (writeField (weight w stable over point)) rest'''))))
+    flag-field rest _
+    ∙ on-same (flagAt rest) (λ stable rest'.
+    flag-field rest' _
+    ∙ on-same (flagAt rest') (λ over rest''. number-field 255 rest'' (λ point rest'''. good (writeField (weight w stable over point)) rest'''))))
 
 pub field-direct : (l : List ℕ) → readFieldAt l ≡ onGood (bytesFieldAt l) (λ bytes rest. fieldFrom bytes (λ f. good (readField f) rest))
 unfolding readFieldAt

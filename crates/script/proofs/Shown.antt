@@ -1,25 +1,23 @@
 -- The texts of the writers' and readers' answers as letters, values and bytes. Assumes nothing.
-use mathlib.Core.Path.{_≡_, refl, sym, ap, _∙_, subst}
-use mathlib.Core.Bool.{Bool, true, false}
+use mathlib.Core.Path.{_≡_, refl, sym, ap, _∙_}
 use mathlib.Core.List.{List, [], _∷_, _++_, append-nil}
-use Prim.Native.Nat.{ℕ, zero, suc, _-_, _≤_, _<_}
+use Prim.Native.Nat.{ℕ, zero, suc, _-_, _≤_}
 use native.Mathlib.Omega.{arith}
-use lib.Dec.{eqb}
-use lib.ListN.{length, getD, take, drop, replicate, length-append, length-replicate}
+use lib.ListN.{length, getD, take, replicate, length-append}
 use lib.Seq.{take-at, length-take-le, getD-take}
 use borrow.Author.Tests.{eq-eqb, ne-eqb}
 use Rattle.laws.specs.Pick.{pick, pick-t, pick-f}
-use Rattle.laws.specs.Decimal.{Parsed, good, bad}
+use Rattle.laws.specs.Decimal.{Parsed, bad}
 use Rattle.paper.specs.Answer.{Answer, done, refused, fault, told, bytesIn, leaves, Fills}
 use Rattle.field.specs.declared.Field.{Field}
 use Rattle.field.specs.declared.Weight.{Weight}
 use Rattle.field.specs.Field.{four}
-use Rattle.frame.specs.declared.Found.{Found}
 use Rattle.frame.specs.declared.Found.the-variants as F
 use Rattle.frame.specs.declared.Read.{Read}
 use Rattle.frame.specs.Read.{Finished, readOf}
+use Rattle.frame.specs.ReadLaws.{done-whole}
 use Rattle.frame.specs.Says.{saysFound, placeAndLength, bytesOf, Reads}
-use Rattle.script.specs.Call.{Call, readField, fieldFrom}
+use Rattle.script.specs.Call.{fieldFrom}
 use Rattle.script.specs.Answer.{numberText, signedText, flagText, bytesText, lineText, valuesText, refusedText, filledText, frameText, weightText}
 
 no-way : {Q : Type 0} → _≡_ {A = ℕ} 0 1 → Q
@@ -46,25 +44,27 @@ shown {a} {rule} {old} {new} e f = filled (length old) a rule new (f .says) (f .
 
 -- ---- the frame reader
 
-bodied : (a : Answer Finished) (body : List ℕ) (place len : ℕ)
+bodied : (a : Answer Finished) (body : List ℕ) (place len : ℕ) → ((f : Finished) → a ≡ done f → length (f .bytes) ≤ 255)
     → done (place, len) ≡ told placeAndLength a → body ≡ bytesIn (told bytesOf a) ++ replicate (255 - length (bytesIn (told bytesOf a))) 0
-    → (lineText (80 ∷ []) (valuesText (place ∷ len ∷ []) ++ bytesText (take len body) ∷ []) ≡ frameText a) × (len ≤ length body)
+    → (lineText (80 ∷ []) (valuesText (place ∷ len ∷ []) ++ bytesText (take len body) ∷ []) ≡ frameText a) × (len ≤ length body) × (len ≤ 255)
 unfolding told bytesIn frameText valuesText
-bodied (done f) body place len e h =
+bodied (done f) body place len most e h =
     let x : _≡_ {A = ℕ × ℕ} (place, len) (f .place, length (f .bytes)) = cc in
     let p : place ≡ f .place = ap (λ (t : ℕ × ℕ). t .0) x in
     let n : len ≡ length (f .bytes) = ap (λ (t : ℕ × ℕ). t .1) x in
-    let b : take len body ≡ f .bytes = ap (take len) h ∙ take-at (f .bytes) (replicate (255 - length (f .bytes)) 0) len (sym n) in
-    (ap (λ (k : ℕ). lineText (80 ∷ []) (numberText k ∷ numberText len ∷ bytesText (take len body) ∷ [])) p
-    ∙ ap (λ (k : ℕ). lineText (80 ∷ []) (numberText (f .place) ∷ numberText k ∷ bytesText (take len body) ∷ [])) n
-    ∙ ap (λ (l : List ℕ). lineText (80 ∷ []) (numberText (f .place) ∷ numberText (length (f .bytes)) ∷ bytesText l ∷ [])) b,
-    omega (arith, ap length h, length-append (f .bytes) (replicate (255 - length (f .bytes)) 0), n))
-bodied (refused n vs) body place len e h = let z : _≡_ {A = ℕ} 0 1 = cc in no-way z
-bodied (fault n vs) body place len e h = let z : _≡_ {A = ℕ} 0 1 = cc in no-way z
+    let b : take len body ≡ f .bytes = ap (take len) h ∙ take-at (f .bytes) (replicate (255 - length (f .bytes)) 0) len (sym n) in (
+      ap (λ (k : ℕ). lineText (80 ∷ []) (numberText k ∷ numberText len ∷ bytesText (take len body) ∷ [])) p
+          ∙ ap (λ (k : ℕ). lineText (80 ∷ []) (numberText (f .place) ∷ numberText k ∷ bytesText (take len body) ∷ [])) n
+          ∙ ap (λ (l : List ℕ). lineText (80 ∷ []) (numberText (f .place) ∷ numberText (length (f .bytes)) ∷ bytesText l ∷ [])) b,
+      omega (arith, ap length h, length-append (f .bytes) (replicate (255 - length (f .bytes)) 0), n),
+      omega (arith, n, most f refl),
+    )
+bodied (refused n vs) body place len most e h = let z : _≡_ {A = ℕ} 0 1 = cc in no-way z
+bodied (fault n vs) body place len most e h = let z : _≡_ {A = ℕ} 0 1 = cc in no-way z
 
 pub body-shown : (s : List ℕ) (r : Read) (place len : ℕ) → Reads s r → r .found ≡ F.Body place len
-    → (lineText (80 ∷ []) (valuesText (place ∷ len ∷ []) ++ bytesText (take len (r .body)) ∷ []) ≡ frameText (readOf s)) × (len ≤ length (r .body))
-body-shown s r place len h e = bodied (readOf s) (r .body) place len (ap saysFound (sym e) ∙ h .says) (h .holds)
+    → (lineText (80 ∷ []) (valuesText (place ∷ len ∷ []) ++ bytesText (take len (r .body)) ∷ []) ≡ frameText (readOf s)) × (len ≤ length (r .body)) × (len ≤ 255)
+body-shown s r place len h e = bodied (readOf s) (r .body) place len (λ f k. done-whole s f k .sized .most) (ap saysFound (sym e) ∙ h .says) (h .holds)
 
 bodiless : (a : Answer Finished) (n : ℕ) (vs : List ℕ) → refused n vs ≡ told placeAndLength a → lineText (82 ∷ []) (valuesText (n ∷ vs)) ≡ frameText a
 unfolding told frameText refusedText valuesText

@@ -18,7 +18,8 @@ use Rattle.frame.specs.Read.{Finished}
 use Rattle.frame.specs.Read as frames-read
 use Rattle.journal.specs.declared.Line.{Line}
 use Rattle.journal.specs.declared.Line.the-variants.{Dose, On}
-use Rattle.journal.specs.Line.{TAB, LF, oneLine}
+use Rattle.text.specs.Scan.{TAB, LF}
+use Rattle.journal.specs.Line.{oneLine}
 use Rattle.journal.specs.Line as lines
 use Rattle.hourly.specs.declared.Figures.{Figures}
 use Rattle.hourly.specs.declared.Hour.{Hour}

@@ -15,7 +15,7 @@ use Rattle.field.specs.declared.Weight.{Weight}
 use Rattle.field.specs.Field.{four, weight}
 use Rattle.journal.specs.declared.Line.{Line}
 use Rattle.journal.specs.declared.Line.the-variants.{Dose, On}
-use Rattle.journal.specs.Line.{TAB, expect, onGood}
+use Rattle.text.specs.Scan.{TAB, expect, onGood}
 
 -- every call of the box and of its writers and readers
 pub data Call : Type 0 where

@@ -10,7 +10,7 @@ use Rattle.laws.specs.Decimal.{Parsed, good, bad, numberAt, digitsFrom, isDigit
 use Rattle.paper.specs.Answer.{Answer, done, refused, fault, leaves}
 use Rattle.field.specs.Field.{four, weight}
 use Rattle.journal.specs.declared.Line.the-variants.{Dose, On}
-use Rattle.journal.specs.Line.{expect, onGood}
+use Rattle.text.specs.Scan.{expect, onGood}
 use Rattle.script.specs.Call.{Call, tick, link, settings, reset, counters, restart, request, writeFrame, readFrame, writeField, readField, writeLine, readLine, hour, hours, numberField, flagField, minus, plus, signedAt, signedField, isHex, hexValue, bytesAt, bytesField, numbersField, setField, fieldFrom, tickAt, linkAt, settingsAt, restartAt, roomAt, bytesCall, writeFieldAt, readFieldAt, doseAt, onAt, hourAt, callBy, atEnd, callOf}
 use Rattle.script.specs.Answer.{numberText, signedText, flagText, bytesText, lineText, valuesText, refusedText, lineNamed, recordText, tickText, doneText, filledText, requestText, frameText, fieldText, weightText, oneText, readLineText, hourText, journalNamed, hoursText}
 

@@ -9,7 +9,7 @@ use lib.ListN.{length, replicate, length-append}
 use borrow.Author.Tests.{ne-eqb, lt-ltb}
 use Rattle.laws.specs.Pick.{pick, pick-t, pick-f}
 use Rattle.laws.specs.Decimal.{bad}
-use Rattle.journal.specs.Line.{LF}
+use Rattle.text.specs.Scan.{LF}
 use Rattle.controller.specs.declared.Controller.{Controller}
 use Rattle.controller.specs.Calls.{freshOf}
 use Rattle.script.specs.Answer.{Step, onCall, tooLong, answerTo}

@@ -3,5 +3,8 @@ pub mod Answer
 pub mod Print
 pub mod Reading
 pub mod Steps
+pub mod Reply
 pub mod Cases
 pub mod Input
+pub mod Blocks
+pub mod Feeding

@@ -11,7 +11,7 @@ use Rattle.laws.specs.Decimal.{decimal, hexOf}
 use Rattle.laws.specs.Over.{over, sets-append, sets-over}
 use Rattle.text.specs.Put.{Puts}
 use Rattle.text.specs.PutLaws.{room-is, puts-fit}
-use Rattle.journal.specs.Line.{TAB, LF}
+use Rattle.text.specs.Scan.{TAB, LF}
 use Rattle.script.specs.Answer.{numberText, bytesText, lineText, valuesText}
 
 -- the text stands at `at`, everything else is as it was, and the place after it is answered; it has at most so many bytes
@@ -82,11 +82,11 @@ putting-more {m} {at} {p} {q} {i} {f} {old} {vs} {mid} {new} h s w =
     let cut : pieces f (drop i vs) ≡ f v ++ more = ap (pieces f) (drop-cons vs i 0 h ∙ ap (λ (n : ℕ). v ∷ drop n vs) (sym (add-one i))) in
     record {
       rest =
-        ap (λ (l : List ℕ). sets l q more) (w .left)
-        ∙ ap (λ (n : ℕ). sets (sets mid p (f v)) n more) (w .next)
-        ∙ sym (sets-append mid p (f v) more)
-        ∙ ap (sets mid p) (sym cut)
-        ∙ s .rest;
+          ap (λ (l : List ℕ). sets l q more) (w .left)
+          ∙ ap (λ (n : ℕ). sets (sets mid p (f v)) n more) (w .next)
+          ∙ sym (sets-append mid p (f v) more)
+          ∙ ap (sets mid p) (sym cut)
+          ∙ s .rest;
       place = omega (arith, w .next, s .place, ap length cut, length-append (f v) more);
       long = w .long ∙ s .long;
     }

@@ -10,10 +10,9 @@ use Rattle.laws.specs.Pick.{pick, pick-map}
 use Rattle.laws.specs.Decimal.{Parsed, good, bad, numberAt}
 use Rattle.settings.specs.declared.Settings.{Settings}
 use Rattle.settings.specs.Cases.{setOf}
-use Rattle.journal.specs.Line.{TAB, expect, onGood}
-use Rattle.journal.specs.Scan.{fieldAt}
+use Rattle.text.specs.Scan.{TAB, expect, onGood, fieldAt}
 use Rattle.script.specs.Call.{greatest32, numberField, flagField, signedAt, signedField, bytesAt, bytesField, numbersField, setField}
-use Rattle.script.specs.declared.Num.{Num}
+use Rattle.text.specs.declared.Num.{Num}
 use Rattle.script.specs.declared.Num.the-variants as N
 use Rattle.script.specs.declared.Signed.{Signed}
 use Rattle.script.specs.declared.Signed.the-variants as S

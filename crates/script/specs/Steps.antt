@@ -9,6 +9,8 @@ use Rattle.laws.specs.Pick.{pick}
 use Rattle.laws.specs.Over.{over}
 use Rattle.laws.specs.Decimal.{Parsed, good, bad}
 use Rattle.paper.specs.Answer.{same}
+use Rattle.journal.specs.declared.Refusal.{Refusal}
+use Rattle.journal.specs.declared.Refusal.the-variants as J
 use Rattle.controller.specs.declared.Controller.{Controller}
 use Rattle.controller.specs.declared.RestartAnswer.{RestartAnswer}
 use Rattle.controller.specs.declared.RestartAnswer.the-variants as R
@@ -156,3 +158,10 @@ tells-as {p} {q} {old} {new} {r} e a = subst (λ (x : Parsed Call). Tells x old 
 -- two results that both meet the contract are equal
 pub answers-determined : {s : Step} {old new new' : List ℕ} {a b : Answered} → Answers s old new a → Answers s old new' b → (a .next ≡ b .next) × (a .len ≡ b .len) × (new ≡ new')
 answers-determined p q = (same (p .next) (q .next), same (p .len) (q .len), same (p .left) (q .left))
+
+-- a journal's refusal as it is shown: its number and its line, 0 for R13
+abbrev pub refusalShown : Refusal → List ℕ
+refusalShown (J.R10 line) = 10 ∷ line ∷ []
+refusalShown (J.R11 line) = 11 ∷ line ∷ []
+refusalShown (J.R12 line) = 12 ∷ line ∷ []
+refusalShown J.R13 = 13 ∷ 0 ∷ []

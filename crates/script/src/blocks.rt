@@ -1,14 +1,28 @@
-// Lines over blocks of input: the whole lines of a block are answered, the rest is carried over.
-use crate::Answered;
+// An input in blocks: the whole lines of a block are answered, what it leaves is carried over.
 use crate::ENOUGH;
 use crate::LONGEST;
+use crate::Num;
+use crate::Signed;
+use crate::TickLine;
 use crate::answer;
-use crate::unknown;
+use crate::calls;
+use crate::print;
+use crate::read;
 use controller::Controller;
+ghost use mathlib.Core.Path.{_≡_};
+ghost use Prim.Native.Nat.{_-_, _≤_};
+ghost use lib.Dec.{ltb};
+ghost use lib.ListN.{length, drop};
+ghost use Rattle.laws.specs.Pick.{pick};
+ghost use Rattle.controller.specs.Sound.{Sound};
+ghost use Rattle.script.specs.Blocks.{between, inLong, feedOf, Starts, Feeds};
+ghost use Rattle.script.specs.Feeding.{fed, EndsAt, TickAt, FeedsFrom};
 
-// What is carried from line to line: the controller, and whether the line that goes on here is too long already.
+const LF: u8 = 10;
+
+// What is carried from block to block: the controller, and whether the line that goes on is too long already.
 pub struct Replay {
-    pub box_now: Controller,
+    pub controller: Controller,
     pub long: bool,
 }
 
@@ -21,19 +35,25 @@ pub struct Fed {
 
 impl Replay {
     // Before the first line: a fresh controller.
-    pub fn start() -> Replay {
+    pub fn start() -> Replay
+        ensures { λ r. ⌜ Starts r ⌝ }
+    {
+        let controller = Controller::fresh();
         Replay {
-            box_now: Controller::fresh(),
+            controller,
             long: false,
         }
     }
 }
 
 // The place of the first LF from `at` on, or the length.
-fn line_end(block: &[u8], at: usize) -> usize {
+fn line_end(block: &[u8], at: usize) -> usize
+    requires { ⌜ at ≤ length (now block) ⌝ }
+    ensures { λ r. ⌜ EndsAt (now (block .entry)) at r ⌝ }
+{
     let mut i = at;
     while i < block.len() {
-        if block[i] == 10 {
+        if block[i] == LF {
             return i;
         }
         i += 1;
@@ -41,48 +61,111 @@ fn line_end(block: &[u8], at: usize) -> usize {
     i
 }
 
-// The answer to the line that stands in a block from `at` to `end`.
-fn answer_at(r: Replay, block: &[u8], at: usize, end: usize, out: &mut [u8]) -> Answered {
-    let c = r.box_now;
-    if r.long {
-        return unknown(c, out);
+// The line at a place, read in one pass where it is a tick.
+fn tick_line(block: &[u8], at: usize) -> TickLine
+    ensures { λ r. ⌜ TickAt (now (block .entry)) at r ⌝ }
+{
+    if read::byte_at(block, at) != b'T' {
+        return TickLine::Other;
     }
-    answer(c, &block[at..end], out)
+    let Signed::Good(sample, after) = read::signed_at(block, at + 1) else {
+        return TickLine::Other;
+    };
+    let Num::Good(inputs, end) = read::field_at(block, after, 255) else {
+        return TickLine::Other;
+    };
+    if read::byte_at(block, end) != LF {
+        return TickLine::Other;
+    }
+    TickLine::Tick(sample, inputs as u8, end)
 }
 
-// The whole lines of a block, as long as their answers have room. A begun line is left, or dropped once it is too long.
-pub fn feed(r: Replay, block: &[u8], out: &mut [u8]) -> Fed {
-    let mut now = r;
-    let mut used: usize = 0;
-    let mut len: usize = 0;
-    while ENOUGH <= out.len() - len {
-        let end = line_end(block, used);
-        if block.len() <= end {
-            if LONGEST < end - used {
-                return Fed {
-                    next: Replay { long: true, ..now },
-                    used: end,
-                    len,
-                };
-            }
-            return Fed {
-                next: now,
-                used,
-                len,
-            };
-        }
-        let answered = answer_at(now, block, used, end, &mut out[len..]);
-        let next = answered.next;
-        now = Replay {
-            box_now: next,
-            long: false,
+// A begun line is left to the next block, or dropped once it is too long.
+fn leave(c: Controller, used: usize, end: usize, len: usize) -> Fed
+    requires { ⌜ used ≤ end ⌝ }
+    ensures { λ r. ⌜ r ≡ pick (ltb 4095 (end - used)) (fed (inLong c) end len) (fed (between c) used len) ⌝ }
+{
+    if LONGEST < end - used {
+        return Fed {
+            next: Replay {
+                controller: c,
+                long: true,
+            },
+            used: end,
+            len,
         };
-        used = end + 1;
-        len += answered.len;
     }
     Fed {
-        next: now,
+        next: Replay {
+            controller: c,
+            long: false,
+        },
         used,
         len,
     }
+}
+
+// The lines of a block from `at` on, as long as their answers have room behind those of `filled` bytes.
+fn feed_from(old: Controller, block: &[u8], at: usize, out: &mut [u8], filled: usize) -> Fed
+    requires sound { ⌜ Sound old ⌝ }
+    requires places { ⌜ (at ≤ length (now block)) × (filled ≤ length (now out)) ⌝ }
+    ensures { λ r. ⌜ FeedsFrom at filled (feedOf (length (now (out .entry)) - filled) (between old) (drop at (now (block .entry)))) (now (out .entry)) (now (out .exit)) r ⌝ }
+{
+    let mut c = old;
+    let mut used = at;
+    let mut len = filled;
+    while ENOUGH <= out.len() - len {
+        if let TickLine::Tick(sample, inputs, end) = tick_line(block, used) {
+            let ticked = c.tick(sample, inputs);
+            let answer = ticked.answer;
+            c = ticked.next;
+            len += calls::put_tick(&mut out[len..], answer);
+            used = end + 1;
+        } else {
+            let end = line_end(block, used);
+            if block.len() <= end {
+                return leave(c, used, end, len);
+            }
+            let answered = answer(c, &block[used..end], &mut out[len..]);
+            c = answered.next;
+            len += answered.len;
+            used = end + 1;
+        }
+    }
+    Fed {
+        next: Replay {
+            controller: c,
+            long: false,
+        },
+        used,
+        len,
+    }
+}
+
+// The whole lines of a block, as long as their answers have room.
+pub fn feed(r: Replay, block: &[u8], out: &mut [u8]) -> Fed
+    requires { ⌜ Sound (r .controller) ⌝ }
+    ensures { λ f. ⌜ Feeds r (now (block .entry)) (now (out .entry)) (now (out .exit)) f ⌝ }
+{
+    let c = r.controller;
+    if !r.long {
+        return feed_from(c, block, 0, out, 0);
+    }
+    if out.len() < ENOUGH {
+        return Fed {
+            next: r,
+            used: 0,
+            len: 0,
+        };
+    }
+    let end = line_end(block, 0);
+    if block.len() <= end {
+        return Fed {
+            next: r,
+            used: end,
+            len: 0,
+        };
+    }
+    let len = print::put_values(out, b'?', &[]);
+    feed_from(c, block, end + 1, out, len)
 }

@@ -1,15 +1,15 @@
 // The calls of the box.
 use crate::Answered;
-use crate::LinkCall;
-use crate::RestartCall;
-use crate::SetCall;
-use crate::TickCall;
-use crate::read;
-use crate::print;
 use crate::Flag;
+use crate::LinkCall;
 use crate::Num;
+use crate::RestartCall;
 use crate::Set;
+use crate::SetCall;
 use crate::Signed;
+use crate::TickCall;
+use crate::print;
+use crate::read;
 use crate::unknown;
 use controller::Controller;
 use controller::Fault;
@@ -58,7 +58,7 @@ fn put_fault(out: &mut [u8], why: Fault) -> usize
 }
 
 // O, D, F or R.
-fn put_tick(out: &mut [u8], answer: TickAnswer) -> usize
+pub(crate) fn put_tick(out: &mut [u8], answer: TickAnswer) -> usize
     requires { ⌜ 4096 ≤ length (now out) ⌝ }
     ensures { λ r. ⌜ Prints 4096 (now (out .entry)) 0 (tickText (saysTick answer)) (now (out .exit)) r ⌝ }
 {

@@ -1,8 +1,10 @@
 // One call to a line: what a line of a script asks, and the line that answers it.
 mod blocks;
 mod calls;
+mod hours;
 mod print;
 mod read;
+mod request;
 mod tools;
 
 pub use blocks::Fed;
@@ -17,8 +19,9 @@ ghost use Prim.Native.Nat.{_≤_};
 ghost use lib.ListN.{length};
 ghost use Rattle.laws.specs.Decimal.{bad};
 ghost use Rattle.controller.specs.Sound.{Sound};
+ghost use Rattle.script.specs.Call.{callOf};
 ghost use Rattle.script.specs.Answer.{onCall};
-ghost use Rattle.script.specs.Steps.{Answers};
+ghost use Rattle.script.specs.Steps.{Answers, answerIn};
 
 // The next controller, and how many bytes the answer has.
 pub struct Answered {
@@ -65,6 +68,12 @@ enum TickCall {
     Unknown,
 }
 
+// A line of a block that is a tick, and the place of its LF.
+enum TickLine {
+    Tick(i32, u8, usize),
+    Other,
+}
+
 enum LinkCall {
     Link(bool),
     Unknown,
@@ -90,7 +99,7 @@ enum FieldCall {
     Unknown,
 }
 
-// So many bytes, and the room of a buffer.
+// So many bytes, and the room of a buffer or an hour.
 enum RoomCall {
     Room(usize, usize),
     Unknown,
@@ -122,7 +131,12 @@ fn unknown(c: Controller, out: &mut [u8]) -> Answered
 }
 
 // The answer to a line that has a letter.
-fn by_letter(c: Controller, line: &[u8], out: &mut [u8]) -> Answered {
+fn by_letter(c: Controller, line: &[u8], out: &mut [u8]) -> Answered
+    requires sound { ⌜ Sound c ⌝ }
+    requires line { ⌜ (1 ≤ length (now line)) × (length (now line) ≤ 4095) ⌝ }
+    requires room { ⌜ 4096 ≤ length (now out) ⌝ }
+    ensures { λ r. ⌜ Answers (onCall c (callOf (now (line .entry)))) (now (out .entry)) (now (out .exit)) r ⌝ }
+{
     match line[0] {
         b'T' => calls::tick(c, line, out),
         b'L' => calls::link(c, line, out),
@@ -130,6 +144,7 @@ fn by_letter(c: Controller, line: &[u8], out: &mut [u8]) -> Answered {
         b'C' => calls::reset(c, line, out),
         b'Q' => calls::counters(c, line, out),
         b'N' => calls::restart(c, line, out),
+        b'B' => request::request(c, line, out),
         letter => {
             let len = tools::by_letter(letter, line, out);
             Answered { next: c, len }
@@ -138,7 +153,10 @@ fn by_letter(c: Controller, line: &[u8], out: &mut [u8]) -> Answered {
 }
 
 // The answer to a line, its LF left out; a buffer that is not enough is left as it was, and nothing is called.
-pub fn answer(c: Controller, line: &[u8], out: &mut [u8]) -> Answered {
+pub fn answer(c: Controller, line: &[u8], out: &mut [u8]) -> Answered
+    requires { ⌜ Sound c ⌝ }
+    ensures { λ r. ⌜ Answers (answerIn (length (now (out .entry))) c (now (line .entry))) (now (out .entry)) (now (out .exit)) r ⌝ }
+{
     if out.len() < ENOUGH {
         return Answered { next: c, len: 0 };
     }

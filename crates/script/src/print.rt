@@ -157,3 +157,32 @@ pub(crate) fn flag(on: bool) -> u64
 {
     if on { 1 } else { 0 }
 }
+
+// The 16 hexadecimal digits of n.
+fn put_hex16(out: &mut [u8], at: usize, n: u64) -> usize
+    requires { ⌜ at + 16 ≤ length (now out) ⌝ }
+    ensures { λ r. ⌜ Prints 16 (now (out .entry)) at (hexOf 16 n) (now (out .exit)) r ⌝ }
+{
+    text::put_hex16(out, at, n)
+}
+
+// A tab and the 16 hexadecimal digits of n.
+fn put_bits(out: &mut [u8], at: usize, n: u64) -> usize
+    requires { ⌜ at + 17 ≤ length (now out) ⌝ }
+    ensures { λ r. ⌜ Prints 17 (now (out .entry)) at (9 ∷ hexOf 16 n) (now (out .exit)) r ⌝ }
+{
+    let after = put_byte(out, at, TAB);
+    put_hex16(out, after, n)
+}
+
+// The whole line of M and the bits of three figures.
+pub(crate) fn put_figures(out: &mut [u8], sum: u64, largest: u64, mean: u64) -> usize
+    requires { ⌜ 4096 ≤ length (now out) ⌝ }
+    ensures { λ r. ⌜ Prints 4096 (now (out .entry)) 0 (lineText (77 ∷ []) (hexOf 16 sum ∷ hexOf 16 largest ∷ hexOf 16 mean ∷ [])) (now (out .exit)) r ⌝ }
+{
+    let after_letter = put_byte(out, 0, b'M');
+    let after_sum = put_bits(out, after_letter, sum);
+    let after_largest = put_bits(out, after_sum, largest);
+    let after_mean = put_bits(out, after_largest, mean);
+    put_byte(out, after_mean, LF)
+}

@@ -12,9 +12,9 @@ ghost use Prim.Native.Nat.{_*_, _≤_};
 ghost use lib.ListN.{length, drop, getD};
 ghost use Rattle.laws.specs.Decimal.{isDigit, numberAt};
 ghost use Rattle.settings.specs.Cases.{setOf};
-ghost use Rattle.journal.specs.Scan.{fieldAt};
+ghost use Rattle.text.specs.Scan.{fieldAt, leads};
 ghost use Rattle.script.specs.Call.{minus, plus, isHex, hexValue, bytesAt};
-ghost use Rattle.script.specs.Reading.{leads, leadsSigned, leadsFlag, leadsSet, Decodes, Counts, signedFieldAt, flagAt, bytesFieldAt, numbersAt, setAt};
+ghost use Rattle.script.specs.Reading.{leadsSigned, leadsFlag, leadsSet, Decodes, Counts, signedFieldAt, flagAt, bytesFieldAt, numbersAt, setAt};
 
 const TAB: u8 = 9;
 
@@ -97,6 +97,7 @@ fn minus_at(s: &[u8], at: usize) -> Signed
     Signed::Good((0 - v as i64) as i32, next)
 }
 
+// A number without a minus.
 fn plus_at(s: &[u8], at: usize) -> Signed
     ensures { λ r. ⌜ plus (numberAt 2147483647 (drop at (now (s .entry)))) ≡ leadsSigned (now (s .entry)) r ⌝ }
 {
@@ -132,6 +133,7 @@ fn is_hex(b: u8) -> bool
     b <= 70
 }
 
+// The value of a hexadecimal digit.
 fn hex_value(b: u8) -> u8
     requires { ⌜ isHex b ≡ true ⌝ }
     ensures { λ r. ⌜ (r ≡ hexValue b) × (r ≤ 15) ⌝ }

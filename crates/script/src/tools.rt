@@ -8,6 +8,7 @@ use crate::Num;
 use crate::RoomCall;
 use crate::Signed;
 use crate::WeightCall;
+use crate::hours;
 use crate::print;
 use crate::read;
 use field::Field;
@@ -16,12 +17,8 @@ use field::Weight;
 use field::Written;
 use frame::Found;
 use frame::Wrote as Framed;
-use hourly::Asked;
-use hourly::Hour;
-use hourly::Printed;
 use journal::Line;
 use journal::One;
-use journal::Refusal;
 use journal::Wrote;
 ghost use mathlib.Core.Path.{_≡_};
 ghost use mathlib.Core.List.{[]};
@@ -30,20 +27,17 @@ ghost use lib.ListN.{length, drop, replicate};
 ghost use Rattle.laws.specs.Decimal.{bad};
 ghost use Rattle.field.specs.Says.{saysWritten, saysGot};
 ghost use Rattle.frame.specs.Frame as frames;
-ghost use Rattle.frame.specs.Says.{Reads};
 ghost use Rattle.frame.specs.Read as frames-read;
 ghost use Rattle.journal.specs.Line as lines;
 ghost use Rattle.journal.specs.Says.{saysOne};
-ghost use Rattle.hourly.specs.Text.{printOf};
-ghost use Rattle.hourly.specs.Says.{saysAsked};
 ghost use Rattle.script.specs.Call as calls;
-ghost use Rattle.script.specs.Call.{writeFieldAt, readFieldAt, roomAt, bytesCall, doseAt, onAt, hourAt, atEnd};
-ghost use Rattle.script.specs.Answer.{filledText, fieldText, weightText, frameText, readLineText, hourText, hoursText};
+ghost use Rattle.script.specs.Call.{writeFieldAt, readFieldAt, roomAt, bytesCall, doseAt, onAt, atEnd};
+ghost use Rattle.script.specs.Answer.{filledText, fieldText, weightText, frameText, readLineText};
 ghost use Rattle.script.specs.Print.{Prints};
 ghost use Rattle.script.specs.Steps.{asWeight, asField, asLine, roomOf, ReadsLine, ReadsRoom, ReadsBytes, Untouched, Tells, toolBy};
 
 // A line that is no call.
-fn unknown(out: &mut [u8]) -> usize
+pub(crate) fn unknown(out: &mut [u8]) -> usize
     requires { ⌜ 4096 ≤ length (now out) ⌝ }
     ensures { λ r. ⌜ Tells bad (now (out .entry)) (now (out .exit)) r ⌝ }
 {
@@ -51,14 +45,14 @@ fn unknown(out: &mut [u8]) -> usize
 }
 
 // Room for the bytes of every line.
-fn no_bytes() -> [u8; 2048]
+pub(crate) fn no_bytes() -> [u8; 2048]
     ensures { λ r. ⌜ length r ≡ 2048 ⌝ }
 {
     [0u8; 2048]
 }
 
 // A buffer before a call.
-fn untouched() -> [u8; 2000]
+pub(crate) fn untouched() -> [u8; 2000]
     ensures { λ r. ⌜ Untouched r ⌝ }
 {
     [0xA5u8; 2000]
@@ -91,6 +85,7 @@ fn read_weight(line: &[u8]) -> WeightCall
     })
 }
 
+// The four bytes of a weight, or R16.
 fn put_written(out: &mut [u8], written: Written) -> usize
     requires { ⌜ 4096 ≤ length (now out) ⌝ }
     ensures { λ r. ⌜ Prints 4096 (now (out .entry)) 0 (fieldText (saysWritten written)) (now (out .exit)) r ⌝ }
@@ -101,6 +96,7 @@ fn put_written(out: &mut [u8], written: Written) -> usize
     }
 }
 
+// The weight of a line as a field.
 fn write_field(line: &[u8], out: &mut [u8]) -> usize
     requires { ⌜ 4096 ≤ length (now out) ⌝ }
     ensures { λ r. ⌜ Tells (atEnd (writeFieldAt (drop 1 (now (line .entry))))) (now (out .entry)) (now (out .exit)) r ⌝ }
@@ -135,6 +131,7 @@ fn read_four(line: &[u8]) -> FieldCall
     })
 }
 
+// The weight of a field, or R16.
 fn put_got(out: &mut [u8], got: Got) -> usize
     requires { ⌜ 4096 ≤ length (now out) ⌝ }
     ensures { λ r. ⌜ Prints 4096 (now (out .entry)) 0 (weightText (saysGot got)) (now (out .exit)) r ⌝ }
@@ -149,6 +146,7 @@ fn put_got(out: &mut [u8], got: Got) -> usize
     }
 }
 
+// The field of a line as a weight.
 fn read_field(line: &[u8], out: &mut [u8]) -> usize
     requires { ⌜ (length (now line) ≤ 4095) × (4096 ≤ length (now out)) ⌝ }
     ensures { λ r. ⌜ Tells (atEnd (readFieldAt (drop 1 (now (line .entry))))) (now (out .entry)) (now (out .exit)) r ⌝ }
@@ -160,7 +158,7 @@ fn read_field(line: &[u8], out: &mut [u8]) -> usize
     put_got(out, got)
 }
 
-// Bytes, and the room of a buffer.
+// Bytes, and a number of at most `most`: the room of a buffer, or an hour.
 pub(crate) fn read_room(line: &[u8], bytes: &mut [u8], most: u32) -> RoomCall
     requires { ⌜ length (now line) ≤ 2 * length (now bytes) ⌝ }
     ensures { λ r. ⌜ ReadsRoom most (now (line .entry)) (now (bytes .exit)) (now (bytes .entry)) r ⌝ }
@@ -301,6 +299,7 @@ fn show_line(line: Line, buffer: &mut [u8], out: &mut [u8]) -> usize
     }
 }
 
+// The line that a call asks for, in a buffer of its room.
 fn write_line(call: LineCall, out: &mut [u8]) -> usize
     requires { ⌜ (roomOf call ≤ 64) × (4096 ≤ length (now out)) ⌝ }
     ensures { λ r. ⌜ Tells (asLine call) (now (out .entry)) (now (out .exit)) r ⌝ }
@@ -349,7 +348,10 @@ fn read_line(line: &[u8], out: &mut [u8]) -> usize
 }
 
 // A call that needs no controller, by its letter.
-pub(crate) fn by_letter(letter: u8, line: &[u8], out: &mut [u8]) -> usize {
+pub(crate) fn by_letter(letter: u8, line: &[u8], out: &mut [u8]) -> usize
+    requires { ⌜ (length (now line) ≤ 4095) × (4096 ≤ length (now out)) ⌝ }
+    ensures { λ r. ⌜ Tells (atEnd (toolBy letter (drop 1 (now (line .entry))))) (now (out .entry)) (now (out .exit)) r ⌝ }
+{
     match letter {
         b'W' => write_frame(line, out),
         b'X' => read_frame(line, out),
@@ -358,6 +360,8 @@ pub(crate) fn by_letter(letter: u8, line: &[u8], out: &mut [u8]) -> usize {
         b'D' => write_line(read_dose(line), out),
         b'H' => write_line(read_on(line), out),
         b'l' => read_line(line, out),
+        b'u' => hours::ask_hour(line, out),
+        b'j' => hours::print_hours(line, out),
         _ => unknown(out),
     }
 }

@@ -1,12 +1,21 @@
-// Numbers written as text into a lent buffer.
+// Numbers as text: written into a lent buffer, and read at a place.
 ghost use mathlib.Core.Path.{_≡_};
 ghost use mathlib.Core.List.{[], _∷_};
 ghost use Prim.Native.Nat.{_+_, _≤_, _<_};
 ghost use lib.Dec.{leb};
-ghost use lib.ListN.{length};
+ghost use lib.ListN.{length, drop, getD};
 ghost use lib.Seq.{sets};
-ghost use Rattle.laws.specs.Decimal.{glyph, decimal, hexOf};
+ghost use Rattle.laws.specs.Decimal.{glyph, decimal, hexOf, isDigit, numberAt};
 ghost use Rattle.text.specs.Put.{Puts};
+ghost use Rattle.text.specs.Scan.{fieldAt, Scans};
+
+// A number read at a place: its value and the place after it, or none.
+pub enum Num {
+    Good(u32, usize),
+    Bad,
+}
+
+const TAB: u8 = 9;
 
 // Whether k bytes have room from `at` on in a buffer of `len`.
 fn has_room(len: usize, at: usize, k: usize) -> bool
@@ -67,13 +76,13 @@ fn hex_digit(d: u64) -> u8
     if d < 10 { 48 + d as u8 } else { 55 + d as u8 }
 }
 
-// The last 16 hexadecimal digits of n stored from `at` on, the last first.
-fn store_hex16(out: &mut [u8], at: usize, n: u64)
-    requires { ⌜ at + 16 ≤ length (now out) ⌝ }
-    ensures { λ r. ⌜ now (out .exit) ≡ sets (now (out .entry)) at (hexOf 16 n) ⌝ }
+// The last hexadecimal digits of n stored from `at` on, the last first.
+fn store_hex(out: &mut [u8], at: usize, digits: usize, n: u64)
+    requires { ⌜ at + digits ≤ length (now out) ⌝ }
+    ensures { λ r. ⌜ now (out .exit) ≡ sets (now (out .entry)) at (hexOf digits n) ⌝ }
 {
     let mut v = n;
-    let mut k: usize = 16;
+    let mut k = digits;
     while 0 < k {
         k -= 1;
         out[at + k] = hex_digit(v % 16);
@@ -81,13 +90,13 @@ fn store_hex16(out: &mut [u8], at: usize, n: u64)
     }
 }
 
-// The 16 hexadecimal digits of n put at `at`, if they have room.
-pub fn put_hex16(out: &mut [u8], at: usize, n: u64) -> usize
-    ensures { λ r. ⌜ Puts (now (out .entry)) at (hexOf 16 n) (now (out .exit)) r ⌝ }
+// The last hexadecimal digits of n put at `at`, if they have room.
+pub fn put_hex(out: &mut [u8], at: usize, digits: usize, n: u64) -> usize
+    ensures { λ r. ⌜ Puts (now (out .entry)) at (hexOf digits n) (now (out .exit)) r ⌝ }
 {
-    if has_room(out.len(), at, 16) {
-        store_hex16(out, at, n);
-        return at + 16;
+    if has_room(out.len(), at, digits) {
+        store_hex(out, at, digits, n);
+        return at + digits;
     }
     at
 }
@@ -101,4 +110,52 @@ pub fn put_byte(out: &mut [u8], at: usize, b: u8) -> usize
         return at + 1;
     }
     at
+}
+
+// The byte at a place, 0 past the end.
+pub fn byte_at(s: &[u8], at: usize) -> u8
+    ensures { λ r. ⌜ r ≡ getD (now (s .entry)) at 0 ⌝ }
+{
+    if at < s.len() { s[at] } else { 0 }
+}
+
+// Whether a byte is a digit.
+pub fn is_digit(b: u8) -> bool
+    ensures { λ r. ⌜ r ≡ isDigit b ⌝ }
+{
+    if b < 48 { false } else { b <= 57 }
+}
+
+// The number at a place, each byte looked at once; it is refused as soon as it is above `most`.
+pub fn number_at(s: &[u8], at: usize, most: u32) -> Num
+    ensures { λ r. ⌜ Scans (now (s .entry)) (numberAt most (drop at (now (s .entry)))) r ⌝ }
+{
+    let first = byte_at(s, at);
+    if !is_digit(first) {
+        return Num::Bad;
+    }
+    if first <= 48 {
+        return Num::Good(0, at + 1);
+    }
+    let mut v = (first - 48) as u64;
+    let mut i = at + 1;
+    while v <= most as u64 {
+        let b = byte_at(s, i);
+        if !is_digit(b) {
+            return Num::Good(v as u32, i);
+        }
+        v = v * 10 + (b - 48) as u64;
+        i += 1;
+    }
+    Num::Bad
+}
+
+// A tab and a number at a place.
+pub fn field_at(s: &[u8], at: usize, most: u32) -> Num
+    ensures { λ r. ⌜ Scans (now (s .entry)) (fieldAt most (drop at (now (s .entry)))) r ⌝ }
+{
+    if byte_at(s, at) != TAB {
+        return Num::Bad;
+    }
+    number_at(s, at + 1, most)
 }

@@ -6,7 +6,7 @@ use lib.ListN.{replicate}
 use lib.Ieee.{Float}
 use Rattle.hourly.specs.Tally.{noTally}
 use Rattle.hourly.specs.declared.Tally.{Tally}
-use Rattle.hourly.proofs.Floats.{zero-whole}
+use Rattle.hourly.specs.Floats.{zero-whole}
 use Rattle.hourly.proofs.no_tallies.Statement.{statement}
 use Rattle.hourly.proofs.no_tallies.Tie as tie
 

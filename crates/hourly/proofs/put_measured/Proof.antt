@@ -2,7 +2,7 @@ use mathlib.Core.List.{List, [], _∷_, _++_}
 use Prim.Native.Nat.{ℕ}
 use borrow.Author.Needs.{needs}
 use Rattle.laws.specs.Decimal.{decimal, hexOf}
-use Rattle.journal.specs.Line.{LF, TAB}
+use Rattle.text.specs.Scan.{LF, TAB}
 use Rattle.hourly.specs.Text.{letterM}
 use Rattle.hourly.specs.Rows.{tailText}
 use Rattle.hourly.proofs.Printing.{put-then}

@@ -6,7 +6,7 @@ use denote.Ref.{now}
 use lib.ListN.{length}
 use Rattle.laws.specs.Decimal.{decimal}
 use Rattle.text.specs.PutLaws.{room-not, none-puts}
-use Rattle.journal.specs.Line.{LF, TAB}
+use Rattle.text.specs.Scan.{LF, TAB}
 use Rattle.hourly.specs.Report.{letterR, refusalText, refusal-length}
 use Rattle.hourly.proofs.Printing.{digits-most, put-then}
 use Rattle.hourly.proofs.put_refused.Statement.{statement}

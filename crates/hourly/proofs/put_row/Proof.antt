@@ -4,7 +4,7 @@ use borrow.Author.Needs.{needs}
 use denote.Ref.{now}
 use lib.ListN.{length}
 use Rattle.laws.specs.Decimal.{decimal}
-use Rattle.journal.specs.Line.{TAB}
+use Rattle.text.specs.Scan.{TAB}
 use Rattle.hourly.specs.Rows.{tailText, row-is}
 use Rattle.hourly.specs.Tally.{saysShown}
 use Rattle.hourly.proofs.Printing.{put-then, room-then}

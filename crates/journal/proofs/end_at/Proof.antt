@@ -5,9 +5,10 @@ use denote.Ref.{now}
 use lib.ListN.{length, getD}
 use Rattle.laws.specs.Decimal.{good}
 use Rattle.paper.specs.Answer.{done}
-use Rattle.journal.specs.Line.{LF, placed}
+use Rattle.text.specs.Scan.{LF}
+use Rattle.text.specs.ScanLaws.{byte-inside, expect-hit, expect-miss}
+use Rattle.journal.specs.Line.{placed}
 use Rattle.journal.specs.LineLaws.{place-back}
-use Rattle.journal.proofs.Scanning.{byte-inside, expect-hit, expect-miss}
 use borrow.Author.Needs.{needs}
 use Rattle.journal.proofs.end_at.Statement.{statement}
 use Rattle.journal.proofs.end_at.Tie as tie

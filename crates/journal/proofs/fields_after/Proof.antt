@@ -1,5 +1,5 @@
 use Rattle.laws.specs.Pick.{picks}
-use Rattle.journal.specs.Scan.{fieldsAfter}
+use Rattle.journal.specs.Fields.{fieldsAfter}
 use Rattle.journal.proofs.fields_after.Statement.{statement}
 use Rattle.journal.proofs.fields_after.Tie as tie
 

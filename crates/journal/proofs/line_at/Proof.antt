@@ -3,7 +3,7 @@ use native.Mathlib.Omega.{arith}
 use denote.Ref.{now}
 use lib.ListN.{length}
 use Rattle.journal.specs.Line.{lineAt, placed}
-use Rattle.journal.proofs.Scanning.{byte-inside}
+use Rattle.text.specs.ScanLaws.{byte-inside}
 use Rattle.journal.proofs.Fields.{line-D, line-H, line-none}
 use borrow.Author.Needs.{needs}
 use Rattle.journal.proofs.line_at.Statement.{statement}

@@ -1,5 +1,5 @@
 use Rattle.laws.specs.Pick.{picks}
-use Rattle.journal.specs.Scan.{lineFrom}
+use Rattle.journal.specs.Fields.{lineFrom}
 use Rattle.journal.specs.Line.{doseFrom, onFrom}
 use borrow.Author.Needs.{needs}
 use Rattle.journal.proofs.line_from.Statement.{statement}

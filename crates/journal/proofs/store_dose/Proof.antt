@@ -6,7 +6,8 @@ use denote.Ref.{now}
 use lib.ListN.{length, length-append}
 use borrow.Author.Needs.{needs}
 use Rattle.laws.specs.Decimal.{decimal}
-use Rattle.journal.specs.Line.{TAB, letterD, fieldsText, textOf}
+use Rattle.text.specs.Scan.{TAB}
+use Rattle.journal.specs.Line.{letterD, fieldsText, textOf}
 use Rattle.journal.specs.LineLaws.{dose-length}
 use Rattle.journal.specs.Store.{Stores}
 use Rattle.journal.specs.declared.Line.the-variants.{Dose}

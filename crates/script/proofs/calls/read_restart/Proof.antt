@@ -3,7 +3,8 @@ use denote.Ref.{now}
 use lib.ListN.{drop}
 use Rattle.laws.specs.Decimal.{good}
 use Rattle.script.specs.Call.{restart, restartAt, atEnd}
-use Rattle.script.specs.Reading.{leads, leadsSet, on-good, on-bad}
+use Rattle.text.specs.Scan.{leads}
+use Rattle.script.specs.Reading.{leadsSet, on-good, on-bad}
 use Rattle.script.proofs.Lines.{at-end, past-end, restart-direct}
 use borrow.Author.Needs.{needs}
 use Rattle.script.proofs.calls.read_restart.Statement.{statement}

@@ -8,9 +8,9 @@ use mir.Syntax.{w32}
 use mir.Val.{SFits}
 use mir.Facts.{toZ-ofZ}
 use Rattle.laws.specs.Decimal.{good}
-use Rattle.journal.specs.Scan.{fieldAt}
+use Rattle.text.specs.Scan.{fieldAt, leads}
 use Rattle.script.specs.Call.{tick, tickAt, atEnd}
-use Rattle.script.specs.Reading.{leads, leadsSigned, on-good, on-bad}
+use Rattle.script.specs.Reading.{leadsSigned, on-good, on-bad}
 use Rattle.script.proofs.Figures.{field-most}
 use Rattle.script.proofs.Lines.{at-end, past-end, tick-direct}
 use borrow.Author.Needs.{needs}

@@ -3,10 +3,10 @@ use Prim.Native.Nat.{_<_}
 use native.Mathlib.Omega.{arith}
 use denote.Ref.{now}
 use lib.ListN.{length}
-use Rattle.journal.specs.Line.{TAB}
+use Rattle.text.specs.Scan.{TAB}
+use Rattle.text.specs.ScanLaws.{byte-inside, expect-hit, expect-miss}
 use Rattle.script.specs.Call.{bytesAt}
 use Rattle.script.specs.Reading.{bytesFieldAt}
-use Rattle.script.proofs.Scanning.{byte-inside, expect-hit, expect-miss}
 use borrow.Author.Needs.{needs}
 use Rattle.script.proofs.read.bytes_at.Statement.{statement}
 use Rattle.script.proofs.read.bytes_at.Tie as tie

@@ -9,7 +9,7 @@ use lib.ListN.{length, length-set, getD, set}
 use borrow.Author.Tests.{not-true, not-false}
 use Rattle.laws.specs.Pick.{so}
 use Rattle.script.specs.Call.{isHex, hexValue}
-use Rattle.script.proofs.Scanning.{byte-inside}
+use Rattle.text.specs.ScanLaws.{byte-inside}
 use Rattle.script.proofs.Hex.{hex-some, Left, left-none, left-tab, left-end, left-high, left-low, left-two}
 use borrow.Author.Needs.{needs}
 use Rattle.script.proofs.read.bytes_from.Statement.{statement}
@@ -93,8 +93,8 @@ loop-again c =
     let h = c .before .before .before .before .before .before .before .before .before .before .loop in
     let s = now (c .before .before .before .before .before .before .before .before .before .before .before .before .before .args .s) in
     let v : c .before .hex-value .result * 16 + c .hex-value2 .result ≡ hexValue (getD s (h .p) 0) * 16 + hexValue (getD s (h .p + 1) 0) =
-      ap (λ (x : ℕ). x * 16 + c .hex-value2 .result) (c .before .hex-value .ensures .0)
-      ∙ ap (λ (x : ℕ). hexValue (getD s (h .p) 0) * 16 + x) (c .hex-value2 .ensures .0 ∙ ap hexValue (c .before .before .before .before .before .before .byte-at .ensures)) in
+    ap (λ (x : ℕ). x * 16 + c .hex-value2 .result) (c .before .hex-value .ensures .0)
+    ∙ ap (λ (x : ℕ). hexValue (getD s (h .p) 0) * 16 + x) (c .hex-value2 .ensures .0 ∙ ap hexValue (c .before .before .before .before .before .before .byte-at .ensures)) in
     let two = left-two s (c .before .before .before .before .before .before .before .before .before .before .before .before .before .args .at) (h .out) (h .p) (h .n) (h .inv .3) (inside (c .before .before)) (room (c .before .before)) (c .before .before .before .before .before .before .before .if1 .left) (high (c .before .before)) (low (c .before .before)) in
     let l = length-set (h .out) (h .n) (c .before .hex-value .result * 16 + c .hex-value2 .result) in
     (omega (arith, h .inv .0), l ∙ h .inv .1, omega (arith, l, room (c .before .before)), rw v two)

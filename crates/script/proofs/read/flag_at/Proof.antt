@@ -1,6 +1,7 @@
 use mathlib.Core.Path.{ap, _∙_}
 use denote.Ref.{now}
-use Rattle.script.specs.Reading.{leads, flagAt, on-good, on-bad}
+use Rattle.text.specs.Scan.{leads}
+use Rattle.script.specs.Reading.{flagAt, on-good, on-bad}
 use borrow.Author.Needs.{needs}
 use Rattle.script.proofs.read.flag_at.Statement.{statement}
 use Rattle.script.proofs.read.flag_at.Tie as tie

@@ -7,7 +7,7 @@ use lib.IntN.{ℤ}
 use lib.ListN.{drop}
 use Rattle.laws.specs.Decimal.{good, numberAt}
 use Rattle.script.specs.Call.{minus}
-use Rattle.script.specs.Reading.{leads}
+use Rattle.text.specs.Scan.{leads}
 use Rattle.script.proofs.Figures.{number-most, minus-some, away-fits, narrow-fits, below}
 use borrow.Author.Needs.{needs}
 use Rattle.script.proofs.read.minus_at.Statement.{statement}

@@ -6,7 +6,7 @@ use native.Mathlib.Omega.{arith}
 use denote.Ref.{now}
 use lib.ListN.{length, length-set}
 use Rattle.laws.specs.Pick.{pick-true, pick-false}
-use Rattle.script.specs.Reading.{leads}
+use Rattle.text.specs.Scan.{leads}
 use Rattle.script.proofs.Figures.{Left, left-none, left-bad, left-more, left-all}
 use borrow.Author.Needs.{needs}
 use Rattle.script.proofs.read.numbers_at.Statement.{statement}

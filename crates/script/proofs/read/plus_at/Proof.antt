@@ -10,7 +10,7 @@ use mir.Facts.{toZ-pos}
 use Rattle.laws.specs.Whole.{fits32}
 use Rattle.laws.specs.Decimal.{good, numberAt}
 use Rattle.script.specs.Call.{plus}
-use Rattle.script.specs.Reading.{leads}
+use Rattle.text.specs.Scan.{leads}
 use Rattle.script.proofs.Figures.{number-most}
 use borrow.Author.Needs.{needs}
 use Rattle.script.proofs.read.plus_at.Statement.{statement}

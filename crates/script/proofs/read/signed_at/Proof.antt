@@ -4,10 +4,10 @@ use native.Mathlib.Omega.{arith}
 use denote.Ref.{now}
 use lib.ListN.{length, drop, getD}
 use Rattle.laws.specs.Decimal.{numberAt}
-use Rattle.journal.specs.Line.{TAB}
+use Rattle.text.specs.Scan.{TAB}
+use Rattle.text.specs.ScanLaws.{byte-inside, expect-hit, expect-miss}
 use Rattle.script.specs.Call.{minus, signedAt}
 use Rattle.script.specs.Reading.{signedFieldAt}
-use Rattle.script.proofs.Scanning.{byte-inside, expect-hit, expect-miss}
 use Rattle.script.proofs.Figures.{signed-minus, signed-plus}
 use borrow.Author.Needs.{needs}
 use Rattle.script.proofs.read.signed_at.Statement.{statement}

@@ -1,5 +1,4 @@
 use mathlib.Core.Path.{sym, ap, _∙_}
-use Rattle.journal.specs.declared.Line.{Line}
 use Rattle.journal.specs.declared.One.{One}
 use Rattle.journal.specs.Says.{saysOne}
 use Rattle.script.specs.Answer.{valuesText, refusedText, oneText, readLineText}

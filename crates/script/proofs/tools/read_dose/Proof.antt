@@ -1,62 +1,72 @@
+use mathlib.Core.Path.{_≡_, ap, _∙_}
+use native.Mathlib.Omega.{arith}
+use denote.Ref.{now}
+use lib.ListN.{take, drop}
+use borrow.Author.Tests.{not-true, not-false}
+use Rattle.laws.specs.Pick.{pick-t, pick-f}
+use Rattle.laws.specs.Decimal.{good}
+use Rattle.text.specs.Scan.{fieldAt, leads}
+use Rattle.script.specs.Call.{atEnd}
+use Rattle.script.specs.Reading.{numbersAt, on-good, on-bad}
+use Rattle.script.proofs.Figures.{field-most}
+use Rattle.script.proofs.Lines.{at-end, past-end, dose-direct}
+use Rattle.script.proofs.Telling.{dose-of}
 use borrow.Author.Needs.{needs}
 use Rattle.script.proofs.tools.read_dose.Statement.{statement}
 use Rattle.script.proofs.tools.read_dose.Tie as tie
-use Rattle.script.proofs.tools.read_dose.Reads as reads
-use Rattle.script.proofs.tools.read_dose.Lts as lts
-use Rattle.script.proofs.read.field_at.Reads as field-at-reads
-use Rattle.script.proofs.read.numbers_at.Reads as numbers-at-reads
 
--- src/tools.rt:253:9
+four : (c : tie.Else1) → numbersAt 4 (drop 1 (now (c .before .before .before .before .args .line))) ≡ good (take 4 (c .before .before .numbers-at .result .values)) (drop (c .before .before .numbers-at .result .next) (now (c .before .before .before .before .args .line)))
+four c = c .before .before .numbers-at .ensures .reads ∙ pick-t _ _ _ (not-false _ (c .if1 .left))
+
+field : (c : tie.After-known-told) → fieldAt 64 (drop (c .before .before .before .before .before .before .numbers-at .result .next) (now (c .before .before .before .before .before .before .before .before .args .line))) ≡ good (c .before .room .given .0 .0) (drop (c .before .room .given .0 .1 .0) (now (c .before .before .before .before .before .before .before .before .args .line)))
+field c = c .before .before .before .field-at .ensures ∙ ap (leads (now (c .before .before .before .before .before .before .before .before .args .line))) (c .before .room .given .1)
+
+returns : tie.Need-returns
+unfolding atEnd
+returns c = record { reads = ap atEnd (dose-direct _ ∙ on-bad _ (c .before .before .numbers-at .ensures .reads ∙ pick-f _ _ _ (not-true _ (c .if1 .taken)))); room = omega arith }
+
+returns-2 : tie.Need-returns-2
+unfolding atEnd
+returns-2 c =
+    record { reads = ap atEnd (dose-direct _ ∙ on-good _ (four (c .before .before .before)) ∙ on-bad _ (c .before .before .field-at .ensures ∙ ap (leads (now (c .before .before .before .before .before .before .before .args .line))) (c .enum-told .given .1))); room = omega arith }
+
+returns-3 : tie.Need-returns-3
+returns-3 c =
+    record { reads = ap atEnd (dose-direct _ ∙ on-good _ (four (c .before .before .before .before .before)) ∙ on-good _ (field (c .before))) ∙ past-end _ (now (c .before .before .before .before .before .before .before .before .before .args .line)) _ (c .if2 .taken); room = omega arith }
+
+returns-4 : tie.Need-returns-4
+returns-4 c =
+    record {
+      reads = ap atEnd (dose-direct _ ∙ on-good _ (four (c .before .before .before .before .before .before)) ∙ on-good _ (field (c .before .before))) ∙ at-end _ (now (c .before .before .before .before .before .before .before .before .before .before .args .line)) _ (c .before .if2 .left) ∙ dose-of (c .before .before .before .before .before .before .before .before .numbers-at .result .values) _;
+      room = field-most 64 _ (field (c .before .before));
+    }
+
 numbers-at-requires : tie.Need-numbers-at-requires
 numbers-at-requires c κs = search needs
 
--- src/tools.rt:255:9
-returns : tie.Need-returns
-returns c = ?
-
--- src/tools.rt:257:32
 field-at-requires : tie.Need-field-at-requires
 field-at-requires c κs = search needs
 
--- src/tools.rt:257:19
 enum-known-room : tie.Need-enum-known-room
 enum-known-room c = search needs
 
--- src/tools.rt:258:9
 enum-told : tie.Need-enum-told
 enum-told c = search needs
 
--- src/tools.rt:258:9
-returns-2 : tie.Need-returns-2
-returns-2 c = ?
-
--- src/tools.rt:261:9
-returns-3 : tie.Need-returns-3
-returns-3 c = ?
-
--- src/tools.rt:266:19
 array-read-t11 : tie.Need-array-read-t11
 array-read-t11 c = search needs
 
--- src/tools.rt:267:20
 array-read-t14 : tie.Need-array-read-t14
 array-read-t14 c = search needs
 
--- src/tools.rt:268:21
 array-read-t17 : tie.Need-array-read-t17
 array-read-t17 c = search needs
 
--- src/tools.rt:269:22
 array-read-t20 : tie.Need-array-read-t20
 array-read-t20 c = search needs
 
--- src/tools.rt:271:9
 cast-t8 : tie.Need-cast-t8
 cast-t8 c = search needs
-
--- src/tools.rt:250:1
-returns-4 : tie.Need-returns-4
-returns-4 c = ?
 
 pub read-dose-spec : {M : Type 1} → statement M
 read-dose-spec =

@@ -1,4 +1,4 @@
-use mathlib.Core.Path.{_≡_, sym, ap, _∙_}
+use mathlib.Core.Path.{ap, _∙_}
 use denote.Ref.{now}
 use Rattle.script.specs.Call.{atEnd}
 use Rattle.script.specs.Reading.{on-good, on-bad}

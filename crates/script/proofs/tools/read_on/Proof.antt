@@ -3,9 +3,9 @@ use native.Mathlib.Omega.{arith}
 use denote.Ref.{now}
 use lib.ListN.{drop}
 use Rattle.laws.specs.Decimal.{good}
-use Rattle.journal.specs.Scan.{fieldAt}
+use Rattle.text.specs.Scan.{fieldAt, leads}
 use Rattle.script.specs.Call.{atEnd}
-use Rattle.script.specs.Reading.{leads, on-good, on-bad}
+use Rattle.script.specs.Reading.{on-good, on-bad}
 use Rattle.script.proofs.Figures.{field-most}
 use Rattle.script.proofs.Lines.{at-end, past-end, on-direct}
 use borrow.Author.Needs.{needs}

@@ -1,12 +1,10 @@
 use mathlib.Core.Path.{_≡_, ap, _∙_}
-use mathlib.Core.List.{List}
-use Prim.Native.Nat.{ℕ}
 use denote.Ref.{now}
 use lib.ListN.{drop, take}
 use Rattle.laws.specs.Decimal.{good}
-use Rattle.journal.specs.Scan.{fieldAt}
-use Rattle.script.specs.Call.{Call, atEnd}
-use Rattle.script.specs.Reading.{leads, on-good, on-bad}
+use Rattle.text.specs.Scan.{fieldAt, leads}
+use Rattle.script.specs.Call.{atEnd}
+use Rattle.script.specs.Reading.{on-good, on-bad}
 use Rattle.script.proofs.Figures.{field-most}
 use Rattle.script.proofs.Lines.{at-end, past-end, room-direct, decoded-good, decoded-bad}
 use borrow.Author.Needs.{needs}

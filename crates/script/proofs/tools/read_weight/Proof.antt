@@ -9,9 +9,9 @@ use mir.Val.{SFits}
 use mir.Facts.{toZ-ofZ}
 use Rattle.laws.specs.Decimal.{good}
 use Rattle.field.specs.Field.{weight}
-use Rattle.journal.specs.Scan.{fieldAt}
+use Rattle.text.specs.Scan.{fieldAt, leads}
 use Rattle.script.specs.Call.{writeField, writeFieldAt, atEnd}
-use Rattle.script.specs.Reading.{leads, leadsSigned, leadsFlag, on-good, on-bad}
+use Rattle.script.specs.Reading.{leadsSigned, leadsFlag, on-good, on-bad}
 use Rattle.script.proofs.Figures.{field-most}
 use Rattle.script.proofs.Lines.{at-end, past-end, weight-direct}
 use borrow.Author.Needs.{needs}

@@ -1,83 +1,80 @@
+use mathlib.Core.Path.{_≡_, sym, ap}
+use mathlib.Core.List.{[], _∷_, _++_}
+use Prim.Native.Nat.{_≤_}
+use native.Mathlib.Omega.{arith}
+use denote.Ref.{now}
+use lib.ListN.{length, take}
+use lib.Seq.{length-take-le}
+use Rattle.frame.specs.Read.{readOf}
+use Rattle.frame.specs.Says.{saysFound}
+use Rattle.script.specs.Answer.{lineText, valuesText, bytesText, frameText}
+use Rattle.script.specs.Print.{prints-text}
+use Rattle.script.proofs.Shown.{body-shown, no-body-shown}
 use borrow.Author.Needs.{needs}
 use Rattle.script.proofs.tools.show_body.Statement.{statement}
 use Rattle.script.proofs.tools.show_body.Tie as tie
-use Rattle.script.proofs.tools.show_body.Reads as reads
-use Rattle.script.proofs.tools.show_body.Lts as lts
-use Rattle.frame.proofs.read_frame.Reads as read-frame-reads
-use Rattle.script.proofs.print.put_shown.Reads as put-shown-reads
-use Rattle.script.proofs.print.put_values.Reads as put-values-reads
 
--- src/tools.rt:225:9
+body : (c : tie.After-known-told)
+    → (lineText (80 ∷ []) (valuesText (c .before .found .given .0 .0 ∷ c .before .found .given .0 .1 .0 ∷ []) ++ bytesText (take (c .before .found .given .0 .1 .0) (c .before .before .before .before .read-frame .result .body)) ∷ []) ≡ frameText (readOf (now (c .before .before .before .before .before .before .before .args .bytes))))
+    × (c .before .found .given .0 .1 .0 ≤ length (c .before .before .before .before .read-frame .result .body))
+    × (c .before .found .given .0 .1 .0 ≤ 255)
+body c = body-shown _ (c .before .before .before .before .read-frame .result) _ _ (c .before .before .before .before .read-frame .ensures) (c .before .found .given .1)
+
+returns : tie.Need-returns
+returns c = prints-text (body (c .before .before .before .before .before .before) .0) (c .before .before .put-shown .ensures)
+
+returns-2 : tie.Need-returns-2
+returns-2 c = prints-text (no-body-shown _ (c .before .before .before .before .before .before .before .before .before .read-frame .result) 9 _ (c .before .before .before .before .before .before .before .before .before .read-frame .ensures) (ap saysFound (c .before .before .before .before .before .before .found2 .given .1))) (c .before .before .put-values .ensures)
+
+returns-3 : tie.Need-returns-3
+returns-3 c = prints-text (no-body-shown _ (c .before .before .before .before .before .before .before .before .before .read-frame .result) 6 _ (c .before .before .before .before .before .before .before .before .before .read-frame .ensures) (ap saysFound (c .before .before .before .before .before .before .found3 .given .1))) (c .before .before .put-values2 .ensures)
+
+array-share-prefix-body : tie.Need-array-share-prefix-body
+array-share-prefix-body c = body (c .before .before) .1
+
+slice-aggregate-put-shown-2 : tie.Need-slice-aggregate-put-shown-2
+slice-aggregate-put-shown-2 c = sym (length-take-le _ _ (body (c .before .before .before) .1))
+
+put-shown-requires : tie.Need-put-shown-requires
+put-shown-requires c κs =
+    let e = length-take-le (c .before .before .before .before .found .given .0 .1 .0) (c .before .before .before .before .before .before .before .read-frame .result .body) (body (c .before .before .before) .1) in
+    (omega arith, omega (arith, e, body (c .before .before .before) .2), search needs)
+
 read-frame-requires : tie.Need-read-frame-requires
 read-frame-requires c κs = search needs
 
--- src/tools.rt:229:23
 enum-known-found : tie.Need-enum-known-found
 enum-known-found c = search needs
 
--- src/tools.rt:230:41
 slice-aggregate-put-shown : tie.Need-slice-aggregate-put-shown
 slice-aggregate-put-shown c = search needs
 
--- src/tools.rt:230:70
-array-share-prefix-body : tie.Need-array-share-prefix-body
-array-share-prefix-body c = ?
-
--- src/tools.rt:230:70
-slice-aggregate-put-shown-2 : tie.Need-slice-aggregate-put-shown-2
-slice-aggregate-put-shown-2 c = ?
-
--- src/tools.rt:230:13
-put-shown-requires : tie.Need-put-shown-requires
-put-shown-requires c κs = ?
-
--- src/tools.rt:232:19
 enum-known-found-2 : tie.Need-enum-known-found-2
 enum-known-found-2 c = search needs
 
--- src/tools.rt:232:58
 slice-aggregate-put-values : tie.Need-slice-aggregate-put-values
 slice-aggregate-put-values c = search needs
 
--- src/tools.rt:232:29
 put-values-requires : tie.Need-put-values-requires
 put-values-requires c κs = search needs
 
--- src/tools.rt:233:19
 enum-known-found-3 : tie.Need-enum-known-found-3
 enum-known-found-3 c = search needs
 
--- src/tools.rt:233:58
 slice-aggregate-put-values-2 : tie.Need-slice-aggregate-put-values-2
 slice-aggregate-put-values-2 c = search needs
 
--- src/tools.rt:233:29
 put-values-requires-2 : tie.Need-put-values-requires-2
 put-values-requires-2 c κs = search needs
 
--- src/tools.rt:221:1
 same-length : tie.Need-same-length
 same-length c = search needs
 
--- src/tools.rt:221:1
-returns : tie.Need-returns
-returns c = ?
-
--- src/tools.rt:221:1
 same-length-2 : tie.Need-same-length-2
 same-length-2 c = search needs
 
--- src/tools.rt:221:1
-returns-2 : tie.Need-returns-2
-returns-2 c = ?
-
--- src/tools.rt:221:1
 same-length-3 : tie.Need-same-length-3
 same-length-3 c = search needs
-
--- src/tools.rt:221:1
-returns-3 : tie.Need-returns-3
-returns-3 c = ?
 
 pub show-body-spec : {M : Type 1} → statement M
 show-body-spec =

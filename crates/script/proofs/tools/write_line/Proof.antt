@@ -1,55 +1,49 @@
+use mathlib.Core.Path.{sym, ap}
+use native.Mathlib.Omega.{arith}
+use Prim.Native.Nat.{_≤_}
+use Rattle.script.specs.Steps.{asLine, tells-as}
+use Rattle.script.proofs.Telling.{part-size, part-clean, line-room, line-tells}
 use borrow.Author.Needs.{needs}
 use Rattle.script.proofs.tools.write_line.Statement.{statement}
 use Rattle.script.proofs.tools.write_line.Tie as tie
-use Rattle.script.proofs.tools.write_line.Reads as reads
-use Rattle.script.proofs.tools.write_line.Lts as lts
-use Rattle.script.proofs.tools.show_line.Reads as show-line-reads
-use Rattle.script.proofs.tools.unknown.Reads as unknown-reads
-use Rattle.script.proofs.tools.untouched.Reads as untouched-reads
 
--- src/tools.rt:308:24
+room : (c : tie.After-known-told) → c .before .call .given .0 .1 .0 ≤ 2000
+room c = line-room (c .before .before .before .before .pre .0) (c .before .call .given .1)
+
+returns : tie.Need-returns
+returns c = tells-as (ap asLine (c .before .before .before .before .enum-told .given .1)) (c .before .before .unknown .ensures)
+
+returns-2 : tie.Need-returns-2
+returns-2 c = line-tells (c .before .before .before .before .before .before .before .before .call .given .1) (part-size (c .before .before .before .before .before .before .untouched .ensures) (room (c .before .before .before .before .before .before .before))) (c .before .before .before .show-line .ensures)
+
+array-borrow-prefix-buffer : tie.Need-array-borrow-prefix-buffer
+array-borrow-prefix-buffer c = omega (arith, room (c .before), c .untouched .ensures .long)
+
+slice-aggregate-show-line : tie.Need-slice-aggregate-show-line
+slice-aggregate-show-line c = sym (part-size (c .before .untouched .ensures) (room (c .before .before)))
+
+show-line-requires : tie.Need-show-line-requires
+show-line-requires c κs =
+    let e = part-size (c .before .before .untouched .ensures) (room (c .before .before .before)) in
+    (part-clean (c .before .before .untouched .ensures) (room (c .before .before .before)), (omega (arith, room (c .before .before .before), e), search needs))
+
 enum-known-call : tie.Need-enum-known-call
 enum-known-call c = search needs
 
--- src/tools.rt:309:24
 enum-told : tie.Need-enum-told
 enum-told c = search needs
 
--- src/tools.rt:309:9
 unknown-requires : tie.Need-unknown-requires
 unknown-requires c κs = search needs
 
--- src/tools.rt:309:9
 same-length : tie.Need-same-length
 same-length c = search needs
 
--- src/tools.rt:309:9
-returns : tie.Need-returns
-returns c = ?
-
--- src/tools.rt:311:22
 untouched-requires : tie.Need-untouched-requires
 untouched-requires c κs = search needs
 
--- src/tools.rt:312:21
-array-borrow-prefix-buffer : tie.Need-array-borrow-prefix-buffer
-array-borrow-prefix-buffer c = ?
-
--- src/tools.rt:312:21
-slice-aggregate-show-line : tie.Need-slice-aggregate-show-line
-slice-aggregate-show-line c = ?
-
--- src/tools.rt:312:5
-show-line-requires : tie.Need-show-line-requires
-show-line-requires c κs = ?
-
--- src/tools.rt:304:1
 same-length-2 : tie.Need-same-length-2
 same-length-2 c = search needs
-
--- src/tools.rt:304:1
-returns-2 : tie.Need-returns-2
-returns-2 c = ?
 
 pub write-line-spec : {M : Type 1} → statement M
 write-line-spec =

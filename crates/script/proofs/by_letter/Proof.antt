@@ -1,0 +1,153 @@
+use mathlib.Core.Path.{_≡_, refl, sym, ap, _∙_}
+use mathlib.Core.List.{List, [], _∷_}
+use Prim.Native.Nat.{ℕ, _≤_}
+use native.Mathlib.Omega.{arith}
+use denote.Ref.{now}
+use lib.ListN.{length, getD, drop}
+use borrow.Author.Tests.{ne-eqb}
+use Rattle.laws.specs.Pick.{pick, pick-f}
+use Rattle.laws.specs.Decimal.{Parsed}
+use Rattle.script.specs.Call.{Call, callBy, atEnd, callOf}
+use Rattle.script.specs.Steps.{toolBy, made, answers-as}
+use borrow.Author.Needs.{needs}
+use Rattle.script.proofs.by_letter.Statement.{statement}
+use Rattle.script.proofs.by_letter.Tie as tie
+
+-- the call of a line by its letter
+by-key : (line : List ℕ) (k : ℕ) {rule : Parsed Call} → 1 ≤ length line → getD line 0 0 ≡ k → callBy k (drop 1 line) ≡ rule → callOf line ≡ atEnd rule
+unfolding callOf
+by-key [] k h e s = absurd (omega arith)
+by-key (x ∷ xs) k h e s = ap (λ (n : ℕ). atEnd (callBy n xs)) e ∙ ap atEnd s
+
+-- a letter that is none of T L S C Q N B
+by-tool : (letter : ℕ) (l : List ℕ)
+    → (letter ≡ 84 → ⊥) → (letter ≡ 76 → ⊥) → (letter ≡ 83 → ⊥) → (letter ≡ 67 → ⊥) → (letter ≡ 81 → ⊥) → (letter ≡ 78 → ⊥) → (letter ≡ 66 → ⊥)
+    → callBy letter l ≡ toolBy letter l
+unfolding callBy toolBy
+by-tool letter l t i s r q n b =
+    pick-f _ _ _ (ne-eqb _ _ t)
+    ∙ pick-f _ _ _ (ne-eqb _ _ i)
+    ∙ pick-f _ _ _ (ne-eqb _ _ s)
+    ∙ pick-f _ _ _ (ne-eqb _ _ r)
+    ∙ pick-f _ _ _ (ne-eqb _ _ q)
+    ∙ pick-f _ _ _ (ne-eqb _ _ n)
+    ∙ pick-f _ _ _ (ne-eqb _ _ b)
+
+shared-slice-read-match : tie.Need-shared-slice-read-match
+shared-slice-read-match c = search needs
+
+tick-requires : tie.Need-tick-requires
+tick-requires c κs = search needs
+
+link-requires : tie.Need-link-requires
+link-requires c κs = search needs
+
+settings-requires : tie.Need-settings-requires
+settings-requires c κs = search needs
+
+reset-requires : tie.Need-reset-requires
+reset-requires c κs = search needs
+
+counters-requires : tie.Need-counters-requires
+counters-requires c κs = search needs
+
+restart-requires : tie.Need-restart-requires
+restart-requires c κs = search needs
+
+request-requires : tie.Need-request-requires
+request-requires c κs = search needs
+
+by-letter-requires : tie.Need-by-letter-requires
+by-letter-requires c κs = search needs
+
+same-length : tie.Need-same-length
+same-length c = search needs
+
+returns : tie.Need-returns
+unfolding callBy pick
+returns c = answers-as (c .before .before .before .before .before .before .before .before .args .c) (by-key (now (c .before .before .before .before .before .before .before .before .args .line)) 84 (c .before .before .before .before .before .before .before .before .pre .1 .0 .0) (c .before .before .before .before .match .keys1) refl) (c .before .before .tick .ensures)
+
+same-length-2 : tie.Need-same-length-2
+same-length-2 c = search needs
+
+returns-2 : tie.Need-returns-2
+unfolding callBy pick
+returns-2 c = answers-as (c .before .before .before .before .before .before .before .before .args .c) (by-key (now (c .before .before .before .before .before .before .before .before .args .line)) 76 (c .before .before .before .before .before .before .before .before .pre .1 .0 .0) (c .before .before .before .before .match .keys2) refl) (c .before .before .link .ensures)
+
+same-length-3 : tie.Need-same-length-3
+same-length-3 c = search needs
+
+returns-3 : tie.Need-returns-3
+unfolding callBy pick
+returns-3 c = answers-as (c .before .before .before .before .before .before .before .before .args .c) (by-key (now (c .before .before .before .before .before .before .before .before .args .line)) 83 (c .before .before .before .before .before .before .before .before .pre .1 .0 .0) (c .before .before .before .before .match .keys3) refl) (c .before .before .settings .ensures)
+
+same-length-4 : tie.Need-same-length-4
+same-length-4 c = search needs
+
+returns-4 : tie.Need-returns-4
+unfolding callBy pick
+returns-4 c = answers-as (c .before .before .before .before .before .before .before .before .args .c) (by-key (now (c .before .before .before .before .before .before .before .before .args .line)) 67 (c .before .before .before .before .before .before .before .before .pre .1 .0 .0) (c .before .before .before .before .match .keys4) refl) (c .before .before .reset .ensures)
+
+same-length-5 : tie.Need-same-length-5
+same-length-5 c = search needs
+
+returns-5 : tie.Need-returns-5
+unfolding callBy pick
+returns-5 c = answers-as (c .before .before .before .before .before .before .before .before .args .c) (by-key (now (c .before .before .before .before .before .before .before .before .args .line)) 81 (c .before .before .before .before .before .before .before .before .pre .1 .0 .0) (c .before .before .before .before .match .keys5) refl) (c .before .before .counters .ensures)
+
+same-length-6 : tie.Need-same-length-6
+same-length-6 c = search needs
+
+returns-6 : tie.Need-returns-6
+unfolding callBy pick
+returns-6 c = answers-as (c .before .before .before .before .before .before .before .before .args .c) (by-key (now (c .before .before .before .before .before .before .before .before .args .line)) 78 (c .before .before .before .before .before .before .before .before .pre .1 .0 .0) (c .before .before .before .before .match .keys6) refl) (c .before .before .restart .ensures)
+
+same-length-7 : tie.Need-same-length-7
+same-length-7 c = search needs
+
+returns-7 : tie.Need-returns-7
+unfolding callBy pick
+returns-7 c = answers-as (c .before .before .before .before .before .before .before .before .args .c) (by-key (now (c .before .before .before .before .before .before .before .before .args .line)) 66 (c .before .before .before .before .before .before .before .before .pre .1 .0 .0) (c .before .before .before .before .match .keys7) refl) (c .before .before .request .ensures)
+
+same-length-8 : tie.Need-same-length-8
+same-length-8 c = search needs
+
+returns-8 : tie.Need-returns-8
+returns-8 c =
+    let a = c .before .before .before .before .before .before .before .before .args in
+    let l = now (a .line) in
+    let n = c .before .before .before .before .match .rest in
+    let t = c .before .before .by-letter .ensures in
+    answers-as (a .c)
+    (by-key l (getD l 0 0) (c .before .before .before .before .before .before .before .before .pre .1 .0 .0) refl (by-tool (getD l 0 0) (drop 1 l) (n .0 .0 .0 .0 .0 .0 .1) (n .0 .0 .0 .0 .0 .1) (n .0 .0 .0 .0 .1) (n .0 .0 .0 .1) (n .0 .0 .1) (n .0 .1) (n .1)))
+    (made (sym (t .stays (a .c))) (c .before .before .before .before .before .before .before .before .pre .0) (c .before .before .before .before .before .before .before .before .pre .1 .1) (t .text (a .c)))
+
+pub by-letter-spec : {M : Type 1} → statement M
+by-letter-spec =
+    tie.close
+    (tie.spec
+    shared-slice-read-match
+    tick-requires
+    link-requires
+    settings-requires
+    reset-requires
+    counters-requires
+    restart-requires
+    request-requires
+    by-letter-requires
+    same-length
+    returns
+    same-length-2
+    returns-2
+    same-length-3
+    returns-3
+    same-length-4
+    returns-4
+    same-length-5
+    returns-5
+    same-length-6
+    returns-6
+    same-length-7
+    returns-7
+    same-length-8
+    returns-8)

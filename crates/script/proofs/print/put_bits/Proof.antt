@@ -1,0 +1,25 @@
+use Rattle.script.specs.Print.{prints-then}
+use borrow.Author.Needs.{needs}
+use Rattle.script.proofs.print.put_bits.Statement.{statement}
+use Rattle.script.proofs.print.put_bits.Tie as tie
+
+returns : tie.Need-returns
+returns c = prints-then (c .before .before .before .before .before .before .put-byte .ensures) (c .before .before .put-hex16 .ensures)
+
+put-byte-requires : tie.Need-put-byte-requires
+put-byte-requires c κs = search needs
+
+put-hex16-requires : tie.Need-put-hex16-requires
+put-hex16-requires c κs = search needs
+
+same-length : tie.Need-same-length
+same-length c = search needs
+
+pub put-bits-spec : {M : Type 1} → statement M
+put-bits-spec =
+    tie.close
+    (tie.spec
+    put-byte-requires
+    put-hex16-requires
+    same-length
+    returns)
