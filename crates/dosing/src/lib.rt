@@ -150,10 +150,9 @@ pub fn near_zero(set: Settings, f: Units) -> bool
 {
     let x = widened(f);
     if above_minus(x, set.level) {
-        below(x, set.level)
-    } else {
-        false
+        return below(x, set.level);
     }
+    false
 }
 
 // Outputs 1, 2 and 3: open or shut.
@@ -249,19 +248,17 @@ fn fine_dosing(wh: Units, t: Seen) -> Moved
 }
 
 // If -M < F < M then Z becomes F and w is 0.
-fn zeroed(set: Settings, t: Seen) -> Seen
+fn zeroed(set: Settings, mut t: Seen) -> Seen
     ensures { λ r. ⌜ r ≡ zeroed set t ⌝ }
 {
-    let f = t.f;
-    if near_zero(set, f) {
-        Seen {
-            z: f,
-            w: Units { v: 0 },
-            ..t
-        }
-    } else {
-        t
+    if near_zero(set, t.f) {
+        let f = t.f;
+        let zero = Units { v: 0 };
+        t.z = f;
+        t.w = zero;
+        return t;
     }
+    t
 }
 
 // On reaching Wf AL1 enters Settle at tick number 0; AL0 holds.
@@ -269,48 +266,41 @@ fn full(set: Settings, w0: Units) -> Phase
     ensures { λ r. ⌜ r ≡ full set w0 ⌝ }
 {
     if set.algorithm == 0 {
-        Phase::Hold
-    } else {
-        Phase::Settle { w0: w0, n: 0 }
+        return Phase::Hold;
     }
+    Phase::Settle { w0: w0, n: 0 }
 }
 
 // Coarse stage of Fill.
 fn coarse_stage(set: Settings, w0: Units, t: Seen) -> Moved
     ensures { λ r. ⌜ r ≡ coarseStage set w0 t ⌝ }
 {
-    let w = t.w;
-    let x = widened(w);
+    let x = widened(t.w);
     if reached_wf(set, x) {
-        let p = full(set, w0);
-        rests(p, t)
-    } else if reached_wc(set, x) {
-        fine_filling(w0, t)
-    } else {
-        coarse_filling(set, w0, t)
+        return rests(full(set, w0), t);
     }
+    if reached_wc(set, x) {
+        return fine_filling(w0, t);
+    }
+    coarse_filling(set, w0, t)
 }
 
 // Fine stage of Fill.
 fn fine_stage(set: Settings, w0: Units, t: Seen) -> Moved
     ensures { λ r. ⌜ r ≡ fineStage set w0 t ⌝ }
 {
-    let w = t.w;
-    let x = widened(w);
+    let x = widened(t.w);
     if reached_wf(set, x) {
-        let p = full(set, w0);
-        rests(p, t)
-    } else {
-        fine_filling(w0, t)
+        return rests(full(set, w0), t);
     }
+    fine_filling(w0, t)
 }
 
 // w0 = w; go on at once as Fill, coarse stage.
 fn fill_begins(set: Settings, t: Seen) -> Moved
     ensures { λ r. ⌜ r ≡ fillBegins set t ⌝ }
 {
-    let w = t.w;
-    coarse_stage(set, w, t)
+    coarse_stage(set, t.w, t)
 }
 
 // AL0 and AL1, Ready: on start the zero, w0, Fill.
@@ -318,11 +308,9 @@ fn ready_to_fill(set: Settings, t: Seen) -> Moved
     ensures { λ r. ⌜ r ≡ readyToFill set t ⌝ }
 {
     if t.start {
-        let u = zeroed(set, t);
-        fill_begins(set, u)
-    } else {
-        rests(Phase::Ready, t)
+        return fill_begins(set, zeroed(set, t));
     }
+    rests(Phase::Ready, t)
 }
 
 // AL0: start is off.
@@ -337,11 +325,9 @@ fn fill(set: Settings, t: Seen, stage: Moved) -> Moved
     ensures { λ r. ⌜ r ≡ fill set t stage ⌝ }
 {
     if fill_stops(set, t) {
-        let p = Phase::Ready;
-        rests(p, t)
-    } else {
-        stage
+        return rests(Phase::Ready, t);
     }
+    stage
 }
 
 // AL0: it holds with both closed until start goes off, then Ready.
@@ -349,10 +335,9 @@ fn hold(t: Seen) -> Moved
     ensures { λ r. ⌜ r ≡ hold t ⌝ }
 {
     if t.start {
-        rests(Phase::Hold, t)
-    } else {
-        rests(Phase::Ready, t)
+        return rests(Phase::Hold, t);
     }
+    rests(Phase::Ready, t)
 }
 
 // Whether Settle or Calm, at tick number n before this tick, ends with it.
@@ -361,12 +346,12 @@ fn settle_ends(set: Settings, n: u64, stable: bool) -> bool
 {
     let last = 256 * (set.p9 as u64);
     if stable {
-        true
-    } else if n < last {
-        last <= n + 1
-    } else {
-        true
+        return true;
     }
+    if n < last {
+        return last <= n + 1;
+    }
+    true
 }
 
 // wS = w, output 3 opens, Discharge.
@@ -388,10 +373,9 @@ fn settle(set: Settings, w0: Units, n: u64, t: Seen) -> Moved
     ensures { λ r. ⌜ r ≡ settle set w0 (n + 1) t ⌝ }
 {
     if settle_ends(set, n, t.stable) {
-        discharge_opens(w0, t)
-    } else {
-        rests(Phase::Settle { w0: w0, n: n + 1 }, t)
+        return discharge_opens(w0, t);
     }
+    rests(Phase::Settle { w0: w0, n: n + 1 }, t)
 }
 
 // wS-wE if p11 = 0, wS-w0 if 1; below 0 it is 0.
@@ -399,43 +383,35 @@ fn amount_of(set: Settings, w0: Units, ws: Units, we: Units) -> u32
     ensures { λ r. ⌜ r ≡ amountOf set w0 ws we ⌝ }
 {
     if set.p11 == 0 {
-        not_below_zero(ws, we)
-    } else {
-        not_below_zero(ws, w0)
+        return not_below_zero(ws, we);
     }
+    not_below_zero(ws, w0)
 }
 
 // AL1, Discharge: w < M closes 3, wE = w, the dose is complete, Ready.
 fn discharge(set: Settings, w0: Units, ws: Units, settled: bool, t: Seen) -> Moved
     ensures { λ r. ⌜ r ≡ discharge set w0 ws settled t ⌝ }
 {
-    let w = t.w;
-    let x = widened(w);
-    if below(x, set.level) {
-        let amount = amount_of(set, w0, ws, w);
-        completes(amount, settled, t)
-    } else {
-        let p = Phase::Discharge {
-            w0: w0,
-            ws: ws,
-            settled: settled,
-        };
-        let g = outputs(false, false, true);
-        to(p, g, t)
+    if below(widened(t.w), set.level) {
+        return completes(amount_of(set, w0, ws, t.w), settled, t);
     }
+    let p = Phase::Discharge {
+        w0: w0,
+        ws: ws,
+        settled: settled,
+    };
+    let g = outputs(false, false, true);
+    to(p, g, t)
 }
 
 // AL2 and AL3, Load: w >= M closes 3, Calm.
 fn load(set: Settings, t: Seen) -> Moved
     ensures { λ r. ⌜ r ≡ load set t ⌝ }
 {
-    let w = t.w;
-    let x = widened(w);
-    if at_least(x, set.level) {
-        rests(Phase::Calm { n: 0 }, t)
-    } else {
-        loading(t)
+    if at_least(widened(t.w), set.level) {
+        return rests(Phase::Calm { n: 0 }, t);
     }
+    loading(t)
 }
 
 // Calm ends as Settle does, then Ready.
@@ -443,38 +419,33 @@ fn calm(set: Settings, n: u64, t: Seen) -> Moved
     ensures { λ r. ⌜ r ≡ calm set (n + 1) t ⌝ }
 {
     if settle_ends(set, n, t.stable) {
-        rests(Phase::Ready, t)
-    } else {
-        rests(Phase::Calm { n: n + 1 }, t)
+        return rests(Phase::Ready, t);
     }
+    rests(Phase::Calm { n: n + 1 }, t)
 }
 
 // Coarse stage of Dose.
 fn dose_coarse(set: Settings, wh: Units, t: Seen) -> Moved
     ensures { λ r. ⌜ r ≡ doseCoarse set wh t ⌝ }
 {
-    let w = t.w;
-    let x = difference(wh, w);
+    let x = difference(wh, t.w);
     if reached_wf(set, x) {
-        rests(Phase::DoseSettle { wh: wh, n: 0 }, t)
-    } else if reached_wc(set, x) {
-        fine_dosing(wh, t)
-    } else {
-        coarse_dosing(wh, t)
+        return rests(Phase::DoseSettle { wh: wh, n: 0 }, t);
     }
+    if reached_wc(set, x) {
+        return fine_dosing(wh, t);
+    }
+    coarse_dosing(wh, t)
 }
 
 // Fine stage of Dose.
 fn dose_fine(set: Settings, wh: Units, t: Seen) -> Moved
     ensures { λ r. ⌜ r ≡ doseFine set wh t ⌝ }
 {
-    let w = t.w;
-    let x = difference(wh, w);
-    if reached_wf(set, x) {
-        rests(Phase::DoseSettle { wh: wh, n: 0 }, t)
-    } else {
-        fine_dosing(wh, t)
+    if reached_wf(set, difference(wh, t.w)) {
+        return rests(Phase::DoseSettle { wh: wh, n: 0 }, t);
     }
+    fine_dosing(wh, t)
 }
 
 // Settle of Dose: at its end the dose is complete, amount wH-w or 0 if below 0, Ready.
@@ -482,27 +453,22 @@ fn dose_settle(set: Settings, wh: Units, n: u64, t: Seen) -> Moved
     ensures { λ r. ⌜ r ≡ doseSettle set wh (n + 1) t ⌝ }
 {
     if settle_ends(set, n, t.stable) {
-        let w = t.w;
-        let amount = not_below_zero(wh, w);
-        completes(amount, t.stable, t)
-    } else {
-        rests(Phase::DoseSettle { wh: wh, n: n + 1 }, t)
+        return completes(not_below_zero(wh, t.w), t.stable, t);
     }
+    rests(Phase::DoseSettle { wh: wh, n: n + 1 }, t)
 }
 
 // AL2, Ready: w < D opens 3, Load; else on start wH = w, Dose on the same tick.
 fn ready_to_dose(set: Settings, t: Seen) -> Moved
     ensures { λ r. ⌜ r ≡ readyToDose set t ⌝ }
 {
-    let w = t.w;
-    let x = widened(w);
-    if below(x, set.dose) {
-        loading(t)
-    } else if t.start {
-        dose_coarse(set, w, t)
-    } else {
-        rests(Phase::Ready, t)
+    if below(widened(t.w), set.dose) {
+        return loading(t);
     }
+    if t.start {
+        return dose_coarse(set, t.w, t);
+    }
+    rests(Phase::Ready, t)
 }
 
 // AL3: in Ready nothing happens without start.
@@ -517,12 +483,12 @@ fn ready(set: Settings, t: Seen) -> Moved
     ensures { λ r. ⌜ r ≡ ready set t ⌝ }
 {
     if set.algorithm <= 1 {
-        ready_to_fill(set, t)
-    } else if waits(set, t) {
-        rests(Phase::Ready, t)
-    } else {
-        ready_to_dose(set, t)
+        return ready_to_fill(set, t);
     }
+    if waits(set, t) {
+        return rests(Phase::Ready, t);
+    }
+    ready_to_dose(set, t)
 }
 
 // The phase rule of one tick.

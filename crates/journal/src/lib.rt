@@ -86,7 +86,15 @@ const D: u8 = 68;
 const H: u8 = 72;
 
 // The greatest values of a line's fields after its letter: hour, count, amount, settled.
-const MOST: [u32; 4] = [9999999, 999999, 1800000, 1];
+const HOUR_MOST: u32 = 9999999;
+
+const COUNT_MOST: u32 = 999999;
+
+const AMOUNT_MOST: u32 = 1800000;
+
+const SETTLED_MOST: u32 = 1;
+
+const MOST: [u32; 4] = [HOUR_MOST, COUNT_MOST, AMOUNT_MOST, SETTLED_MOST];
 
 // The longest line has so many bytes.
 const LONGEST: usize = 27;
@@ -108,18 +116,18 @@ fn in_range(line: Line) -> bool
             amount,
             settled,
         } => {
-            if hour > MOST[0] {
+            if hour > HOUR_MOST {
                 return false;
             }
-            if count > MOST[1] {
+            if count > COUNT_MOST {
                 return false;
             }
-            if amount > MOST[2] {
+            if amount > AMOUNT_MOST {
                 return false;
             }
-            settled <= MOST[3]
+            settled <= SETTLED_MOST
         }
-        Line::On { hour } => hour <= MOST[0],
+        Line::On { hour } => hour <= HOUR_MOST,
     }
 }
 
@@ -229,16 +237,16 @@ fn end_at(s: &[u8], at: usize, line: Line) -> At
 fn dose_at(s: &[u8], at: usize) -> At
     ensures { λ r. ⌜ saysAt r ≡ placed (length (now (s .entry))) (onGood (fieldsAt mostOfD [] (drop at (now (s .entry)))) (λ vs rest. good (doseFrom vs) rest)) ⌝ }
 {
-    let Num::Good(hour, after_hour) = text::field_at(s, at, MOST[0]) else {
+    let Num::Good(hour, after_hour) = text::field_at(s, at, HOUR_MOST) else {
         return At::R10;
     };
-    let Num::Good(count, after_count) = text::field_at(s, after_hour, MOST[1]) else {
+    let Num::Good(count, after_count) = text::field_at(s, after_hour, COUNT_MOST) else {
         return At::R10;
     };
-    let Num::Good(amount, after_amount) = text::field_at(s, after_count, MOST[2]) else {
+    let Num::Good(amount, after_amount) = text::field_at(s, after_count, AMOUNT_MOST) else {
         return At::R10;
     };
-    let Num::Good(settled, after_settled) = text::field_at(s, after_amount, MOST[3]) else {
+    let Num::Good(settled, after_settled) = text::field_at(s, after_amount, SETTLED_MOST) else {
         return At::R10;
     };
     end_at(
@@ -257,7 +265,7 @@ fn dose_at(s: &[u8], at: usize) -> At
 fn on_at(s: &[u8], at: usize) -> At
     ensures { λ r. ⌜ saysAt r ≡ placed (length (now (s .entry))) (onGood (fieldsAt mostOfH [] (drop at (now (s .entry)))) (λ vs rest. good (onFrom vs) rest)) ⌝ }
 {
-    let Num::Good(hour, after_hour) = text::field_at(s, at, MOST[0]) else {
+    let Num::Good(hour, after_hour) = text::field_at(s, at, HOUR_MOST) else {
         return At::R10;
     };
     end_at(s, after_hour, Line::On { hour })

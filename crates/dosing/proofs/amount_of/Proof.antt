@@ -20,4 +20,4 @@ returns-2 c = search (picks, c .not-below-zero2 .ensures)
 
 pub amount-of-spec : {M : Type 1} → statement M
 amount-of-spec =
-    tie.close (tie.spec not-below-zero-requires not-below-zero-requires-2 returns returns-2)
+    tie.close (tie.spec not-below-zero-requires returns not-below-zero-requires-2 returns-2)

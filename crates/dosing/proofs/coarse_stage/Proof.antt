@@ -26,10 +26,10 @@ fine-filling-requires c κs = search needs
 coarse-filling-requires : tie.Need-coarse-filling-requires
 coarse-filling-requires c κs = search needs
 
-at-wf : (c : tie.After-reached-wf) → c .reached-wf .result ≡ reachedWf (c .before .before .before .args .set) (c .before .before .before .args .t .w .v)
+at-wf : (c : tie.After-reached-wf) → c .reached-wf .result ≡ reachedWf (c .before .before .args .set) (c .before .before .args .t .w .v)
 at-wf c = simp (c .reached-wf .ensures, c .before .widened .ensures)
 
-at-wc : (c : tie.After-reached-wc) → c .reached-wc .result ≡ reachedWc (c .before .before .before .before .before .args .set) (c .before .before .before .before .before .args .t .w .v)
+at-wc : (c : tie.After-reached-wc) → c .reached-wc .result ≡ reachedWc (c .before .before .before .before .args .set) (c .before .before .before .before .args .t .w .v)
 at-wc c = simp (c .reached-wc .ensures, c .before .before .before .widened .ensures)
 
 returns : tie.Need-returns
@@ -47,14 +47,4 @@ returns-3 c = simp (c .coarse-filling .ensures, so (at-wf (c .before .before .be
 pub coarse-stage-spec : {M : Type 1} → statement M
 coarse-stage-spec =
     tie.close
-    (tie.spec
-    widened-requires
-    reached-wf-requires
-    full-requires
-    rests-requires
-    reached-wc-requires
-    fine-filling-requires
-    coarse-filling-requires
-    returns
-    returns-2
-    returns-3)
+    (tie.spec widened-requires reached-wf-requires full-requires rests-requires returns reached-wc-requires fine-filling-requires returns-2 coarse-filling-requires returns-3)

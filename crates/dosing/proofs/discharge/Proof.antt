@@ -25,7 +25,7 @@ outputs-requires c κs = search needs
 to-requires : tie.Need-to-requires
 to-requires c κs = search needs
 
-below-m : (c : tie.After-below) → c .below .result ≡ ltZ (c .before .before .before .args .t .w .v) (pos (c .before .before .before .args .set .level))
+below-m : (c : tie.After-below) → c .below .result ≡ ltZ (c .before .before .args .t .w .v) (pos (c .before .before .args .set .level))
 below-m c = simp (c .below .ensures, c .before .widened .ensures)
 
 returns : tie.Need-returns
@@ -39,12 +39,4 @@ returns-2 c = simp (c .to .ensures, c .before .outputs .ensures, so (below-m (c 
 pub discharge-spec : {M : Type 1} → statement M
 discharge-spec =
     tie.close
-    (tie.spec
-    widened-requires
-    below-requires
-    amount-of-requires
-    completes-requires
-    outputs-requires
-    to-requires
-    returns
-    returns-2)
+    (tie.spec widened-requires below-requires amount-of-requires completes-requires returns outputs-requires to-requires returns-2)

@@ -24,10 +24,10 @@ fine-dosing-requires c κs = search needs
 coarse-dosing-requires : tie.Need-coarse-dosing-requires
 coarse-dosing-requires c κs = search needs
 
-at-wf : (c : tie.After-reached-wf) → c .reached-wf .result ≡ reachedWf (c .before .before .before .args .set) (c .before .before .before .args .wh .v -ℤ c .before .before .before .args .t .w .v)
+at-wf : (c : tie.After-reached-wf) → c .reached-wf .result ≡ reachedWf (c .before .before .args .set) (c .before .before .args .wh .v -ℤ c .before .before .args .t .w .v)
 at-wf c = simp (c .reached-wf .ensures, c .before .difference .ensures)
 
-at-wc : (c : tie.After-reached-wc) → c .reached-wc .result ≡ reachedWc (c .before .before .before .before .before .args .set) (c .before .before .before .before .before .args .wh .v -ℤ c .before .before .before .before .before .args .t .w .v)
+at-wc : (c : tie.After-reached-wc) → c .reached-wc .result ≡ reachedWc (c .before .before .before .before .args .set) (c .before .before .before .before .args .wh .v -ℤ c .before .before .before .before .args .t .w .v)
 at-wc c = simp (c .reached-wc .ensures, c .before .before .before .difference .ensures)
 
 returns : tie.Need-returns
@@ -45,13 +45,4 @@ returns-3 c = simp (c .coarse-dosing .ensures, so (at-wf (c .before .before .bef
 pub dose-coarse-spec : {M : Type 1} → statement M
 dose-coarse-spec =
     tie.close
-    (tie.spec
-    difference-requires
-    reached-wf-requires
-    rests-requires
-    reached-wc-requires
-    fine-dosing-requires
-    coarse-dosing-requires
-    returns
-    returns-2
-    returns-3)
+    (tie.spec difference-requires reached-wf-requires rests-requires returns reached-wc-requires fine-dosing-requires returns-2 coarse-dosing-requires returns-3)

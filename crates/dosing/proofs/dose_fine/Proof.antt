@@ -18,7 +18,7 @@ rests-requires c κs = search needs
 fine-dosing-requires : tie.Need-fine-dosing-requires
 fine-dosing-requires c κs = search needs
 
-at-wf : (c : tie.After-reached-wf) → c .reached-wf .result ≡ reachedWf (c .before .before .before .args .set) (c .before .before .before .args .wh .v -ℤ c .before .before .before .args .t .w .v)
+at-wf : (c : tie.After-reached-wf) → c .reached-wf .result ≡ reachedWf (c .before .before .args .set) (c .before .before .args .wh .v -ℤ c .before .before .args .t .w .v)
 at-wf c = simp (c .reached-wf .ensures, c .before .difference .ensures)
 
 returns : tie.Need-returns
@@ -32,10 +32,4 @@ returns-2 c = simp (c .fine-dosing .ensures, so (at-wf (c .before .before)) (c .
 pub dose-fine-spec : {M : Type 1} → statement M
 dose-fine-spec =
     tie.close
-    (tie.spec
-    difference-requires
-    reached-wf-requires
-    rests-requires
-    fine-dosing-requires
-    returns
-    returns-2)
+    (tie.spec difference-requires reached-wf-requires rests-requires returns fine-dosing-requires returns-2)

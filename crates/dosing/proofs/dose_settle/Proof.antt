@@ -16,15 +16,15 @@ not-below-zero-requires c κs = search needs
 completes-requires : tie.Need-completes-requires
 completes-requires c κs = search needs
 
-add-t9 : tie.Need-add-t9
-add-t9 c = let a = c .before .before .args in record { fits = omega (arith, settle-later (a .set) (a .n + 1) (a .t .stable) (so (c .before .settle-ends .ensures) (c .if1 .left))) }
+add-t7 : tie.Need-add-t7
+add-t7 c = let a = c .before .before .args in record { fits = omega (arith, settle-later (a .set) (a .n + 1) (a .t .stable) (so (c .before .settle-ends .ensures) (c .if1 .left))) }
 
 rests-requires : tie.Need-rests-requires
 rests-requires c κs = search needs
 
 returns : tie.Need-returns
 unfolding doseSettle
-returns c = simp (c .completes .ensures, c .before .not-below-zero .ensures, so (c .before .before .before .before .settle-ends .ensures) (c .before .before .before .if1 .taken), pick-true)
+returns c = simp (c .completes .ensures, c .before .not-below-zero .ensures, so (c .before .before .before .settle-ends .ensures) (c .before .before .if1 .taken), pick-true)
 
 returns-2 : tie.Need-returns-2
 unfolding doseSettle
@@ -33,11 +33,4 @@ returns-2 c = simp (c .rests .ensures, so (c .before .before .settle-ends .ensur
 pub dose-settle-spec : {M : Type 1} → statement M
 dose-settle-spec =
     tie.close
-    (tie.spec
-    settle-ends-requires
-    not-below-zero-requires
-    completes-requires
-    add-t9
-    rests-requires
-    returns
-    returns-2)
+    (tie.spec settle-ends-requires not-below-zero-requires completes-requires returns add-t7 rests-requires returns-2)

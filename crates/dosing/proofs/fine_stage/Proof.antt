@@ -20,7 +20,7 @@ rests-requires c κs = search needs
 fine-filling-requires : tie.Need-fine-filling-requires
 fine-filling-requires c κs = search needs
 
-at-wf : (c : tie.After-reached-wf) → c .reached-wf .result ≡ reachedWf (c .before .before .before .args .set) (c .before .before .before .args .t .w .v)
+at-wf : (c : tie.After-reached-wf) → c .reached-wf .result ≡ reachedWf (c .before .before .args .set) (c .before .before .args .t .w .v)
 at-wf c = simp (c .reached-wf .ensures, c .before .widened .ensures)
 
 returns : tie.Need-returns
@@ -34,11 +34,4 @@ returns-2 c = simp (c .fine-filling .ensures, so (at-wf (c .before .before)) (c 
 pub fine-stage-spec : {M : Type 1} → statement M
 fine-stage-spec =
     tie.close
-    (tie.spec
-    widened-requires
-    reached-wf-requires
-    full-requires
-    rests-requires
-    fine-filling-requires
-    returns
-    returns-2)
+    (tie.spec widened-requires reached-wf-requires full-requires rests-requires returns fine-filling-requires returns-2)

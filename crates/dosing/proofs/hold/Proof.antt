@@ -19,4 +19,4 @@ unfolding hold
 returns-2 c = simp (c .rests2 .ensures, c .before .if1 .left, pick-false)
 
 pub hold-spec : {M : Type 1} → statement M
-hold-spec = tie.close (tie.spec rests-requires rests-requires-2 returns returns-2)
+hold-spec = tie.close (tie.spec rests-requires returns rests-requires-2 returns-2)

@@ -19,7 +19,7 @@ rests-requires c κs = search needs
 loading-requires : tie.Need-loading-requires
 loading-requires c κs = search needs
 
-from-m : (c : tie.After-at-least) → c .at-least .result ≡ leZ (pos (c .before .before .before .args .set .level)) (c .before .before .before .args .t .w .v)
+from-m : (c : tie.After-at-least) → c .at-least .result ≡ leZ (pos (c .before .before .args .set .level)) (c .before .before .args .t .w .v)
 from-m c = simp (c .at-least .ensures, c .before .widened .ensures)
 
 returns : tie.Need-returns
@@ -33,4 +33,4 @@ returns-2 c = simp (c .loading .ensures, so (from-m (c .before .before)) (c .bef
 pub load-spec : {M : Type 1} → statement M
 load-spec =
     tie.close
-    (tie.spec widened-requires at-least-requires rests-requires loading-requires returns returns-2)
+    (tie.spec widened-requires at-least-requires rests-requires returns loading-requires returns-2)

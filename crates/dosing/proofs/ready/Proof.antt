@@ -31,11 +31,4 @@ returns-3 c = search (picks, c .ready-to-dose .ensures, so (c .before .before .w
 pub ready-spec : {M : Type 1} → statement M
 ready-spec =
     tie.close
-    (tie.spec
-    ready-to-fill-requires
-    waits-requires
-    rests-requires
-    ready-to-dose-requires
-    returns
-    returns-2
-    returns-3)
+    (tie.spec ready-to-fill-requires returns waits-requires rests-requires returns-2 ready-to-dose-requires returns-3)

@@ -22,7 +22,7 @@ dose-coarse-requires c κs = search needs
 rests-requires : tie.Need-rests-requires
 rests-requires c κs = search needs
 
-below-d : (c : tie.After-below) → c .below .result ≡ ltZ (c .before .before .before .args .t .w .v) (pos (c .before .before .before .args .set .dose))
+below-d : (c : tie.After-below) → c .below .result ≡ ltZ (c .before .before .args .t .w .v) (pos (c .before .before .args .set .dose))
 below-d c = simp (c .below .ensures, c .before .widened .ensures)
 
 returns : tie.Need-returns
@@ -40,12 +40,4 @@ returns-3 c = simp (c .rests .ensures, so (below-d (c .before .before .before)) 
 pub ready-to-dose-spec : {M : Type 1} → statement M
 ready-to-dose-spec =
     tie.close
-    (tie.spec
-    widened-requires
-    below-requires
-    loading-requires
-    dose-coarse-requires
-    rests-requires
-    returns
-    returns-2
-    returns-3)
+    (tie.spec widened-requires below-requires loading-requires returns dose-coarse-requires returns-2 rests-requires returns-3)

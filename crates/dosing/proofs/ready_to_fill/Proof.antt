@@ -23,4 +23,4 @@ returns-2 c = simp (c .rests .ensures, c .before .if1 .left, pick-false)
 
 pub ready-to-fill-spec : {M : Type 1} → statement M
 ready-to-fill-spec =
-    tie.close (tie.spec zeroed-requires fill-begins-requires rests-requires returns returns-2)
+    tie.close (tie.spec zeroed-requires fill-begins-requires returns rests-requires returns-2)

@@ -13,8 +13,8 @@ settle-ends-requires c κs = search needs
 discharge-opens-requires : tie.Need-discharge-opens-requires
 discharge-opens-requires c κs = search needs
 
-add-t7 : tie.Need-add-t7
-add-t7 c = let a = c .before .before .args in record { fits = omega (arith, settle-later (a .set) (a .n + 1) (a .t .stable) (so (c .before .settle-ends .ensures) (c .if1 .left))) }
+add-t6 : tie.Need-add-t6
+add-t6 c = let a = c .before .before .args in record { fits = omega (arith, settle-later (a .set) (a .n + 1) (a .t .stable) (so (c .before .settle-ends .ensures) (c .if1 .left))) }
 
 rests-requires : tie.Need-rests-requires
 rests-requires c κs = search needs
@@ -30,10 +30,4 @@ returns-2 c = simp (c .rests .ensures, so (c .before .before .settle-ends .ensur
 pub settle-spec : {M : Type 1} → statement M
 settle-spec =
     tie.close
-    (tie.spec
-    settle-ends-requires
-    discharge-opens-requires
-    add-t7
-    rests-requires
-    returns
-    returns-2)
+    (tie.spec settle-ends-requires discharge-opens-requires returns add-t6 rests-requires returns-2)

@@ -28,4 +28,4 @@ unfolding settleEnds
 returns-3 c = let a = c .before .before .before .args in simp (c .before .if1 .left, le-leb (256 * a .set .p9) (a .n + 1) (omega arith))
 
 pub settle-ends-spec : {M : Type 1} → statement M
-settle-ends-spec = tie.close (tie.spec cast-last mul-last add-result returns returns-2 returns-3)
+settle-ends-spec = tie.close (tie.spec cast-last mul-last returns add-result returns-2 returns-3)

@@ -69,9 +69,6 @@ after-settled : (c : tie.After-known-told4) → From (one (two (three c))) (drop
 unfolding mostOfD
 after-settled c = after-amount (three c) ∙ fields-good (S (one (two (three c)))) (amountEnd (three c)) _ _ (amount (three c)) (c .before .before .before .field-at4 .ensures) (c .before .settled .given .1)
 
-array-read-field-at : tie.Need-array-read-field-at
-array-read-field-at c = search needs
-
 field-at-requires : tie.Need-field-at-requires
 field-at-requires c κs = search needs
 
@@ -87,9 +84,6 @@ returns c =
     let s = now (c .before .before .before .before .args .s) in
     let at = c .before .before .before .before .args .at in
     refuse (length s) mostOfD (drop at s) doseFrom (fields-bad s at _ _ [] (c .before .before .field-at .ensures) (c .enum-told .given .1))
-
-array-read-field-at-2 : tie.Need-array-read-field-at-2
-array-read-field-at-2 c = search needs
 
 field-at-requires-2 : tie.Need-field-at-requires-2
 field-at-requires-2 c κs = search needs
@@ -107,9 +101,6 @@ returns-2 c =
     let b = a in
     refuse (length (S b)) mostOfD (drop (start b) (S b)) doseFrom (after-hour a ∙ fields-bad (S b) (hourEnd a) _ _ (hour a) (c .before .before .field-at2 .ensures) (c .enum-told2 .given .1))
 
-array-read-field-at-3 : tie.Need-array-read-field-at-3
-array-read-field-at-3 c = search needs
-
 field-at-requires-3 : tie.Need-field-at-requires-3
 field-at-requires-3 c κs = search needs
 
@@ -125,9 +116,6 @@ returns-3 c =
     let a = c .before .before .before in
     let b = one a in
     refuse (length (S b)) mostOfD (drop (start b) (S b)) doseFrom (after-count a ∙ fields-bad (S b) (countEnd a) _ _ (count a) (c .before .before .field-at3 .ensures) (c .enum-told3 .given .1))
-
-array-read-field-at-4 : tie.Need-array-read-field-at-4
-array-read-field-at-4 c = search needs
 
 field-at-requires-4 : tie.Need-field-at-requires-4
 field-at-requires-4 c κs = search needs
@@ -158,22 +146,18 @@ pub dose-at-spec : {M : Type 1} → statement M
 dose-at-spec =
     tie.close
     (tie.spec
-    array-read-field-at
     field-at-requires
     enum-known-hour
     enum-told
     returns
-    array-read-field-at-2
     field-at-requires-2
     enum-known-count
     enum-told-2
     returns-2
-    array-read-field-at-3
     field-at-requires-3
     enum-known-amount
     enum-told-3
     returns-3
-    array-read-field-at-4
     field-at-requires-4
     enum-known-settled
     enum-told-4

@@ -9,35 +9,20 @@ use Rattle.journal.proofs.in_range.Tie as tie
 enum-known-line : tie.Need-enum-known-line
 enum-known-line c = search needs
 
-array-read-if1 : tie.Need-array-read-if1
-array-read-if1 c = search needs
-
 returns : tie.Need-returns
 unfolding inRange within mostOfD
 returns c = sym (ap inRange (c .before .before .line .given .1) ∙ rw (lt-leb _ _ (c .if1 .taken)))
-
-array-read-if2 : tie.Need-array-read-if2
-array-read-if2 c = search needs
 
 returns-2 : tie.Need-returns-2
 unfolding inRange within mostOfD
 returns-2 c = sym (ap inRange (c .before .before .before .line .given .1) ∙ rw (le-leb _ _ (c .before .if1 .left), lt-leb _ _ (c .if2 .taken)))
 
-array-read-if3 : tie.Need-array-read-if3
-array-read-if3 c = search needs
-
 returns-3 : tie.Need-returns-3
 unfolding inRange within mostOfD
 returns-3 c = sym (ap inRange (c .before .before .before .before .line .given .1) ∙ rw (le-leb _ _ (c .before .before .if1 .left), le-leb _ _ (c .before .if2 .left), lt-leb _ _ (c .if3 .taken)))
 
-array-read-result : tie.Need-array-read-result
-array-read-result c = search needs
-
 enum-known-line-2 : tie.Need-enum-known-line-2
 enum-known-line-2 c = search needs
-
-array-read-result-2 : tie.Need-array-read-result-2
-array-read-result-2 c = search needs
 
 returns-4 : tie.Need-returns-4
 unfolding inRange within mostOfD
@@ -52,14 +37,9 @@ in-range-spec =
     tie.close
     (tie.spec
     enum-known-line
-    array-read-if1
     returns
-    array-read-if2
     returns-2
-    array-read-if3
     returns-3
-    array-read-result
     enum-known-line-2
-    array-read-result-2
     returns-4
     returns-5)

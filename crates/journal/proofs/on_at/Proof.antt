@@ -7,9 +7,6 @@ use borrow.Author.Needs.{needs}
 use Rattle.journal.proofs.on_at.Statement.{statement}
 use Rattle.journal.proofs.on_at.Tie as tie
 
-array-read-field-at : tie.Need-array-read-field-at
-array-read-field-at c = search needs
-
 field-at-requires : tie.Need-field-at-requires
 field-at-requires c κs = search needs
 
@@ -41,7 +38,6 @@ pub on-at-spec : {M : Type 1} → statement M
 on-at-spec =
     tie.close
     (tie.spec
-    array-read-field-at
     field-at-requires
     enum-known-hour
     enum-told
