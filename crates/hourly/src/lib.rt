@@ -256,7 +256,7 @@ fn put_measured(out: &mut [u8], at: usize, doses: u64, sum: u64, bits: u64) -> u
     p = text::put_byte(out, p, TAB);
     p = text::put_decimal(out, p, sum);
     p = text::put_byte(out, p, TAB);
-    p = text::put_hex16(out, p, bits);
+    p = text::put_hex(out, p, 16, bits);
     text::put_byte(out, p, LF)
 }
 

@@ -2,14 +2,14 @@
 use mathlib.Core.Path.{_≡_, refl, sym, ap, _∙_}
 use mathlib.Core.Bool.{Bool, true, false}
 use mathlib.Core.List.{List, [], _∷_, _++_, append-assoc, append-nil}
-use Prim.Native.Nat.{ℕ, zero, suc, _+_, _-_, _^_, _≤_, _<_}
+use Prim.Native.Nat.{ℕ, zero, suc, _+_, _-_, _≤_, _<_}
 use native.Mathlib.Omega.{arith}
 use native.Mathlib.Numerals.{add-one}
 use lib.IntN.{ℤ, pos, negsuc, _-ℤ_, negℤ, natAbs, +ℤ-idl, negℤ-negℤ}
 use lib.Dec.{eqb}
 use lib.ListN.{length, getD, take, drop, set}
 use lib.Seq.{take-suc-set}
-use lib.Signed.{ltZ, mag}
+use lib.Signed.{ltZ}
 use borrow.Author.Tests.{eq-eqb, ne-eqb, ltb-true}
 use mir.Syntax.{w32, w64}
 use mir.Val.{toZ, ofZ, SFits}
@@ -22,7 +22,7 @@ use Rattle.text.specs.Scan.{expect, onGood, fieldAt}
 use Rattle.text.specs.ScanLaws.{from-place, bad-good}
 use Rattle.script.specs.Call.{greatest32, minus, plus, signedAt}
 use Rattle.script.specs.Answer.{signedText}
-use Rattle.script.specs.Reading.{on-good, on-bad, on-on, on-same, numbersAt}
+use Rattle.script.specs.Reading.{on-good, on-bad, on-on, on-same, numbersAt, on-id}
 
 -- ---- signs
 
@@ -134,7 +134,3 @@ unfolding onGood
 left-none s at n values =
     let z : n - 0 ≡ n = omega arith in
     ap (λ (m : ℕ). onGood (numbersAt m (drop at s)) (λ vs rest. good vs rest)) z ∙ on-id (numbersAt n (drop at s))
-  where
-    on-id : (p : Parsed (List ℕ)) → onGood p (λ vs rest. good vs rest) ≡ p
-    on-id (good v rest) = refl
-    on-id bad = refl

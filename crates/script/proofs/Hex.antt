@@ -1,21 +1,21 @@
 -- Bytes read as hexadecimal digits, by the digits that stand there. Assumes nothing.
 use mathlib.Core.Path.{_≡_, refl, sym, ap, _∙_}
-use mathlib.Core.Bool.{Bool, true, false, _&&_, _||_}
+use mathlib.Core.Bool.{Bool, true, false, _&&_}
 use mathlib.Core.List.{List, [], _∷_, _++_, append-assoc, append-nil}
-use Prim.Native.Nat.{ℕ, zero, suc, _+_, _*_, _/_, _%_, _≤_, _<_}
+use Prim.Native.Nat.{ℕ, zero, suc, _+_, _*_, _≤_, _<_}
 use native.Mathlib.Omega.{arith}
 use native.Mathlib.Numerals.{add-one}
-use lib.Dec.{leb, eqb}
+use lib.Dec.{leb}
 use lib.ListN.{length, getD, take, drop, set, drop-of-length-le}
 use lib.Seq.{drop-cons, take-suc-set, getD-drop}
 use borrow.Author.Tests.{eq-eqb, ne-eqb, leb-true}
-use Rattle.laws.specs.Pick.{pick, pick-t, pick-f}
-use Rattle.laws.specs.Whole.{true-false, false-true}
-use Rattle.laws.specs.Decimal.{Parsed, good, bad, glyph, hexOf, isDigit}
+use Rattle.laws.specs.Pick.{pick-t, pick-f}
+use Rattle.laws.specs.Whole.{false-true}
+use Rattle.laws.specs.Decimal.{Parsed, good, bad, isDigit}
 use Rattle.text.specs.Scan.{TAB, onGood}
 use Rattle.controller.specs.Bounds.{and-left, and-right}
 use Rattle.script.specs.Call.{isHex, hexValue, bytesAt}
-use Rattle.script.specs.Reading.{on-on, on-same}
+use Rattle.script.specs.Reading.{on-on, on-same, on-id}
 
 -- a digit that is no decimal one
 pub hex-range : (b : ℕ) → isHex b ≡ true → isDigit b ≡ false → (65 ≤ b) × (b ≤ 70)
@@ -32,11 +32,6 @@ hex-some b e = go b e
     go : (b : ℕ) → isHex b ≡ true → 0 < b
     go zero e = false-true e
     go (suc b) e = omega arith
-
--- the two digits of a byte
-pub hex-two : (b : ℕ) → b < 256 → glyph (b / 16) ∷ glyph (b % 16) ∷ [] ≡ hexOf 2 b
-unfolding hexOf
-hex-two b h = let e : b / 16 ≡ b / 16 % 16 = omega arith in ap (λ (d : ℕ). glyph d ∷ glyph (b % 16) ∷ []) e
 
 -- ---- what the definition reads, by the bytes that stand there
 
@@ -122,7 +117,3 @@ module _ (s : List ℕ) (at : ℕ) (out : List ℕ) (p n : ℕ) (left : Left s a
 pub left-none : (s : List ℕ) (at : ℕ) (out : List ℕ) → Left s at out at 0
 unfolding onGood
 left-none s at out = on-id (bytesAt (drop at s))
-  where
-    on-id : (p : Parsed (List ℕ)) → onGood p (λ bytes rest. good bytes rest) ≡ p
-    on-id (good v rest) = refl
-    on-id bad = refl

@@ -1,13 +1,10 @@
 -- Each call read field by field, and the end of a line. Assumes nothing.
-use mathlib.Core.Path.{_≡_, refl, sym, ap, _∙_, subst}
-use mathlib.Core.Bool.{Bool}
-use mathlib.Core.List.{List, [], _∷_}
-use Prim.Native.Nat.{ℕ, _+_, _≤_, _<_}
-use lib.IntN.{ℤ}
+use mathlib.Core.Path.{_≡_, ap, _∙_, subst}
+use mathlib.Core.List.{List, []}
+use Prim.Native.Nat.{ℕ, _≤_, _<_}
 use lib.ListN.{length, getD, take, drop, drop-of-length-le}
 use Rattle.laws.specs.Decimal.{Parsed, good, bad}
-use Rattle.field.specs.Field.{four, weight}
-use Rattle.settings.specs.declared.Settings.{Settings}
+use Rattle.field.specs.Field.{weight}
 use Rattle.text.specs.Scan.{onGood, fieldAt}
 use Rattle.journal.specs.declared.Line.the-variants.{Dose, On}
 use Rattle.script.specs.Call.{Call, tick, link, settings, restart, writeField, readField, writeLine, greatest32, tickAt, linkAt, settingsAt, restartAt, writeFieldAt, readFieldAt, fieldFrom, roomAt, bytesCall, doseAt, onAt, atEnd}

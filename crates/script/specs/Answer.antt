@@ -1,15 +1,14 @@
 -- One answer to a line: what the box and its writers and readers answer, as text. Assumes nothing.
-use mathlib.Core.Path.{_≡_, refl}
-use mathlib.Core.Bool.{Bool, true, false}
+use mathlib.Core.Bool.{Bool}
 use mathlib.Core.List.{List, [], _∷_, _++_}
-use Prim.Native.Nat.{ℕ, zero, suc, _+_, _-_, _*_}
+use Prim.Native.Nat.{ℕ, suc, _+_}
 use lib.Dec.{ltb}
 use lib.IntN.{ℤ, pos, negsuc}
 use lib.ListN.{length, replicate}
 use lib.Ieee.{Float, binary64, toBits}
 use Rattle.laws.specs.Pick.{pick}
 use Rattle.laws.specs.Decimal.{Parsed, good, bad, decimal, hexOf}
-use Rattle.paper.specs.Answer.{Answer, done, refused, fault, told, leaves}
+use Rattle.paper.specs.Answer.{Answer, done, refused, fault, leaves}
 use Rattle.field.specs.declared.Field.{Field}
 use Rattle.field.specs.declared.Weight.{Weight}
 use Rattle.field.specs.Field.{writeOf, readOf}
@@ -21,7 +20,6 @@ use Rattle.journal.specs.declared.Line.the-variants.{Dose, On}
 use Rattle.text.specs.Scan.{TAB, LF}
 use Rattle.journal.specs.Line.{oneLine}
 use Rattle.journal.specs.Line as lines
-use Rattle.hourly.specs.declared.Figures.{Figures}
 use Rattle.hourly.specs.declared.Hour.{Hour}
 use Rattle.hourly.specs.declared.Hour.the-variants.{Measured, Idle, Missing}
 use Rattle.hourly.specs.Hours.{askOf}

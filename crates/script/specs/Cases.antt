@@ -1,17 +1,17 @@
 -- What lines ask, and answers, run on bytes. Assumes nothing.
 use mathlib.Core.Path.{_≡_, refl}
-use mathlib.Core.Bool.{Bool, true, false, _&&_, _||_}
-use mathlib.Core.List.{List, [], _∷_, _++_}
+use mathlib.Core.Bool.{true, false}
+use mathlib.Core.List.{[], _∷_}
 use Prim.Native.Nat.{ℕ}
-use lib.IntN.{ℤ, negsuc}
+use lib.IntN.{negsuc}
 use Rattle.laws.specs.Pick.{pick}
 use Rattle.laws.specs.Over.{over}
-use Rattle.laws.specs.Decimal.{Parsed, good, bad, numberAt, digitsFrom, isDigit, decimal, digitsOf, glyph, hexOf}
-use Rattle.paper.specs.Answer.{Answer, done, refused, fault, leaves}
+use Rattle.laws.specs.Decimal.{good, bad, numberAt, digitsFrom, isDigit, decimal, digitsOf, glyph, hexOf}
+use Rattle.paper.specs.Answer.{done, refused, fault, leaves}
 use Rattle.field.specs.Field.{four, weight}
 use Rattle.journal.specs.declared.Line.the-variants.{Dose, On}
 use Rattle.text.specs.Scan.{expect, onGood}
-use Rattle.script.specs.Call.{Call, tick, link, settings, reset, counters, restart, request, writeFrame, readFrame, writeField, readField, writeLine, readLine, hour, hours, numberField, flagField, minus, plus, signedAt, signedField, isHex, hexValue, bytesAt, bytesField, numbersField, setField, fieldFrom, tickAt, linkAt, settingsAt, restartAt, roomAt, bytesCall, writeFieldAt, readFieldAt, doseAt, onAt, hourAt, callBy, atEnd, callOf}
+use Rattle.script.specs.Call.{tick, link, reset, counters, request, writeFrame, readFrame, writeField, readField, writeLine, readLine, hour, numberField, flagField, minus, plus, signedAt, signedField, isHex, hexValue, bytesAt, bytesField, numbersField, setField, fieldFrom, tickAt, linkAt, settingsAt, restartAt, roomAt, bytesCall, writeFieldAt, readFieldAt, doseAt, onAt, hourAt, callBy, atEnd, callOf}
 use Rattle.script.specs.Answer.{numberText, signedText, flagText, bytesText, lineText, valuesText, refusedText, lineNamed, recordText, tickText, doneText, filledText, requestText, frameText, fieldText, weightText, oneText, readLineText, hourText, journalNamed, hoursText}
 
 -- the box's own calls; a leading zero, -0, a plus, a value out of range, a field too many or too few are no calls

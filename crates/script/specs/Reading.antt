@@ -1,6 +1,6 @@
 -- Fields read at a place of a line, one by one, and what the readers' steps answer. Assumes nothing.
 use mathlib.Core.Path.{_≡_, refl, sym, ap, _∙_}
-use mathlib.Core.Bool.{Bool, true, false}
+use mathlib.Core.Bool.{Bool}
 use mathlib.Core.List.{List, [], _∷_}
 use Prim.Native.Nat.{ℕ, zero, suc, _≤_}
 use lib.Dec.{eqb}
@@ -12,8 +12,6 @@ use Rattle.settings.specs.declared.Settings.{Settings}
 use Rattle.settings.specs.Cases.{setOf}
 use Rattle.text.specs.Scan.{TAB, expect, onGood, fieldAt}
 use Rattle.script.specs.Call.{greatest32, numberField, flagField, signedAt, signedField, bytesAt, bytesField, numbersField, setField}
-use Rattle.text.specs.declared.Num.{Num}
-use Rattle.script.specs.declared.Num.the-variants as N
 use Rattle.script.specs.declared.Signed.{Signed}
 use Rattle.script.specs.declared.Signed.the-variants as S
 use Rattle.script.specs.declared.Flag.{Flag}
@@ -25,10 +23,6 @@ use Rattle.script.specs.declared.Set.the-variants as T
 use Rattle.script.specs.declared.Numbers.{Numbers}
 
 -- ---- what a step answers: the value, and the bytes of s that follow it
-
-abbrev pub leads : List ℕ → Num → Parsed ℕ
-leads s (N.Good v next) = good v (drop next s)
-leads s N.Bad = bad
 
 abbrev pub leadsSigned : List ℕ → Signed → Parsed ℤ
 leadsSigned s (S.Good v next) = good v (drop next s)
@@ -99,6 +93,11 @@ pub on-on : {X Y Z : Type 0} (p : Parsed X) (f : X → List ℕ → Parsed Y) (g
 unfolding onGood
 on-on (good v rest) f g = refl
 on-on bad f g = refl
+
+pub on-id : {X : Type 0} (p : Parsed X) → onGood p (λ v rest. good v rest) ≡ p
+unfolding onGood
+on-id (good v rest) = refl
+on-id bad = refl
 
 on-expect : {X Y : Type 0} (b : ℕ) (l : List ℕ) (f : List ℕ → Parsed X) (next : X → List ℕ → Parsed Y)
     → expect b l (λ rest. onGood (f rest) next) ≡ onGood (expect b l f) next

@@ -1,7 +1,6 @@
 // An input in blocks: the whole lines of a block are answered, what it leaves is carried over.
 use crate::ENOUGH;
 use crate::LONGEST;
-use crate::Num;
 use crate::Signed;
 use crate::TickLine;
 use crate::answer;
@@ -9,6 +8,7 @@ use crate::calls;
 use crate::print;
 use crate::read;
 use controller::Controller;
+use text::Num;
 ghost use mathlib.Core.Path.{_≡_};
 ghost use Prim.Native.Nat.{_-_, _≤_};
 ghost use lib.Dec.{ltb};
@@ -65,16 +65,16 @@ fn line_end(block: &[u8], at: usize) -> usize
 fn tick_line(block: &[u8], at: usize) -> TickLine
     ensures { λ r. ⌜ TickAt (now (block .entry)) at r ⌝ }
 {
-    if read::byte_at(block, at) != b'T' {
+    if text::byte_at(block, at) != b'T' {
         return TickLine::Other;
     }
     let Signed::Good(sample, after) = read::signed_at(block, at + 1) else {
         return TickLine::Other;
     };
-    let Num::Good(inputs, end) = read::field_at(block, after, 255) else {
+    let Num::Good(inputs, end) = text::field_at(block, after, 255) else {
         return TickLine::Other;
     };
-    if read::byte_at(block, end) != LF {
+    if text::byte_at(block, end) != LF {
         return TickLine::Other;
     }
     TickLine::Tick(sample, inputs as u8, end)

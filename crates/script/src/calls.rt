@@ -2,7 +2,6 @@
 use crate::Answered;
 use crate::Flag;
 use crate::LinkCall;
-use crate::Num;
 use crate::RestartCall;
 use crate::Set;
 use crate::SetCall;
@@ -17,6 +16,7 @@ use controller::ResetAnswer;
 use controller::RestartAnswer;
 use controller::SetAnswer;
 use controller::TickAnswer;
+use text::Num;
 ghost use mathlib.Core.Path.{_≡_};
 ghost use Prim.Native.Nat.{_≤_};
 ghost use lib.ListN.{length, drop};
@@ -37,7 +37,7 @@ fn read_tick(line: &[u8]) -> TickCall
     let Signed::Good(sample, after) = read::signed_at(line, 1) else {
         return TickCall::Unknown;
     };
-    let Num::Good(inputs, end) = read::field_at(line, after, 255) else {
+    let Num::Good(inputs, end) = text::field_at(line, after, 255) else {
         return TickCall::Unknown;
     };
     if end < line.len() {
@@ -202,10 +202,10 @@ fn read_restart(line: &[u8]) -> RestartCall
     let Set::Good(set, after_set) = read::set_at(line, 1) else {
         return RestartCall::Unknown;
     };
-    let Num::Good(count, after_count) = read::field_at(line, after_set, read::GREATEST) else {
+    let Num::Good(count, after_count) = text::field_at(line, after_set, read::GREATEST) else {
         return RestartCall::Unknown;
     };
-    let Num::Good(total, end) = read::field_at(line, after_count, read::GREATEST) else {
+    let Num::Good(total, end) = text::field_at(line, after_count, read::GREATEST) else {
         return RestartCall::Unknown;
     };
     if end < line.len() {

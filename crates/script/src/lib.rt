@@ -29,12 +29,7 @@ pub struct Answered {
     pub len: usize,
 }
 
-// A number read at a place: its value and the place after it, or none.
-enum Num {
-    Good(u32, usize),
-    Bad,
-}
-
+// A number that may be below 0, read at a place: its value and the place after it, or none.
 enum Signed {
     Good(i32, usize),
     Bad,

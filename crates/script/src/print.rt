@@ -1,11 +1,11 @@
 // The fields of an answer, put into a lent buffer that has room for them.
 ghost use mathlib.Core.Path.{_≡_};
 ghost use mathlib.Core.List.{[], _∷_, _++_};
-ghost use Prim.Native.Nat.{_+_, _*_, _≤_, _<_};
+ghost use Prim.Native.Nat.{_+_, _*_, _≤_};
 ghost use lib.IntN.{natAbs};
 ghost use lib.ListN.{length};
 ghost use Rattle.laws.specs.Pick.{pick};
-ghost use Rattle.laws.specs.Decimal.{glyph, decimal, hexOf};
+ghost use Rattle.laws.specs.Decimal.{decimal, hexOf};
 ghost use Rattle.script.specs.Answer.{bytesText, signedText, lineText, valuesText};
 ghost use Rattle.script.specs.Print.{Prints, pieces, fieldOf};
 
@@ -70,23 +70,12 @@ pub(crate) fn put_values(out: &mut [u8], letter: u8, values: &[u64]) -> usize
     put_byte(out, after, LF)
 }
 
-// The ASCII code of a hexadecimal digit, in upper case.
-fn hex_digit(d: u8) -> u8
-    requires { ⌜ d < 16 ⌝ }
-    ensures { λ r. ⌜ r ≡ glyph d ⌝ }
+// The last hexadecimal digits of n.
+fn put_hex(out: &mut [u8], at: usize, digits: usize, n: u64) -> usize
+    requires { ⌜ at + digits ≤ length (now out) ⌝ }
+    ensures { λ r. ⌜ Prints digits (now (out .entry)) at (hexOf digits n) (now (out .exit)) r ⌝ }
 {
-    if d < 10 { 48 + d } else { 55 + d }
-}
-
-// The two hexadecimal digits of a byte.
-fn put_hex(out: &mut [u8], at: usize, b: u8) -> usize
-    requires { ⌜ at + 2 ≤ length (now out) ⌝ }
-    ensures { λ r. ⌜ Prints 2 (now (out .entry)) at (hexOf 2 b) (now (out .exit)) r ⌝ }
-{
-    let high = hex_digit(b / 16);
-    let low = hex_digit(b % 16);
-    let after = put_byte(out, at, high);
-    put_byte(out, after, low)
+    text::put_hex(out, at, digits, n)
 }
 
 // Bytes, two digits a byte.
@@ -97,7 +86,7 @@ fn put_bytes(out: &mut [u8], at: usize, bytes: &[u8]) -> usize
     let mut p = at;
     let mut i: usize = 0;
     while i < bytes.len() {
-        p = put_hex(out, p, bytes[i]);
+        p = put_hex(out, p, 2, bytes[i] as u64);
         i += 1;
     }
     p
@@ -158,21 +147,13 @@ pub(crate) fn flag(on: bool) -> u64
     if on { 1 } else { 0 }
 }
 
-// The 16 hexadecimal digits of n.
-fn put_hex16(out: &mut [u8], at: usize, n: u64) -> usize
-    requires { ⌜ at + 16 ≤ length (now out) ⌝ }
-    ensures { λ r. ⌜ Prints 16 (now (out .entry)) at (hexOf 16 n) (now (out .exit)) r ⌝ }
-{
-    text::put_hex16(out, at, n)
-}
-
 // A tab and the 16 hexadecimal digits of n.
 fn put_bits(out: &mut [u8], at: usize, n: u64) -> usize
     requires { ⌜ at + 17 ≤ length (now out) ⌝ }
     ensures { λ r. ⌜ Prints 17 (now (out .entry)) at (9 ∷ hexOf 16 n) (now (out .exit)) r ⌝ }
 {
     let after = put_byte(out, at, TAB);
-    put_hex16(out, after, n)
+    put_hex(out, after, 16, n)
 }
 
 // The whole line of M and the bits of three figures.

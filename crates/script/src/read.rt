@@ -1,18 +1,17 @@
 // Numbers and bytes, read at a place of a line.
 use crate::Bytes;
 use crate::Flag;
-use crate::Num;
 use crate::Numbers;
 use crate::Set;
 use crate::Signed;
 use settings::Settings;
+use text::Num;
 ghost use mathlib.Core.Path.{_≡_};
 ghost use mathlib.Core.Bool.{true};
 ghost use Prim.Native.Nat.{_*_, _≤_};
-ghost use lib.ListN.{length, drop, getD};
-ghost use Rattle.laws.specs.Decimal.{isDigit, numberAt};
+ghost use lib.ListN.{length, drop};
+ghost use Rattle.laws.specs.Decimal.{numberAt};
 ghost use Rattle.settings.specs.Cases.{setOf};
-ghost use Rattle.text.specs.Scan.{fieldAt, leads};
 ghost use Rattle.script.specs.Call.{minus, plus, isHex, hexValue, bytesAt};
 ghost use Rattle.script.specs.Reading.{leadsSigned, leadsFlag, leadsSet, Decodes, Counts, signedFieldAt, flagAt, bytesFieldAt, numbersAt, setAt};
 
@@ -23,62 +22,11 @@ const MINUS: u8 = 45;
 // The greatest number.
 pub(crate) const GREATEST: u32 = 4294967295;
 
-// The byte at a place, 0 past the end.
-pub(crate) fn byte_at(s: &[u8], at: usize) -> u8
-    ensures { λ r. ⌜ r ≡ getD (now (s .entry)) at 0 ⌝ }
-{
-    if at < s.len() { s[at] } else { 0 }
-}
-
-// Whether a byte is a digit.
-fn is_digit(b: u8) -> bool
-    ensures { λ r. ⌜ r ≡ isDigit b ⌝ }
-{
-    if b < 48 {
-        return false;
-    }
-    b <= 57
-}
-
-// The number at a place, each byte looked at once; it is refused as soon as it is above `most`.
-fn number_at(s: &[u8], at: usize, most: u32) -> Num
-    ensures { λ r. ⌜ numberAt most (drop at (now (s .entry))) ≡ leads (now (s .entry)) r ⌝ }
-{
-    let first = byte_at(s, at);
-    if !is_digit(first) {
-        return Num::Bad;
-    }
-    if first <= 48 {
-        return Num::Good(0, at + 1);
-    }
-    let mut v = (first - 48) as u64;
-    let mut i = at + 1;
-    while v <= most as u64 {
-        let b = byte_at(s, i);
-        if !is_digit(b) {
-            return Num::Good(v as u32, i);
-        }
-        v = v * 10 + (b - 48) as u64;
-        i += 1;
-    }
-    Num::Bad
-}
-
-// A tab and a number at a place.
-pub(crate) fn field_at(s: &[u8], at: usize, most: u32) -> Num
-    ensures { λ r. ⌜ fieldAt most (drop at (now (s .entry))) ≡ leads (now (s .entry)) r ⌝ }
-{
-    if byte_at(s, at) != TAB {
-        return Num::Bad;
-    }
-    number_at(s, at + 1, most)
-}
-
 // A tab and 0 or 1 at a place.
 pub(crate) fn flag_at(s: &[u8], at: usize) -> Flag
     ensures { λ r. ⌜ flagAt (drop at (now (s .entry))) ≡ leadsFlag (now (s .entry)) r ⌝ }
 {
-    let Num::Good(v, next) = field_at(s, at, 1) else {
+    let Num::Good(v, next) = text::field_at(s, at, 1) else {
         return Flag::Bad;
     };
     Flag::Good(v == 1, next)
@@ -88,7 +36,7 @@ pub(crate) fn flag_at(s: &[u8], at: usize) -> Flag
 fn minus_at(s: &[u8], at: usize) -> Signed
     ensures { λ r. ⌜ minus (numberAt 2147483648 (drop at (now (s .entry)))) ≡ leadsSigned (now (s .entry)) r ⌝ }
 {
-    let Num::Good(v, next) = number_at(s, at, 2147483648) else {
+    let Num::Good(v, next) = text::number_at(s, at, 2147483648) else {
         return Signed::Bad;
     };
     if v == 0 {
@@ -101,7 +49,7 @@ fn minus_at(s: &[u8], at: usize) -> Signed
 fn plus_at(s: &[u8], at: usize) -> Signed
     ensures { λ r. ⌜ plus (numberAt 2147483647 (drop at (now (s .entry)))) ≡ leadsSigned (now (s .entry)) r ⌝ }
 {
-    let Num::Good(v, next) = number_at(s, at, 2147483647) else {
+    let Num::Good(v, next) = text::number_at(s, at, 2147483647) else {
         return Signed::Bad;
     };
     Signed::Good(v as i32, next)
@@ -111,10 +59,10 @@ fn plus_at(s: &[u8], at: usize) -> Signed
 pub(crate) fn signed_at(s: &[u8], at: usize) -> Signed
     ensures { λ r. ⌜ signedFieldAt (drop at (now (s .entry))) ≡ leadsSigned (now (s .entry)) r ⌝ }
 {
-    if byte_at(s, at) != TAB {
+    if text::byte_at(s, at) != TAB {
         return Signed::Bad;
     }
-    if byte_at(s, at + 1) == MINUS {
+    if text::byte_at(s, at + 1) == MINUS {
         return minus_at(s, at + 2);
     }
     plus_at(s, at + 1)
@@ -124,7 +72,7 @@ pub(crate) fn signed_at(s: &[u8], at: usize) -> Signed
 fn is_hex(b: u8) -> bool
     ensures { λ r. ⌜ r ≡ isHex b ⌝ }
 {
-    if is_digit(b) {
+    if text::is_digit(b) {
         return true;
     }
     if b < 65 {
@@ -138,7 +86,7 @@ fn hex_value(b: u8) -> u8
     requires { ⌜ isHex b ≡ true ⌝ }
     ensures { λ r. ⌜ (r ≡ hexValue b) × (r ≤ 15) ⌝ }
 {
-    if is_digit(b) { b - 48 } else { b - 55 }
+    if text::is_digit(b) { b - 48 } else { b - 55 }
 }
 
 // The bytes up to the next tab or the end, decoded into `out`.
@@ -153,7 +101,7 @@ fn bytes_from(s: &[u8], at: usize, out: &mut [u8]) -> Bytes
         if high == TAB {
             return Bytes::Good(n, p);
         }
-        let low = byte_at(s, p + 1);
+        let low = text::byte_at(s, p + 1);
         if !is_hex(high) {
             return Bytes::Bad;
         }
@@ -172,7 +120,7 @@ pub(crate) fn bytes_at(s: &[u8], at: usize, out: &mut [u8]) -> Bytes
     requires { ⌜ length (now s) ≤ 2 * length (now out) ⌝ }
     ensures { λ r. ⌜ Decodes (now (s .entry)) (bytesFieldAt (drop at (now (s .entry)))) (now (out .exit)) (now (out .entry)) r ⌝ }
 {
-    if byte_at(s, at) != TAB {
+    if text::byte_at(s, at) != TAB {
         return Bytes::Bad;
     }
     bytes_from(s, at + 1, out)
@@ -187,7 +135,7 @@ pub(crate) fn numbers_at(s: &[u8], at: usize, n: usize) -> Numbers
     let mut k: usize = 0;
     let mut p = at;
     while k < n {
-        let Num::Good(v, next) = field_at(s, p, GREATEST) else {
+        let Num::Good(v, next) = text::field_at(s, p, GREATEST) else {
             return Numbers {
                 good: false,
                 next: 0,

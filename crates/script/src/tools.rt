@@ -4,7 +4,6 @@ use crate::BytesCall;
 use crate::FieldCall;
 use crate::Flag;
 use crate::LineCall;
-use crate::Num;
 use crate::RoomCall;
 use crate::Signed;
 use crate::WeightCall;
@@ -20,6 +19,7 @@ use frame::Wrote as Framed;
 use journal::Line;
 use journal::One;
 use journal::Wrote;
+use text::Num;
 ghost use mathlib.Core.Path.{_≡_};
 ghost use mathlib.Core.List.{[]};
 ghost use Prim.Native.Nat.{_*_, _≤_};
@@ -71,7 +71,7 @@ fn read_weight(line: &[u8]) -> WeightCall
     let Flag::Good(over, after_over) = read::flag_at(line, after_stable) else {
         return WeightCall::Unknown;
     };
-    let Num::Good(point, end) = read::field_at(line, after_over, 255) else {
+    let Num::Good(point, end) = text::field_at(line, after_over, 255) else {
         return WeightCall::Unknown;
     };
     if end < line.len() {
@@ -166,7 +166,7 @@ pub(crate) fn read_room(line: &[u8], bytes: &mut [u8], most: u32) -> RoomCall
     let Bytes::Good(n, after) = read::bytes_at(line, 1, bytes) else {
         return RoomCall::Unknown;
     };
-    let Num::Good(room, end) = read::field_at(line, after, most) else {
+    let Num::Good(room, end) = text::field_at(line, after, most) else {
         return RoomCall::Unknown;
     };
     if end < line.len() {
@@ -252,7 +252,7 @@ fn read_dose(line: &[u8]) -> LineCall
     if !numbers.good {
         return LineCall::Unknown;
     }
-    let Num::Good(room, end) = read::field_at(line, numbers.next, 64) else {
+    let Num::Good(room, end) = text::field_at(line, numbers.next, 64) else {
         return LineCall::Unknown;
     };
     if end < line.len() {
@@ -274,10 +274,10 @@ fn read_dose(line: &[u8]) -> LineCall
 fn read_on(line: &[u8]) -> LineCall
     ensures { λ r. ⌜ ReadsLine (atEnd (onAt (drop 1 (now (line .entry))))) r ⌝ }
 {
-    let Num::Good(hour, after) = read::field_at(line, 1, read::GREATEST) else {
+    let Num::Good(hour, after) = text::field_at(line, 1, read::GREATEST) else {
         return LineCall::Unknown;
     };
-    let Num::Good(room, end) = read::field_at(line, after, 64) else {
+    let Num::Good(room, end) = text::field_at(line, after, 64) else {
         return LineCall::Unknown;
     };
     if end < line.len() {

@@ -2,14 +2,14 @@
 use mathlib.Core.Path.{_≡_, refl, sym, ap, _∙_}
 use mathlib.Core.Bool.{Bool}
 use mathlib.Core.List.{List, [], _∷_}
-use Prim.Native.Nat.{ℕ, _+_, _-_, _≤_, _<_}
+use Prim.Native.Nat.{ℕ, _+_, _≤_, _<_}
 use native.Mathlib.Omega.{arith}
 use native.Mathlib.Numerals.{add-one}
 use native.Mathlib.Decide.{decLt}
 use lib.ListN.{length, getD, drop, length-drop, drop-of-length-le, List·getD-eq-default}
 use lib.Seq.{drop-cons}
 use borrow.Author.Tests.{eq-eqb, ne-eqb}
-use Rattle.laws.specs.Pick.{pick, pick-t, pick-f}
+use Rattle.laws.specs.Pick.{pick-t, pick-f}
 use Rattle.laws.specs.Decimal.{Parsed, good, bad, isDigit}
 use Rattle.paper.specs.Answer.{same}
 use Rattle.text.specs.Scan.{expect, leads, placeAfter, Scans}

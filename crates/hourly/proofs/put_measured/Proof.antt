@@ -27,8 +27,8 @@ put-decimal-requires-2 c κs = search needs
 put-byte-requires-4 : tie.Need-put-byte-requires-4
 put-byte-requires-4 c κs = search needs
 
-put-hex16-requires : tie.Need-put-hex16-requires
-put-hex16-requires c κs = search needs
+put-hex-requires : tie.Need-put-hex-requires
+put-hex-requires c κs = search needs
 
 put-byte-requires-5 : tie.Need-put-byte-requires-5
 put-byte-requires-5 c κs = search needs
@@ -53,7 +53,7 @@ returns c =
     (λ h. put-then (TAB ∷ []) t4 h (c .before .before .before .before .before .before .before .before .before .before .before .before .before .before .before .before .before .before .put-byte3 .ensures)
     (λ h. put-then (decimal (a .sum)) t5 h (c .before .before .before .before .before .before .before .before .before .before .before .before .before .before .put-decimal2 .ensures)
     (λ h. put-then (TAB ∷ []) t6 h (c .before .before .before .before .before .before .before .before .before .before .put-byte4 .ensures)
-    (λ h. put-then (hexOf 16 (a .bits)) t7 h (c .before .before .before .before .before .before .put-hex16 .ensures)
+    (λ h. put-then (hexOf 16 (a .bits)) t7 h (c .before .before .before .before .before .before .put-hex .ensures)
     (λ h. c .before .before .put-byte5 .ensures)))))))
 
 pub put-measured-spec : {M : Type 1} → statement M
@@ -66,7 +66,7 @@ put-measured-spec =
     put-byte-requires-3
     put-decimal-requires-2
     put-byte-requires-4
-    put-hex16-requires
+    put-hex-requires
     put-byte-requires-5
     same-length
     returns)

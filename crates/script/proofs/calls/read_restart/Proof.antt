@@ -15,8 +15,8 @@ read c =
     let s = now (c .before .before .before .before .before .before .before .before .before .before .before .before .before .args .line) in
     restart-direct _
     ∙ on-good _ (c .before .before .before .before .before .before .before .before .before .before .before .set-at .ensures ∙ ap (leadsSet s) (c .before .before .before .before .before .before .before .before .before .set .given .1))
-    ∙ on-good _ (c .before .before .before .before .before .before .before .field-at .ensures ∙ ap (leads s) (c .before .before .before .before .before .count .given .1))
-    ∙ on-good _ (c .before .before .before .field-at2 .ensures ∙ ap (leads s) (c .before .total .given .1))
+    ∙ on-good _ (c .before .before .before .before .before .before .before .field-at .ensures .reads ∙ ap (leads s) (c .before .before .before .before .before .count .given .1))
+    ∙ on-good _ (c .before .before .before .field-at2 .ensures .reads ∙ ap (leads s) (c .before .total .given .1))
 
 returns : tie.Need-returns
 unfolding atEnd
@@ -29,7 +29,7 @@ returns-2 c =
     ap atEnd
     (restart-direct _
     ∙ on-good _ (c .before .before .before .before .before .before .set-at .ensures ∙ ap (leadsSet s) (c .before .before .before .before .set .given .1))
-    ∙ on-bad _ (c .before .before .field-at .ensures ∙ ap (leads s) (c .enum-told2 .given .1)))
+    ∙ on-bad _ (c .before .before .field-at .ensures .reads ∙ ap (leads s) (c .enum-told2 .given .1)))
 
 returns-3 : tie.Need-returns-3
 unfolding atEnd
@@ -38,8 +38,8 @@ returns-3 c =
     ap atEnd
     (restart-direct _
     ∙ on-good _ (c .before .before .before .before .before .before .before .before .before .before .set-at .ensures ∙ ap (leadsSet s) (c .before .before .before .before .before .before .before .before .set .given .1))
-    ∙ on-good _ (c .before .before .before .before .before .before .field-at .ensures ∙ ap (leads s) (c .before .before .before .before .count .given .1))
-    ∙ on-bad _ (c .before .before .field-at2 .ensures ∙ ap (leads s) (c .enum-told3 .given .1)))
+    ∙ on-good _ (c .before .before .before .before .before .before .field-at .ensures .reads ∙ ap (leads s) (c .before .before .before .before .count .given .1))
+    ∙ on-bad _ (c .before .before .field-at2 .ensures .reads ∙ ap (leads s) (c .enum-told3 .given .1)))
 
 returns-4 : tie.Need-returns-4
 returns-4 c = ap atEnd (read (c .before)) ∙ past-end _ (now (c .before .before .before .before .before .before .before .before .before .before .before .before .before .before .args .line)) _ (c .if1 .taken)

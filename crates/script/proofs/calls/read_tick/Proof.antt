@@ -18,7 +18,7 @@ use Rattle.script.proofs.calls.read_tick.Statement.{statement}
 use Rattle.script.proofs.calls.read_tick.Tie as tie
 
 field : (c : tie.After-known-told2) → fieldAt 255 (drop (c .before .before .before .before .before .sample .given .0 .1 .0) (now (c .before .before .before .before .before .before .before .before .before .args .line))) ≡ good (c .before .inputs .given .0 .0) (drop (c .before .inputs .given .0 .1 .0) (now (c .before .before .before .before .before .before .before .before .before .args .line)))
-field c = c .before .before .before .field-at .ensures ∙ ap (leads (now (c .before .before .before .before .before .before .before .before .before .args .line))) (c .before .inputs .given .1)
+field c = c .before .before .before .field-at .ensures .reads ∙ ap (leads (now (c .before .before .before .before .before .before .before .before .before .args .line))) (c .before .inputs .given .1)
 
 read : (c : tie.After-known-told2) → tickAt (drop 1 (now (c .before .before .before .before .before .before .before .before .before .args .line))) ≡ good (tick (c .before .before .before .before .before .sample .given .0 .0) (c .before .inputs .given .0 .0)) (drop (c .before .inputs .given .0 .1 .0) (now (c .before .before .before .before .before .before .before .before .before .args .line)))
 read c =
@@ -40,7 +40,7 @@ returns-2 c =
     ap atEnd
     (tick-direct _
     ∙ on-good _ (c .before .before .before .before .before .before .signed-at .ensures ∙ ap (leadsSigned s) (c .before .before .before .before .sample .given .1))
-    ∙ on-bad _ (c .before .before .field-at .ensures ∙ ap (leads s) (c .enum-told2 .given .1)))
+    ∙ on-bad _ (c .before .before .field-at .ensures .reads ∙ ap (leads s) (c .enum-told2 .given .1)))
 
 returns-3 : tie.Need-returns-3
 returns-3 c = ap atEnd (read (c .before)) ∙ past-end _ (now (c .before .before .before .before .before .before .before .before .before .before .args .line)) _ (c .if1 .taken)

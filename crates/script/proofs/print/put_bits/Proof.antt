@@ -4,13 +4,13 @@ use Rattle.script.proofs.print.put_bits.Statement.{statement}
 use Rattle.script.proofs.print.put_bits.Tie as tie
 
 returns : tie.Need-returns
-returns c = prints-then (c .before .before .before .before .before .before .put-byte .ensures) (c .before .before .put-hex16 .ensures)
+returns c = prints-then (c .before .before .before .before .before .before .put-byte .ensures) (c .before .before .put-hex .ensures)
 
 put-byte-requires : tie.Need-put-byte-requires
 put-byte-requires c κs = search needs
 
-put-hex16-requires : tie.Need-put-hex16-requires
-put-hex16-requires c κs = search needs
+put-hex-requires : tie.Need-put-hex-requires
+put-hex-requires c κs = search needs
 
 same-length : tie.Need-same-length
 same-length c = search needs
@@ -20,6 +20,6 @@ put-bits-spec =
     tie.close
     (tie.spec
     put-byte-requires
-    put-hex16-requires
+    put-hex-requires
     same-length
     returns)

@@ -29,6 +29,9 @@ returns c = prints-text (sym (bytes-pieces _)) (putting-all (c .loop-test .left)
 shared-slice-read-put-hex : tie.Need-shared-slice-read-put-hex Inv-loop μ-loop
 shared-slice-read-put-hex c = search needs
 
+cast-put-hex : tie.Need-cast-put-hex Inv-loop μ-loop
+cast-put-hex c = omega (arith, c .shared-slice-known2 .given (c .before .before .before .loop .i))
+
 put-hex-requires : tie.Need-put-hex-requires Inv-loop μ-loop
 put-hex-requires c κs = search needs
 
@@ -49,6 +52,7 @@ put-bytes-spec =
     μ-loop
     loop-holds
     shared-slice-read-put-hex
+    cast-put-hex
     put-hex-requires
     add-i
     loop-less

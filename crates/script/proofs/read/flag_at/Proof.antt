@@ -8,11 +8,11 @@ use Rattle.script.proofs.read.flag_at.Tie as tie
 
 returns : tie.Need-returns
 unfolding flagAt
-returns c = on-bad _ (c .before .before .field-at .ensures ∙ ap (leads (now (c .before .before .before .before .args .s))) (c .enum-told .given .1))
+returns c = on-bad _ (c .before .before .field-at .ensures .reads ∙ ap (leads (now (c .before .before .before .before .args .s))) (c .enum-told .given .1))
 
 returns-2 : tie.Need-returns-2
 unfolding flagAt
-returns-2 c = on-good _ (c .before .before .before .field-at .ensures ∙ ap (leads (now (c .before .before .before .before .before .args .s))) (c .before .v .given .1))
+returns-2 c = on-good _ (c .before .before .before .field-at .ensures .reads ∙ ap (leads (now (c .before .before .before .before .before .args .s))) (c .before .v .given .1))
 
 field-at-requires : tie.Need-field-at-requires
 field-at-requires c κs = search needs

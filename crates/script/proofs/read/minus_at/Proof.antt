@@ -14,7 +14,7 @@ use Rattle.script.proofs.read.minus_at.Statement.{statement}
 use Rattle.script.proofs.read.minus_at.Tie as tie
 
 read : (c : tie.After-known-told) → numberAt 2147483648 (drop (c .before .before .before .before .before .args .at) (now (c .before .before .before .before .before .args .s))) ≡ good (c .before .v .given .0 .0) (drop (c .before .v .given .0 .1 .0) (now (c .before .before .before .before .before .args .s)))
-read c = c .before .before .before .number-at .ensures ∙ ap (leads (now (c .before .before .before .before .before .args .s))) (c .before .v .given .1)
+read c = c .before .before .before .number-at .ensures .reads ∙ ap (leads (now (c .before .before .before .before .before .args .s))) (c .before .v .given .1)
 
 most : (c : tie.Else1) → c .before .before .v .given .0 .0 ≤ 2147483648
 most c = number-most 2147483648 _ (read (c .before))
@@ -24,7 +24,7 @@ some c = let h = c .if1 .left in omega arith
 
 returns : tie.Need-returns
 unfolding minus
-returns c = ap minus (c .before .before .number-at .ensures ∙ ap (leads (now (c .before .before .before .before .args .s))) (c .enum-told .given .1))
+returns c = ap minus (c .before .before .number-at .ensures .reads ∙ ap (leads (now (c .before .before .before .before .args .s))) (c .enum-told .given .1))
 
 returns-2 : tie.Need-returns-2
 unfolding minus

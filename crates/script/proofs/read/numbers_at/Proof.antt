@@ -26,7 +26,7 @@ returns c =
     let s = now (c .before .before .before .before .before .before .args .s) in
     let h = c .before .before .before .before .loop in
     record {
-      reads = left-bad s (c .before .before .before .before .before .before .args .at) (c .before .before .before .before .before .before .args .n) (h .values) (h .k) (h .p) (h .inv .2) (c .before .before .before .loop-test .taken) (c .before .before .field-at .ensures ∙ ap (leads s) (c .enum-told .given .1)) ∙ sym (pick-false _ _);
+      reads = left-bad s (c .before .before .before .before .before .before .args .at) (c .before .before .before .before .before .before .args .n) (h .values) (h .k) (h .p) (h .inv .2) (c .before .before .before .loop-test .taken) (c .before .before .field-at .ensures .reads ∙ ap (leads s) (c .enum-told .given .1)) ∙ sym (pick-false _ _);
       all = h .inv .1;
     }
 
@@ -38,7 +38,7 @@ loop-again c =
     let s = now (c .before .before .before .before .before .before .before .args .s) in
     let h = c .before .before .before .before .before .loop in
     let l : h .k < length (h .values) = omega (arith, c .before .before .before .before .loop-test .taken, c .before .before .before .before .before .before .before .pre, h .inv .1) in
-    (omega (arith, c .before .before .before .before .loop-test .taken), length-set (h .values) (h .k) _ ∙ h .inv .1, left-more s (c .before .before .before .before .before .before .before .args .at) (c .before .before .before .before .before .before .before .args .n) (h .values) (h .k) (h .p) (h .inv .2) (c .before .v .given .0 .0) (c .before .v .given .0 .1 .0) (c .before .before .before .before .loop-test .taken) l (c .before .before .before .field-at .ensures ∙ ap (leads s) (c .before .v .given .1)))
+    (omega (arith, c .before .before .before .before .loop-test .taken), length-set (h .values) (h .k) _ ∙ h .inv .1, left-more s (c .before .before .before .before .before .before .before .args .at) (c .before .before .before .before .before .before .before .args .n) (h .values) (h .k) (h .p) (h .inv .2) (c .before .v .given .0 .0) (c .before .v .given .0 .1 .0) (c .before .before .before .before .loop-test .taken) l (c .before .before .before .field-at .ensures .reads ∙ ap (leads s) (c .before .v .given .1)))
 
 returns-2 : tie.Need-returns-2 Inv-loop μ-loop
 returns-2 c =

@@ -17,14 +17,14 @@ use Rattle.script.proofs.read.plus_at.Statement.{statement}
 use Rattle.script.proofs.read.plus_at.Tie as tie
 
 read : (c : tie.After-known-told) → numberAt 2147483647 (drop (c .before .before .before .before .before .args .at) (now (c .before .before .before .before .before .args .s))) ≡ good (c .before .v .given .0 .0) (drop (c .before .v .given .0 .1 .0) (now (c .before .before .before .before .before .args .s)))
-read c = c .before .before .before .number-at .ensures ∙ ap (leads (now (c .before .before .before .before .before .args .s))) (c .before .v .given .1)
+read c = c .before .before .before .number-at .ensures .reads ∙ ap (leads (now (c .before .before .before .before .before .args .s))) (c .before .v .given .1)
 
 most : (c : tie.After-known-told) → c .before .v .given .0 .0 ≤ 2147483647
 most c = number-most 2147483647 _ (read c)
 
 returns : tie.Need-returns
 unfolding plus
-returns c = ap plus (c .before .before .number-at .ensures ∙ ap (leads (now (c .before .before .before .before .args .s))) (c .enum-told .given .1))
+returns c = ap plus (c .before .before .number-at .ensures .reads ∙ ap (leads (now (c .before .before .before .before .args .s))) (c .enum-told .given .1))
 
 cast-t6 : tie.Need-cast-t6
 cast-t6 c = let m = most c in fits32 (pos (c .before .v .given .0 .0)) (omega arith)

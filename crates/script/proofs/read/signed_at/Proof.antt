@@ -2,7 +2,7 @@ use mathlib.Core.Path.{_≡_, sym, ap, _∙_}
 use Prim.Native.Nat.{ℕ, _+_, _<_}
 use native.Mathlib.Omega.{arith}
 use denote.Ref.{now}
-use lib.ListN.{length, drop, getD}
+use lib.ListN.{length, drop}
 use Rattle.laws.specs.Decimal.{numberAt}
 use Rattle.text.specs.Scan.{TAB}
 use Rattle.text.specs.ScanLaws.{byte-inside, expect-hit, expect-miss}

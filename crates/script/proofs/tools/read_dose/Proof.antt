@@ -19,7 +19,7 @@ four : (c : tie.Else1) → numbersAt 4 (drop 1 (now (c .before .before .before .
 four c = c .before .before .numbers-at .ensures .reads ∙ pick-t _ _ _ (not-false _ (c .if1 .left))
 
 field : (c : tie.After-known-told) → fieldAt 64 (drop (c .before .before .before .before .before .before .numbers-at .result .next) (now (c .before .before .before .before .before .before .before .before .args .line))) ≡ good (c .before .room .given .0 .0) (drop (c .before .room .given .0 .1 .0) (now (c .before .before .before .before .before .before .before .before .args .line)))
-field c = c .before .before .before .field-at .ensures ∙ ap (leads (now (c .before .before .before .before .before .before .before .before .args .line))) (c .before .room .given .1)
+field c = c .before .before .before .field-at .ensures .reads ∙ ap (leads (now (c .before .before .before .before .before .before .before .before .args .line))) (c .before .room .given .1)
 
 returns : tie.Need-returns
 unfolding atEnd
@@ -28,7 +28,7 @@ returns c = record { reads = ap atEnd (dose-direct _ ∙ on-bad _ (c .before .be
 returns-2 : tie.Need-returns-2
 unfolding atEnd
 returns-2 c =
-    record { reads = ap atEnd (dose-direct _ ∙ on-good _ (four (c .before .before .before)) ∙ on-bad _ (c .before .before .field-at .ensures ∙ ap (leads (now (c .before .before .before .before .before .before .before .args .line))) (c .enum-told .given .1))); room = omega arith }
+    record { reads = ap atEnd (dose-direct _ ∙ on-good _ (four (c .before .before .before)) ∙ on-bad _ (c .before .before .field-at .ensures .reads ∙ ap (leads (now (c .before .before .before .before .before .before .before .args .line))) (c .enum-told .given .1))); room = omega arith }
 
 returns-3 : tie.Need-returns-3
 returns-3 c =

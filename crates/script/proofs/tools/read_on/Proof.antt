@@ -13,27 +13,27 @@ use Rattle.script.proofs.tools.read_on.Statement.{statement}
 use Rattle.script.proofs.tools.read_on.Tie as tie
 
 field : (c : tie.After-known-told2) → fieldAt 64 (drop (c .before .before .before .before .before .hour .given .0 .1 .0) (now (c .before .before .before .before .before .before .before .before .before .args .line))) ≡ good (c .before .room .given .0 .0) (drop (c .before .room .given .0 .1 .0) (now (c .before .before .before .before .before .before .before .before .before .args .line)))
-field c = c .before .before .before .field-at2 .ensures ∙ ap (leads (now (c .before .before .before .before .before .before .before .before .before .args .line))) (c .before .room .given .1)
+field c = c .before .before .before .field-at2 .ensures .reads ∙ ap (leads (now (c .before .before .before .before .before .before .before .before .before .args .line))) (c .before .room .given .1)
 
 returns : tie.Need-returns
 unfolding atEnd
-returns c = record { reads = ap atEnd (on-direct _ ∙ on-bad _ (c .before .before .field-at .ensures ∙ ap (leads (now (c .before .before .before .before .args .line))) (c .enum-told .given .1))); room = omega arith }
+returns c = record { reads = ap atEnd (on-direct _ ∙ on-bad _ (c .before .before .field-at .ensures .reads ∙ ap (leads (now (c .before .before .before .before .args .line))) (c .enum-told .given .1))); room = omega arith }
 
 returns-2 : tie.Need-returns-2
 unfolding atEnd
 returns-2 c =
     let s = now (c .before .before .before .before .before .before .before .before .args .line) in
-    record { reads = ap atEnd (on-direct _ ∙ on-good _ (c .before .before .before .before .before .before .field-at .ensures ∙ ap (leads s) (c .before .before .before .before .hour .given .1)) ∙ on-bad _ (c .before .before .field-at2 .ensures ∙ ap (leads s) (c .enum-told2 .given .1))); room = omega arith }
+    record { reads = ap atEnd (on-direct _ ∙ on-good _ (c .before .before .before .before .before .before .field-at .ensures .reads ∙ ap (leads s) (c .before .before .before .before .hour .given .1)) ∙ on-bad _ (c .before .before .field-at2 .ensures .reads ∙ ap (leads s) (c .enum-told2 .given .1))); room = omega arith }
 
 returns-3 : tie.Need-returns-3
 returns-3 c =
     let s = now (c .before .before .before .before .before .before .before .before .before .before .args .line) in
-    record { reads = ap atEnd (on-direct _ ∙ on-good _ (c .before .before .before .before .before .before .before .before .field-at .ensures ∙ ap (leads s) (c .before .before .before .before .before .before .hour .given .1)) ∙ on-good _ (field (c .before))) ∙ past-end _ s _ (c .if1 .taken); room = omega arith }
+    record { reads = ap atEnd (on-direct _ ∙ on-good _ (c .before .before .before .before .before .before .before .before .field-at .ensures .reads ∙ ap (leads s) (c .before .before .before .before .before .before .hour .given .1)) ∙ on-good _ (field (c .before))) ∙ past-end _ s _ (c .if1 .taken); room = omega arith }
 
 returns-4 : tie.Need-returns-4
 returns-4 c =
     let s = now (c .before .before .before .before .before .before .before .before .before .before .args .line) in
-    record { reads = ap atEnd (on-direct _ ∙ on-good _ (c .before .before .before .before .before .before .before .before .field-at .ensures ∙ ap (leads s) (c .before .before .before .before .before .before .hour .given .1)) ∙ on-good _ (field (c .before))) ∙ at-end _ s _ (c .if1 .left); room = field-most 64 _ (field (c .before)) }
+    record { reads = ap atEnd (on-direct _ ∙ on-good _ (c .before .before .before .before .before .before .before .before .field-at .ensures .reads ∙ ap (leads s) (c .before .before .before .before .before .before .hour .given .1)) ∙ on-good _ (field (c .before))) ∙ at-end _ s _ (c .if1 .left); room = field-most 64 _ (field (c .before)) }
 
 field-at-requires : tie.Need-field-at-requires
 field-at-requires c κs = search needs

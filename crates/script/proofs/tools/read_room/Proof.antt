@@ -12,7 +12,7 @@ use Rattle.script.proofs.tools.read_room.Statement.{statement}
 use Rattle.script.proofs.tools.read_room.Tie as tie
 
 field : (c : tie.After-known-told2) → fieldAt (c .before .before .before .before .before .before .before .before .before .before .before .before .before .args .most) (drop (c .before .before .before .before .before .n .given .0 .1 .0) (now (c .before .before .before .before .before .before .before .before .before .before .before .before .before .args .line))) ≡ good (c .before .room .given .0 .0) (drop (c .before .room .given .0 .1 .0) (now (c .before .before .before .before .before .before .before .before .before .before .before .before .before .args .line)))
-field c = c .before .before .before .field-at .ensures ∙ ap (leads (now (c .before .before .before .before .before .before .before .before .before .before .before .before .before .args .line))) (c .before .room .given .1)
+field c = c .before .before .before .field-at .ensures .reads ∙ ap (leads (now (c .before .before .before .before .before .before .before .before .before .before .before .before .before .args .line))) (c .before .room .given .1)
 
 returns : tie.Need-returns
 unfolding atEnd
@@ -24,7 +24,7 @@ returns-2 : tie.Need-returns-2
 unfolding atEnd
 returns-2 c =
     let d = c .before .before .before .before .before .before .before .before .bytes-at .ensures in
-    record { reads = λ call. ap atEnd (room-direct _ call _ ∙ on-good _ (decoded-good d (c .before .before .before .before .n .given .1) .0) ∙ on-bad _ (c .before .before .field-at .ensures ∙ ap (leads (now (c .before .before .before .before .before .before .before .before .before .before .before .before .args .line))) (c .enum-told2 .given .1))); within = tt; long = d .long }
+    record { reads = λ call. ap atEnd (room-direct _ call _ ∙ on-good _ (decoded-good d (c .before .before .before .before .n .given .1) .0) ∙ on-bad _ (c .before .before .field-at .ensures .reads ∙ ap (leads (now (c .before .before .before .before .before .before .before .before .before .before .before .before .args .line))) (c .enum-told2 .given .1))); within = tt; long = d .long }
 
 returns-3 : tie.Need-returns-3
 returns-3 c =

@@ -19,7 +19,7 @@ use Rattle.script.proofs.tools.read_weight.Statement.{statement}
 use Rattle.script.proofs.tools.read_weight.Tie as tie
 
 field : (c : tie.After-known-told4) → fieldAt 255 (drop (c .before .before .before .before .before .over .given .0 .1 .0) (now (c .before .before .before .before .before .before .before .before .before .before .before .before .before .before .before .before .before .args .line))) ≡ good (c .before .point .given .0 .0) (drop (c .before .point .given .0 .1 .0) (now (c .before .before .before .before .before .before .before .before .before .before .before .before .before .before .before .before .before .args .line)))
-field c = c .before .before .before .field-at .ensures ∙ ap (leads (now (c .before .before .before .before .before .before .before .before .before .before .before .before .before .before .before .before .before .args .line))) (c .before .point .given .1)
+field c = c .before .before .before .field-at .ensures .reads ∙ ap (leads (now (c .before .before .before .before .before .before .before .before .before .before .before .before .before .before .before .before .before .args .line))) (c .before .point .given .1)
 
 read : (c : tie.After-known-told4) → writeFieldAt (drop 1 (now (c .before .before .before .before .before .before .before .before .before .before .before .before .before .before .before .before .before .args .line))) ≡ good (writeField (weight (c .before .before .before .before .before .before .before .before .before .before .before .before .before .value .given .0 .0) (c .before .before .before .before .before .before .before .before .before .stable .given .0 .0) (c .before .before .before .before .before .over .given .0 .0) (c .before .point .given .0 .0))) (drop (c .before .point .given .0 .1 .0) (now (c .before .before .before .before .before .before .before .before .before .before .before .before .before .before .before .before .before .args .line)))
 read c =
@@ -65,7 +65,7 @@ returns-4 c =
     ∙ on-good _ (c .before .before .before .before .before .before .before .before .before .before .before .before .before .before .signed-at .ensures ∙ ap (leadsSigned s) (c .before .before .before .before .before .before .before .before .before .before .before .before .value .given .1))
     ∙ on-good _ (c .before .before .before .before .before .before .before .before .before .before .flag-at .ensures ∙ ap (leadsFlag s) (c .before .before .before .before .before .before .before .before .stable .given .1))
     ∙ on-good _ (c .before .before .before .before .before .before .flag-at2 .ensures ∙ ap (leadsFlag s) (c .before .before .before .before .over .given .1))
-    ∙ on-bad _ (c .before .before .field-at .ensures ∙ ap (leads s) (c .enum-told4 .given .1)))
+    ∙ on-bad _ (c .before .before .field-at .ensures .reads ∙ ap (leads s) (c .enum-told4 .given .1)))
 
 returns-5 : tie.Need-returns-5
 returns-5 c = ap atEnd (read (c .before)) ∙ past-end _ (now (c .before .before .before .before .before .before .before .before .before .before .before .before .before .before .before .before .before .before .args .line)) _ (c .if1 .taken)
