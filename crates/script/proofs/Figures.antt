@@ -84,7 +84,7 @@ signed-plus s p n =
 pub number-most : (most : ℕ) (l : List ℕ) {v : ℕ} {rest : List ℕ} → numberAt most l ≡ good v rest → v ≤ most
 number-most most l {v} {rest} e = number-only most l v rest e .1
 
-bad-good : {X Q : Type 0} {v : X} {rest : List ℕ} → bad ≡ good v rest → Q
+pub bad-good : {X Q : Type 0} {v : X} {rest : List ℕ} → bad ≡ good v rest → Q
 bad-good e = let z : _≡_ {A = ℕ} 0 1 = cc in let f : ⊥ = omega arith in absurd f
 
 pub field-most : (most : ℕ) (l : List ℕ) {v : ℕ} {rest : List ℕ} → fieldAt most l ≡ good v rest → v ≤ most

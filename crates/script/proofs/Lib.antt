@@ -4,3 +4,5 @@ pub mod Figures
 pub mod Lines
 pub mod Texts
 pub mod Shown
+pub mod TickLines
+pub mod Going
