@@ -6,3 +6,5 @@ pub mod Shown
 pub mod Telling
 pub mod Journals
 pub mod Letters
+pub mod TickLines
+pub mod Going

@@ -5,7 +5,7 @@ use mathlib.Core.List.{List, [], _∷_, _++_, append-assoc, append-nil}
 use Prim.Native.Nat.{ℕ, zero, suc, _+_, _-_, _≤_, _<_}
 use native.Mathlib.Omega.{arith}
 use lib.Dec.{leb, eqb}
-use lib.ListN.{length, drop, replicate, length-append, length-replicate}
+use lib.ListN.{length, take, drop, replicate, length-append, length-replicate}
 use lib.Seq.{drop-length, drop-append-add}
 use borrow.Author.Tests.{eqb-true, eqb-false, ne-eqb, ltb-true, ltb-false, le-leb, lt-leb}
 use Rattle.laws.specs.Pick.{pick, pick-t, pick-f, pick-all}
@@ -99,6 +99,15 @@ pub record Feeds (r : Replay) (block old new : List ℕ) (f : Fed) : Type 0 wher
   pub left : new ≡ over (feedOf (length old) r block .text) old
   pub sound : Sound (f .next .controller)
 
+-- the bytes from one place to another
+unfoldable pub partOf : ℕ → ℕ → List ℕ → List ℕ
+partOf from to bytes = take (to - from) (drop from bytes)
+
+-- they stand at the buffer's start, the rest of it is as it was
+pub record Carries (from to : ℕ) (old new : List ℕ) (r : ℕ) : Type 0 where
+  pub len : r ≡ length (partOf from to old)
+  pub left : new ≡ over (partOf from to old) old
+
 -- two results that both meet the contract are equal
 pub start-determined : {a b : Replay} → Starts a → Starts b → a ≡ b
 start-determined p q = same (p .is) (q .is)
@@ -106,6 +115,9 @@ start-determined p q = same (p .is) (q .is)
 pub feed-determined : {r : Replay} {block old new new' : List ℕ} {a b : Fed}
     → Feeds r block old new a → Feeds r block old new' b → (a .next ≡ b .next) × (a .used ≡ b .used) × (a .len ≡ b .len) × (new ≡ new')
 feed-determined p q = (same (p .next) (q .next), same (p .used) (q .used), same (p .len) (q .len), same (p .left) (q .left))
+
+pub carry-determined : {from to r s : ℕ} {old new new' : List ℕ} → Carries from to old new r → Carries from to old new' s → (r ≡ s) × (new ≡ new')
+carry-determined p q = (same (p .len) (q .len), same (p .left) (q .left))
 
 -- ---- a block is its lines, each with its LF, and what follows the last of them
 

@@ -5,12 +5,15 @@ use Prim.Native.Nat.{ℕ, _+_, _-_, _≤_, _<_}
 use lib.IntN.{ℤ}
 use lib.ListN.{length, getD, take, drop}
 use lib.Seq.{sets}
+use borrow.Author.Tests.{le-leb}
+use Rattle.laws.specs.Pick.{pick-t}
 use Rattle.text.specs.Scan.{LF}
 use Rattle.controller.specs.declared.Controller.{Controller}
 use Rattle.controller.specs.Sound.{Sound}
 use Rattle.script.specs.Call.{tick}
 use Rattle.script.specs.Answer.{answered, answerTo}
 use Rattle.script.specs.Input.{Plain}
+use Rattle.script.specs.Steps.{answerIn}
 use Rattle.script.specs.Blocks.{Gave}
 use Rattle.script.specs.declared.TickLine.{TickLine}
 use Rattle.script.specs.declared.TickLine.the-variants as T
@@ -19,6 +22,11 @@ use Rattle.script.specs.declared.blocks.Fed.{Fed}
 
 abbrev pub fed : Replay → ℕ → ℕ → Fed
 fed next used len = record { next = next; used = used; len = len }
+
+-- where there is room, the answer is the line's
+pub in-enough : (room : ℕ) (c : Controller) (l : List ℕ) → 4096 ≤ room → answerIn room c l ≡ answerTo c l
+unfolding answerIn
+in-enough room c l h = pick-t _ _ _ (le-leb _ _ h)
 
 -- from `at` to `end` no LF stands in the block, and at `end` an LF or nothing
 pub record EndsAt (block : List ℕ) (at end : ℕ) : Type 0 where

@@ -6,12 +6,13 @@ use Prim.Native.Nat.{ℕ, _+_, _≤_, _<_}
 use native.Mathlib.Omega.{arith}
 use lib.Dec.{eqb}
 use lib.ListN.{length, replicate, length-append}
-use borrow.Author.Tests.{ne-eqb, lt-ltb}
+use borrow.Author.Tests.{ne-eqb, lt-ltb, le-ltb}
 use Rattle.laws.specs.Pick.{pick, pick-t, pick-f}
 use Rattle.laws.specs.Decimal.{bad}
 use Rattle.text.specs.Scan.{LF}
 use Rattle.controller.specs.declared.Controller.{Controller}
 use Rattle.controller.specs.Calls.{freshOf}
+use Rattle.script.specs.Call.{callOf}
 use Rattle.script.specs.Answer.{Step, onCall, tooLong, answerTo}
 
 -- the lines, each without its LF, after a line that began with `begun`; a last line without LF is not a call
@@ -54,6 +55,11 @@ lines-whole xs begun rest p = lines-plain xs begun (LF ∷ rest) p
 pub too-long : (c : Controller) (l : List ℕ) → 4095 < length l → answerTo c l ≡ onCall c bad
 unfolding answerTo tooLong
 too-long c l h = pick-t _ _ _ (lt-ltb _ _ h)
+
+-- any other is the call that it asks
+pub by-call : (c : Controller) (l : List ℕ) → length l ≤ 4095 → answerTo c l ≡ onCall c (callOf l)
+unfolding answerTo tooLong
+by-call c l h = pick-f _ _ _ (le-ltb _ _ h)
 
 pub rest-long : (c : Controller) (a b input : List ℕ) → 4095 < length a → 4095 < length b → restOf c a input ≡ restOf c b input
 unfolding linesFrom answersTo pick

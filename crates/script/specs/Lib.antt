@@ -8,3 +8,4 @@ pub mod Cases
 pub mod Input
 pub mod Blocks
 pub mod Feeding
+pub mod BlockCases

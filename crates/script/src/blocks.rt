@@ -15,7 +15,7 @@ ghost use lib.Dec.{ltb};
 ghost use lib.ListN.{length, drop};
 ghost use Rattle.laws.specs.Pick.{pick};
 ghost use Rattle.controller.specs.Sound.{Sound};
-ghost use Rattle.script.specs.Blocks.{between, inLong, feedOf, Starts, Feeds};
+ghost use Rattle.script.specs.Blocks.{between, inLong, feedOf, Starts, Feeds, Carries};
 ghost use Rattle.script.specs.Feeding.{fed, EndsAt, TickAt, FeedsFrom};
 
 const LF: u8 = 10;
@@ -168,4 +168,21 @@ pub fn feed(r: Replay, block: &[u8], out: &mut [u8]) -> Fed
     }
     let len = print::put_values(out, b'?', &[]);
     feed_from(c, block, end + 1, out, len)
+}
+
+// Moves the bytes from one place to another to the start, and answers how many they are.
+pub fn carry(buffer: &mut [u8], from: usize, to: usize) -> usize
+    ensures { λ r. ⌜ Carries from to (now (buffer .entry)) (now (buffer .exit)) r ⌝ }
+{
+    let mut i = from;
+    let mut n: usize = 0;
+    while i < to {
+        if buffer.len() <= i {
+            return n;
+        }
+        buffer[n] = buffer[i];
+        n += 1;
+        i += 1;
+    }
+    n
 }

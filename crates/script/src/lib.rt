@@ -9,6 +9,7 @@ mod tools;
 
 pub use blocks::Fed;
 pub use blocks::Replay;
+pub use blocks::carry;
 pub use blocks::feed;
 use controller::Controller;
 use field::Field;

@@ -1,18 +1,19 @@
 use mathlib.Core.Path.{_≡_, refl, sym, ap, _∙_, subst}
 use mathlib.Core.List.{List, [], _∷_}
-use Prim.Native.Nat.{ℕ, _≤_, _<_}
+use Prim.Native.Nat.{ℕ, _<_}
 use native.Mathlib.Omega.{arith}
 use denote.Ref.{now}
 use lib.ListN.{length}
-use borrow.Author.Tests.{le-leb, lt-leb, le-ltb}
-use Rattle.laws.specs.Pick.{pick-t, pick-f}
+use borrow.Author.Tests.{lt-leb}
+use Rattle.laws.specs.Pick.{pick-f}
 use Rattle.laws.specs.Over.{over}
 use Rattle.laws.specs.Decimal.{bad}
 use Rattle.controller.specs.declared.Controller.{Controller}
 use Rattle.script.specs.Call.{callOf}
-use Rattle.script.specs.Answer.{Step, onCall, tooLong, answerTo}
-use Rattle.script.specs.Input.{too-long}
+use Rattle.script.specs.Answer.{Step, onCall, answerTo}
+use Rattle.script.specs.Input.{too-long, by-call}
 use Rattle.script.specs.Steps.{Answers, answerIn}
+use Rattle.script.specs.Feeding.{in-enough}
 use Rattle.script.specs.declared.Answered.{Answered}
 use borrow.Author.Needs.{needs}
 use Rattle.script.proofs.answer.Statement.{statement}
@@ -24,14 +25,6 @@ answers-step {s} {t} {old} {new} {r} e a = subst (λ (x : Step). Answers x old n
 in-small : (room : ℕ) (c : Controller) (l : List ℕ) → room < 4096 → answerIn room c l ≡ record { next = c; text = [] }
 unfolding answerIn
 in-small room c l h = pick-f _ _ _ (lt-leb _ _ h)
-
-in-enough : (room : ℕ) (c : Controller) (l : List ℕ) → 4096 ≤ room → answerIn room c l ≡ answerTo c l
-unfolding answerIn
-in-enough room c l h = pick-t _ _ _ (le-leb _ _ h)
-
-by-call : (c : Controller) (l : List ℕ) → length l ≤ 4095 → answerTo c l ≡ onCall c (callOf l)
-unfolding answerTo tooLong
-by-call c l h = pick-f _ _ _ (le-ltb _ _ h)
 
 no-letter : (c : Controller) (l : List ℕ) → length l ≡ 0 → answerTo c l ≡ onCall c bad
 unfolding callOf

@@ -1,0 +1,14 @@
+use mathlib.Core.Path.{ap}
+use Rattle.script.specs.Blocks.{between}
+use borrow.Author.Needs.{needs}
+use Rattle.script.proofs.blocks.Replay.start.Statement.{statement}
+use Rattle.script.proofs.blocks.Replay.start.Tie as tie
+
+fresh-requires : tie.Need-fresh-requires
+fresh-requires c κs = search needs
+
+returns : tie.Need-returns
+returns c = record { is = ap between (c .fresh .ensures .is); sound = c .fresh .ensures .sound }
+
+pub start-spec : {M : Type 1} → statement M
+start-spec = tie.close (tie.spec fresh-requires returns)
