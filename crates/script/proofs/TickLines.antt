@@ -21,7 +21,7 @@ use Rattle.script.specs.Feeding.{TickStands}
 use Rattle.text.specs.ScanLaws.{bad-good}
 use Rattle.script.proofs.Hex.{cut}
 use Rattle.script.proofs.Lines.{tick-direct}
-use Rattle.script.proofs.Scanning.{byte-inside}
+use Rattle.text.specs.ScanLaws.{byte-inside}
 
 plain-append : (a b : List ℕ) → Plain a → Plain b → Plain (a ++ b)
 plain-append [] b p q = q
