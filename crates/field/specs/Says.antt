@@ -1,6 +1,8 @@
 -- What the answers of the field's writer and reader say, in the paper's words. Assumes nothing.
 use mathlib.Core.Path.{_≡_, refl}
 use mathlib.Core.List.{List, []}
+use Prim.Native.Nat.{ℕ}
+use lib.IntN.{ℤ, natAbs}
 use Rattle.paper.specs.Answer.{Answer, done, refused, same}
 use Rattle.paper.specs.Numbers.{R16}
 use Rattle.field.specs.Field.{writeOf, readOf, echoOf}
@@ -33,6 +35,9 @@ got-one G.R16 (G.Values w) e = cc
 got-one G.R16 G.R16 e = refl
 
 -- two answers that both meet a call's contract are equal
+pub size-determined : (v : ℤ) (a b : ℕ) → a ≡ natAbs v → b ≡ natAbs v → a ≡ b
+size-determined v a b p q = same p q
+
 pub write-determined : (v : Weight) (a b : Written) → saysWritten a ≡ writeOf v → saysWritten b ≡ writeOf v → a ≡ b
 write-determined v a b p q = written-one a b (same p q)
 

@@ -33,7 +33,7 @@ pub enum Got {
 }
 
 // How far a number is from 0, at every i32.
-fn size_of(value: i32) -> u32
+pub fn size_of(value: i32) -> u32
     ensures { λ r. ⌜ r ≡ natAbs value ⌝ }
 {
     let wide = value as i64;

@@ -5,7 +5,7 @@ use mathlib.Core.List.{List, [], _∷_, _++_, append-assoc, append-nil}
 use Prim.Native.Nat.{ℕ, zero, suc, _+_, _-_, _≤_, _<_}
 use native.Mathlib.Omega.{arith}
 use native.Mathlib.Numerals.{add-one}
-use lib.IntN.{ℤ, pos, negsuc, _-ℤ_, negℤ, natAbs, +ℤ-idl, negℤ-negℤ}
+use lib.IntN.{ℤ, pos, negsuc, _-ℤ_, negℤ, natAbs, +ℤ-idl}
 use lib.Dec.{eqb}
 use lib.ListN.{length, getD, take, drop, set}
 use lib.Seq.{take-suc-set}
@@ -15,7 +15,7 @@ use mir.Syntax.{w32, w64}
 use mir.Val.{toZ, ofZ, SFits}
 use mir.Facts.{toZ-ofZ, toZ-pos}
 use Rattle.laws.specs.Pick.{pick, pick-t, pick-f}
-use Rattle.laws.specs.Whole.{below-zero, true-false, fits64, abs-neg}
+use Rattle.laws.specs.Whole.{true-false, fits64, abs-neg}
 use Rattle.laws.specs.Decimal.{Parsed, good, bad, decimal, numberAt}
 use Rattle.laws.specs.DecimalLaws.{number-only}
 use Rattle.text.specs.Scan.{expect, onGood, fieldAt}
@@ -25,9 +25,6 @@ use Rattle.script.specs.Answer.{signedText}
 use Rattle.script.specs.Reading.{on-good, on-bad, on-on, on-same, numbersAt, on-id}
 
 -- ---- signs
-
-pub turned : (w : ℤ) → ltZ w (pos 0) ≡ true → pos 0 -ℤ w ≡ pos (natAbs w)
-turned w t = +ℤ-idl (negℤ w) ∙ ap negℤ (below-zero w t) ∙ negℤ-negℤ (pos (natAbs w))
 
 pub text-minus : (w : ℤ) → ltZ w (pos 0) ≡ true → 45 ∷ decimal (natAbs w) ≡ signedText w
 unfolding signedText

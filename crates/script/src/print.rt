@@ -2,7 +2,6 @@
 ghost use mathlib.Core.Path.{_≡_};
 ghost use mathlib.Core.List.{[], _∷_, _++_};
 ghost use Prim.Native.Nat.{_+_, _*_, _≤_};
-ghost use lib.IntN.{natAbs};
 ghost use lib.ListN.{length};
 ghost use Rattle.laws.specs.Pick.{pick};
 ghost use Rattle.laws.specs.Decimal.{decimal, hexOf};
@@ -103,24 +102,12 @@ pub(crate) fn put_shown(out: &mut [u8], letter: u8, values: &[u64], bytes: &[u8]
     put_byte(out, after_bytes, LF)
 }
 
-// How far a number is from 0, at every i32.
-fn size_of(value: i32) -> u64
-    ensures { λ r. ⌜ r ≡ natAbs value ⌝ }
-{
-    let wide = value as i64;
-    if wide < 0 {
-        (0 - wide) as u64
-    } else {
-        wide as u64
-    }
-}
-
 // A number that may begin with a minus.
 fn put_signed(out: &mut [u8], at: usize, value: i32) -> usize
     requires { ⌜ at + 21 ≤ length (now out) ⌝ }
     ensures { λ r. ⌜ Prints 21 (now (out .entry)) at (signedText value) (now (out .exit)) r ⌝ }
 {
-    let size = size_of(value);
+    let size = field::size_of(value) as u64;
     if value < 0 {
         let after = put_byte(out, at, b'-');
         return put_number(out, after, size);

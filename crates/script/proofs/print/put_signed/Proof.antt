@@ -26,6 +26,9 @@ returns-2 c =
 size-of-requires : tie.Need-size-of-requires
 size-of-requires c κs = search needs
 
+cast-size : tie.Need-cast-size
+cast-size c = search needs
+
 put-byte-requires : tie.Need-put-byte-requires
 put-byte-requires c κs = search needs
 
@@ -46,6 +49,7 @@ put-signed-spec =
     tie.close
     (tie.spec
     size-of-requires
+    cast-size
     put-byte-requires
     put-number-requires
     same-length
