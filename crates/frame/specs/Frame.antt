@@ -39,10 +39,6 @@ framable body =
 unfoldable pub writeOf : List ℕ → ℕ → Answer (List ℕ)
 writeOf body room = pick (framable body) (inRoom [] room (frame body)) (refused R14 [])
 
--- written and read back: the body that was given, or the writer's refusal
-unfoldable pub echoOf : List ℕ → Answer (List ℕ)
-echoOf body = pick (framable body) (done body) (refused R14 [])
-
 -- the request C3 to address 1 in a buffer of 6 and of 5; a body with an FF; bodies that R14 turns down
 pub cases :
     (writeOf (0x01 ∷ 0xC3 ∷ []) 6 ≡ done (0xFF ∷ 0x01 ∷ 0xC3 ∷ 0xE3 ∷ 0xFF ∷ 0xFF ∷ []))

@@ -4,19 +4,16 @@ use mathlib.Core.Bool.{Bool}
 use mathlib.Core.List.{List, [], _∷_, _++_}
 use Prim.Native.Nat.{ℕ, _-_}
 use lib.ListN.{length, replicate}
-use Rattle.paper.specs.Answer.{Answer, done, refused, fault, told, bytesIn, Fills, Hands, same, fills-one, hands-one}
+use Rattle.paper.specs.Answer.{Answer, done, refused, fault, told, bytesIn, Fills, same, fills-one}
 use Rattle.paper.specs.Numbers.{R6, R8, R9, R14}
 use Rattle.frame.specs.Check.{check}
-use Rattle.frame.specs.Frame.{framable, writeOf, echoOf}
+use Rattle.frame.specs.Frame.{framable, writeOf}
 use Rattle.frame.specs.Read.{Finished, readOf}
 use Rattle.frame.specs.declared.Wrote.{Wrote}
 use Rattle.frame.specs.declared.Wrote.the-variants as W
 use Rattle.frame.specs.declared.Found.{Found}
 use Rattle.frame.specs.declared.Found.the-variants as F
-use Rattle.frame.specs.declared.Echoed.{Echoed}
-use Rattle.frame.specs.declared.Echoed.the-variants as E
 use Rattle.frame.specs.declared.Read.{Read}
-use Rattle.frame.specs.declared.Echo.{Echo}
 
 abbrev pub saysWrote : Wrote → Answer ℕ
 saysWrote (W.Frame n) = done n
@@ -28,10 +25,6 @@ abbrev pub saysFound : Found → Answer (ℕ × ℕ)
 saysFound (F.Body place len) = done (place, len)
 saysFound (F.R9 place) = refused R9 (place ∷ [])
 saysFound (F.R6 place) = refused R6 (place ∷ [])
-
-abbrev pub saysEchoed : Echoed → Answer ℕ
-saysEchoed (E.Body n) = done n
-saysEchoed E.R14 = refused R14 []
 
 -- two answers that say the same are equal
 pub wrote-one : (a b : Wrote) → saysWrote a ≡ saysWrote b → a ≡ b
@@ -60,12 +53,6 @@ found-one (F.R6 p) (F.Body q m) e = cc
 found-one (F.R6 p) (F.R9 q) e = cc
 found-one (F.R6 p) (F.R6 q) e = cc
 
-pub echoed-one : (a b : Echoed) → saysEchoed a ≡ saysEchoed b → a ≡ b
-echoed-one (E.Body n) (E.Body m) e = cc
-echoed-one (E.Body n) E.R14 e = cc
-echoed-one E.R14 (E.Body m) e = cc
-echoed-one E.R14 E.R14 e = refl
-
 abbrev pub placeAndLength : Finished → ℕ × ℕ
 placeAndLength f = (f .place, length (f .bytes))
 
@@ -92,9 +79,3 @@ pub read-determined : (s : List ℕ) (a b : Read) → Reads s a → Reads s b �
 read-determined s a b p q =
     ap₂ {C = Read} (λ (f : Found) (l : List ℕ). record { found = f; body = l })
     (found-one (a .found) (b .found) (same (p .says) (q .says))) (same (p .holds) (q .holds))
-
-pub echo-determined : (body : List ℕ) (a b : Echo)
-    → Hands 255 (saysEchoed (a .echoed)) (echoOf body) (a .body) → Hands 255 (saysEchoed (b .echoed)) (echoOf body) (b .body) → a ≡ b
-echo-determined body a b p q =
-    ap₂ {C = Echo} (λ (e : Echoed) (l : List ℕ). record { echoed = e; body = l })
-    (echoed-one (a .echoed) (b .echoed) (hands-one p q .0)) (hands-one p q .1)

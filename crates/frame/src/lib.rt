@@ -4,11 +4,11 @@ ghost use mathlib.Core.List.{_++_};
 ghost use Prim.Native.Nat.{_+_, _-_, _≤_};
 ghost use lib.ListN.{length, take, replicate};
 ghost use lib.Seq.{sets};
-ghost use Rattle.paper.specs.Answer.{Fills, Hands};
+ghost use Rattle.paper.specs.Answer.{Fills};
 ghost use Rattle.frame.specs.Check.{check, enter};
-ghost use Rattle.frame.specs.Frame.{sentByte, sent, frame, framable, writeOf, echoOf};
+ghost use Rattle.frame.specs.Frame.{sentByte, sent, frame, framable, writeOf};
 ghost use Rattle.frame.specs.Read.{grown, step, readAll, tooShort, bad};
-ghost use Rattle.frame.specs.Says.{saysWrote, saysEchoed, Reads};
+ghost use Rattle.frame.specs.Says.{saysWrote, Reads};
 ghost use Rattle.frame.specs.Puts.{Puts};
 ghost use Rattle.frame.specs.Stands.{stands, Held, Stands};
 
@@ -33,17 +33,6 @@ pub enum Found {
 // The reader's answer beside the body; the places past the body are 0.
 pub struct Read {
     pub found: Found,
-    pub body: [u8; 255],
-}
-
-// What writing and reading back answers: the length of the body, or the writer's refusal.
-pub enum Echoed {
-    Body(usize),
-    R14,
-}
-
-pub struct Echo {
-    pub echoed: Echoed,
     pub body: [u8; 255],
 }
 
@@ -339,37 +328,5 @@ pub fn read_frame(bytes: &[u8]) -> Read
                 body: buf,
             }
         }
-    }
-}
-
-// A refused echo.
-fn no_echo() -> Echo
-    ensures { λ r. ⌜ (r .echoed ≡ Echoed.R14) × (r .body ≡ replicate 255 0) ⌝ }
-{
-    Echo {
-        echoed: Echoed::R14,
-        body: [0u8; 255],
-    }
-}
-
-// Writes a body's frame, reads it back, and answers the body that was read.
-pub fn echo_frame(body: &[u8]) -> Echo
-    ensures { λ r. ⌜ Hands 255 (saysEchoed (r .echoed)) (echoOf (now (body .entry))) (r .body) ⌝ }
-{
-    let mut line = [0u8; 513];
-    let wrote = write_frame(body, &mut line);
-    let Wrote::Frame(n) = wrote else {
-        return no_echo();
-    };
-    let back = read_frame(&line[..n]);
-    let found = back.found;
-    let Found::Body { place: _, len } = found else {
-        return no_echo();
-    };
-    let mut bytes = back.body;
-    bytes[len - 1] = 0;
-    Echo {
-        echoed: Echoed::Body(len - 1),
-        body: bytes,
     }
 }

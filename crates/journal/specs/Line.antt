@@ -98,10 +98,6 @@ placed n bad = refused R10 []
 unfoldable pub lineAt : List ℕ → ℕ → Answer Placed
 lineAt s at = placed (length s) (lineOf (drop at s))
 
--- written and read back: the line that was given, or the writer's refusal
-unfoldable pub echoOf : Line → Answer Line
-echoOf l = pick (inRange l) (done l) (refused R10 (0 ∷ []))
-
 -- a D line and an H line read, and what a sign, a leading zero, a tab too many, a missing LF, a value one above its range and a lower-case letter are
 pub cases :
     (oneLine (68 ∷ 9 ∷ 49 ∷ 48 ∷ 9 ∷ 49 ∷ 9 ∷ 53 ∷ 48 ∷ 48 ∷ 9 ∷ 49 ∷ 10 ∷ []) ≡ done (Dose 10 1 500 1))

@@ -5,7 +5,7 @@ use Prim.Native.Nat.{ℕ}
 use lib.ListN.{length}
 use Rattle.paper.specs.Answer.{Answer, done, refused, told, same, Fills, fills-one}
 use Rattle.paper.specs.Numbers.{R8, R10, R11, R12, R13}
-use Rattle.journal.specs.Line.{Placed, writeOf, oneLine, lineAt, echoOf}
+use Rattle.journal.specs.Line.{Placed, writeOf, oneLine, lineAt}
 use Rattle.journal.specs.LineLaws.{refused-done}
 use Rattle.journal.specs.Journal.{journalOf, summaryOf}
 use Rattle.journal.specs.declared.Line.{Line}
@@ -31,11 +31,6 @@ saysWrote W.R8 = refused R8 []
 abbrev pub saysOne : One → Answer Line
 saysOne (O.Line l) = done l
 saysOne O.R10 = refused R10 (1 ∷ [])
-
--- written and read back, R10 is the writer's
-abbrev pub saysEchoed : One → Answer Line
-saysEchoed (O.Line l) = done l
-saysEchoed O.R10 = refused R10 (0 ∷ [])
 
 abbrev pub saysAt : At → Answer Placed
 saysAt (A.Line l n) = done (record { line = l; next = n })
@@ -69,12 +64,6 @@ one-one (O.Line l) (O.Line m) e = cc
 one-one (O.Line l) O.R10 e = cc
 one-one O.R10 (O.Line m) e = cc
 one-one O.R10 O.R10 e = refl
-
-pub echoed-one : (a b : One) → saysEchoed a ≡ saysEchoed b → a ≡ b
-echoed-one (O.Line l) (O.Line m) e = cc
-echoed-one (O.Line l) O.R10 e = cc
-echoed-one O.R10 (O.Line m) e = cc
-echoed-one O.R10 O.R10 e = refl
 
 pub at-one : (a b : At) → saysAt a ≡ saysAt b → a ≡ b
 at-one (A.Line l n) (A.Line m k) e =
@@ -130,6 +119,3 @@ read-determined s a b p q = judged-one a b (same p q)
 pub write-determined : (l : Line) (old new new' : List ℕ) (a b : Wrote)
     → Fills (saysWrote a) (writeOf l (length old)) old new → Fills (saysWrote b) (writeOf l (length old)) old new' → (a ≡ b) × (new ≡ new')
 write-determined l old new new' a b p q = (wrote-one a b (fills-one p q .0), fills-one p q .1)
-
-pub echo-determined : (l : Line) (a b : One) → saysEchoed a ≡ echoOf l → saysEchoed b ≡ echoOf l → a ≡ b
-echo-determined l a b p q = echoed-one a b (same p q)

@@ -9,9 +9,9 @@ ghost use Rattle.laws.specs.Pick.{pick};
 ghost use Rattle.laws.specs.Decimal.{good, decimal};
 ghost use Rattle.paper.specs.Answer.{Fills, told};
 ghost use Rattle.text.specs.Scan.{TAB, LF, expect, onGood};
-ghost use Rattle.journal.specs.Line.{mostOfD, mostOfH, textOf, inRange, writeOf, fieldsAt, doseFrom, onFrom, placed, lineAt, oneLine, echoOf};
+ghost use Rattle.journal.specs.Line.{mostOfD, mostOfH, textOf, inRange, writeOf, fieldsAt, doseFrom, onFrom, placed, lineAt, oneLine};
 ghost use Rattle.journal.specs.Journal.{hourIn, closes, outOfOrder, tooFar, noPast, pastAfter, journalOf, summaryOf};
-ghost use Rattle.journal.specs.Says.{saysWrote, saysOne, saysEchoed, saysAt, saysJudged};
+ghost use Rattle.journal.specs.Says.{saysWrote, saysOne, saysAt, saysJudged};
 ghost use Rattle.journal.specs.Fields.{fieldsAfter, lineFrom};
 ghost use Rattle.journal.specs.Store.{FieldLength, Stores};
 ghost use Rattle.journal.specs.declared.Line.the-variants.{Dose, On};
@@ -95,9 +95,6 @@ const AMOUNT_MOST: u32 = 1800000;
 const SETTLED_MOST: u32 = 1;
 
 const MOST: [u32; 4] = [HOUR_MOST, COUNT_MOST, AMOUNT_MOST, SETTLED_MOST];
-
-// The longest line has so many bytes.
-const LONGEST: usize = 27;
 
 // A journal has at most so many bytes.
 const ROOM: usize = 65536;
@@ -296,18 +293,6 @@ pub fn read_line(bytes: &[u8]) -> One
         return One::R10;
     }
     One::Line(line)
-}
-
-// A line written and read back: the line, or the writer's R10; the buffer is never too short.
-pub fn echo(line: Line) -> One
-    ensures { λ r. ⌜ saysEchoed r ≡ echoOf line ⌝ }
-{
-    let mut buffer = [0u8; LONGEST];
-    match write(line, &mut buffer) {
-        Wrote::Line(len) => read_line(&buffer[..len]),
-        Wrote::R10 => One::R10,
-        Wrote::R8 => One::R10,
-    }
 }
 
 // How many fields follow a letter: 4 after D, 1 after H, else none.

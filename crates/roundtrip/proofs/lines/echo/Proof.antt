@@ -12,16 +12,17 @@ use Rattle.laws.specs.Pick.{pick-t, pick-f}
 use Rattle.laws.specs.Over.{over}
 use Rattle.paper.specs.Answer.{Answer, done, refused, told, leaves, Fills}
 use Rattle.paper.specs.Numbers.{R8, R10}
-use Rattle.journal.specs.Line.{inRange, textOf, writeOf, oneLine, echoOf}
+use Rattle.journal.specs.Line.{inRange, textOf, writeOf, oneLine}
 use Rattle.journal.specs.LineLaws.{refused-done, text-most, write-range, write-fits, one-text}
-use Rattle.journal.specs.Says.{saysWrote, saysOne, saysEchoed}
+use Rattle.journal.specs.Says.{saysWrote, saysOne}
 use Rattle.journal.specs.declared.Line.{Line}
 use Rattle.journal.specs.declared.One.{One}
 use Rattle.journal.specs.declared.One.the-variants as O
 use Rattle.journal.specs.declared.Wrote.{Wrote}
 use Rattle.journal.specs.declared.Wrote.the-variants as W
-use Rattle.journal.proofs.echo.Statement.{statement}
-use Rattle.journal.proofs.echo.Tie as tie
+use Rattle.roundtrip.specs.Lines.{echoOf, saysEchoed}
+use Rattle.roundtrip.proofs.lines.echo.Statement.{statement}
+use Rattle.roundtrip.proofs.lines.echo.Tie as tie
 
 -- what the writer left where it answered a length
 record Written (l : Line) (n : ℕ) (new : List ℕ) : Type 0 where

@@ -12,19 +12,20 @@ use lib.Seq.{take-at, set-at, length-take-le}
 use Rattle.laws.specs.Pick.{pick-t, pick-f}
 use Rattle.laws.specs.Over.{over}
 use Rattle.paper.specs.Answer.{done, told, bytesIn, inRoom, leaves, Fills, Hands}
 use Rattle.frame.specs.Check.{check}
-use Rattle.frame.specs.Frame.{frame, framable, writeOf, echoOf}
+use Rattle.frame.specs.Frame.{frame, framable, writeOf}
 use Rattle.frame.specs.FrameLaws.{frame-most, framable-is}
 use Rattle.frame.specs.Read.{readOf}
 use Rattle.frame.specs.RoundTrip.{round-trip-first}
-use Rattle.frame.specs.Says.{saysWrote, saysEchoed, wrote-one, found-one, Reads}
+use Rattle.frame.specs.Says.{saysWrote, wrote-one, found-one, Reads}
 use Rattle.frame.specs.declared.Wrote.{Wrote}
 use Rattle.frame.specs.declared.Wrote.the-variants as W
 use Rattle.frame.specs.declared.Found.the-variants as F
 use Rattle.frame.specs.declared.Read.{Read}
 use Rattle.frame.specs.AnswerLaws.{hands-refused, hands-done}
-use Rattle.frame.proofs.echo_frame.Statement.{statement}
-use Rattle.frame.proofs.echo_frame.Tie as tie
+use Rattle.roundtrip.specs.Frames.{echoOf, saysEchoed}
+use Rattle.roundtrip.proofs.frames.echo_frame.Statement.{statement}
+use Rattle.roundtrip.proofs.frames.echo_frame.Tie as tie
 
 -- the first n bytes of the line are the body's frame
 record Lined (b line : List ℕ) (n : ℕ) : Type 0 where
