@@ -82,16 +82,19 @@ pub filter-by-p8 :
 unfolding rules
 filter-by-p8 = (refl, refl, refl)
 
--- S: 0 on the first tick, one more on each tick of the same F, 0 on another F and where an output moves; it stops at 4,032
+-- S: 0 on the first tick, one more on each tick of the same F, 0 on another F and where output 1, 2 or 3 moves; it stops at 4,032
 pub calm-runs :
     (ticked (box 1 50 1) ((pos 0, 0) ∷ []) .s ≡ 0)
     × (ticked (box 1 50 1) (replicate 65 (pos 300, 0)) .s ≡ 64)
     × (ticked (box 1 50 1) (replicate 65 (pos 300, 0) ++ (pos 308, 0) ∷ []) .s ≡ 0)
     × (ticked (box 1 50 1) (replicate 65 (pos 300, 0) ++ (pos 300, 8) ∷ []) .s ≡ 0)
+    × (ticked (box 0 50 1) ((pos 0, 8) ∷ replicate 14 (pos 400, 8)) .s ≡ 6)
+    × (ticked (box 0 50 1) ((pos 0, 8) ∷ replicate 14 (pos 400, 8) ++ (pos 400, 0) ∷ []) .s ≡ 0)
+    × (ticked (linkOf (ticked (box 3 800 1) (replicate 65 (pos 300, 0))) true) ((pos 300, 0) ∷ []) .s ≡ 0)
     × (ticked (withS 4031 (ticked (box 1 50 1) ((pos 300, 0) ∷ []))) ((pos 300, 0) ∷ []) .s ≡ 4032)
     × (ticked (withS 4032 (ticked (box 1 50 1) ((pos 300, 0) ∷ []))) ((pos 300, 0) ∷ []) .s ≡ 4032)
 unfolding rules
-calm-runs = (refl, refl, refl, refl, refl, refl)
+calm-runs = (refl, refl, refl, refl, refl, refl, refl, refl, refl)
 
 -- stable means S >= 64*p9
 pub stable-at :
@@ -115,7 +118,7 @@ pub starts :
 unfolding rules
 starts = (refl, refl, refl, refl, refl, refl, refl, refl)
 
--- a match puts a run to 0; the lowest of the channels at 64 is named; the outputs are those before the tick; each channel has its level; AL0 does not look
+-- a match puts a run to 0; the lowest of the channels at 64 is named; the outputs are those before the tick; each channel has its level; AL0 does not look; F21 stands before F14; the tick of F14 keeps its sample and moves S
 pub runs :
     (last (box 1 50 0) (replicate 63 (pos 0, 5) ++ (pos 0, 7) ∷ replicate 63 (pos 0, 5)) ≡ outputs 0)
     × (last (box 1 50 0) (replicate 64 (pos 0, 0)) ≡ fault F14 (1 ∷ []))
@@ -125,8 +128,11 @@ pub runs :
     × (last (restarted (setOf (1 ∷ 1000 ∷ 500 ∷ 100 ∷ 20 ∷ 50 ∷ 4 ∷ 8 ∷ 1 ∷ 0 ∷ 0 ∷ 1 ∷ 0 ∷ 1 ∷ 1 ∷ [])) 0 0) (replicate 64 (pos 0, 2)) ≡ outputs 0)
     × (last (restarted (setOf (1 ∷ 1000 ∷ 500 ∷ 100 ∷ 20 ∷ 50 ∷ 4 ∷ 8 ∷ 1 ∷ 0 ∷ 0 ∷ 0 ∷ 1 ∷ 1 ∷ 1 ∷ [])) 0 0) (replicate 64 (pos 0, 1)) ≡ outputs 0)
     × (last (box 0 50 0) (replicate 64 (pos 0, 0)) ≡ outputs 0)
+    × (last (box 1 50 0) (replicate 63 (pos 0, 5) ++ (pos 900001, 5) ∷ []) ≡ fault F21 [])
+    × (ticked (box 1 50 0) (replicate 64 (pos 0, 5)) .s ≡ 63)
+    × (samplesOf (ticked (box 1 50 0) (replicate 63 (pos 0, 5) ++ (pos 7, 5) ∷ []) .window) ≡ pos 7 ∷ replicate 63 (pos 0))
 unfolding rules
-runs = (refl, refl, refl, refl, refl, refl, refl, refl)
+runs = (refl, refl, refl, refl, refl, refl, refl, refl, refl, refl, refl)
 
 -- output 4: w = C+9 is no alarm, C+10 is; the dose record says how Settle ended
 pub told-at :

@@ -227,9 +227,9 @@ unfolding taken restarted
 as-restarted c set a b g = rw (a, b, g)
 
 -- a set is taken as at a restart, but for counters, link start, inputs and output 4, which are kept
-pub settings-taken : (c : Controller) (set : Settings) → Sound c → settingsOf c set .answer ≡ done tt → settingsOf c set .next ≡ withLink (c .link) (withAlarm (c .alarm) (withInputs (c .inputs) (restarted set (c .counters .count) (c .counters .total))))
+pub settings-restart : (c : Controller) (set : Settings) → Sound c → settingsOf c set .answer ≡ done tt → settingsOf c set .next ≡ withLink (c .link) (withAlarm (c .alarm) (withInputs (c .inputs) (restarted set (c .counters .count) (c .counters .total))))
 unfolding settingsOf settingsAnswer after
-settings-taken c set s e =
+settings-restart c set s e =
     let p = passed (isReady c) (firstBad set) R3 [] tt e in
     let r = ready-is c (p .0) in
     rw e (as-restarted c set (r .0) (r .1) (ready-gates c s (p .0)))

@@ -112,7 +112,7 @@ pub cases :
 unfolding oneLine whole lineOf onGood expect fieldsAt mostOfD mostOfH doseFrom onFrom numberAt digitsFrom isDigit textOf fieldsText decimal digitsOf glyph pick
 cases = (refl, refl, refl, refl, refl, refl, refl, refl, refl)
 
--- the greatest values of a D line and of an H line, and each one above
+-- the greatest values of a D line and of an H line, and each one above; on writing R10 names line 0 and stands before R8
 pub greatest-values :
     (inRange (Dose 9999999 999999 1800000 1) ≡ true)
     × (inRange (Dose 10000000 0 0 0) ≡ false)
@@ -121,5 +121,8 @@ pub greatest-values :
     × (inRange (Dose 0 0 0 2) ≡ false)
     × (inRange (On 9999999) ≡ true)
     × (inRange (On 10000000) ≡ false)
-unfolding inRange within mostOfD mostOfH
-greatest-values = (refl, refl, refl, refl, refl, refl, refl)
+    × (writeOf (On 10000000) 0 ≡ refused R10 (0 ∷ []))
+    × (writeOf (On 13) 4 ≡ refused R8 [])
+    × (writeOf (On 13) 5 ≡ done (72 ∷ 9 ∷ 49 ∷ 51 ∷ 10 ∷ []))
+unfolding writeOf inRoom inRange within mostOfD mostOfH textOf fieldsText decimal digitsOf glyph pick
+greatest-values = (refl, refl, refl, refl, refl, refl, refl, refl, refl, refl)

@@ -1,4 +1,6 @@
 -- The numbers of refusal and of faults (document 01, "Numbers of refusal", "One tick"). Assumes nothing.
+use mathlib.Core.Path.{_≡_, refl}
+use mathlib.Core.List.{List, [], _∷_}
 use Prim.Native.Nat.{ℕ}
 
 -- inputs above 15
@@ -72,3 +74,9 @@ F14 = 14
 -- a sample outside -900,000..900,000
 abbrev pub F21 : ℕ
 F21 = 21
+
+-- each refusal has the number of its row, each fault the number of its name
+pub numbers :
+    R1 ∷ R2 ∷ R3 ∷ R4 ∷ R5 ∷ R6 ∷ R7 ∷ R8 ∷ R9 ∷ R10 ∷ R11 ∷ R12 ∷ R13 ∷ R14 ∷ R15 ∷ R16 ∷ F14 ∷ F21 ∷ []
+    ≡ 1 ∷ 2 ∷ 3 ∷ 4 ∷ 5 ∷ 6 ∷ 7 ∷ 8 ∷ 9 ∷ 10 ∷ 11 ∷ 12 ∷ 13 ∷ 14 ∷ 15 ∷ 16 ∷ 14 ∷ 21 ∷ []
+numbers = refl
