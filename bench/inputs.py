@@ -1,0 +1,131 @@
+"""Makes the inputs of the benchmark, each at its full size and at a tenth of it:
+python3 bench/inputs.py FOLDER
+
+The samples come from a hopper that reacts to the gates, which the second
+implementation of the box drives. Everything comes from one seed.
+"""
+
+import os
+import random
+import struct
+import sys
+
+sys.path.insert(0, os.path.dirname(os.path.dirname(os.path.abspath(__file__))))
+
+from second import box, frames, hopper, journals
+from second.refusal import Refused
+from second.settings import Settings
+
+SEED = 1
+TICKS = 1000000
+LINE = 1 << 20
+JOURNAL = 65536
+#                al       C    D   Pc  Pf    M p7  p8 p9 p11 o in    address serial point
+AL1 = Settings(1, 10000, 500, 100, 20, 50, 8, 64, 1, 0, 1, 1, 1, 1, 1, 0, 1)
+AL2 = Settings(2, 10000, 500, 100, 20, 3000, 8, 128, 1, 0, 0, 1, 0, 1, 1, 0, 1)
+
+
+def ticks(s, number):
+    """Samples and inputs of a mill at work: most of the time the start is on,
+    and now and then the hopper shakes."""
+    rng = random.Random(SEED)
+    mill, b = hopper.Hopper(3 if s.algorithm < 2 else 4, 5, 1, 12, 3), box.Box(s)
+    start = 8
+    for n in range(number):
+        if n % 1000 == 0:
+            mill.shake = rng.choice([0, 0, 1, 20])
+            start = rng.choice([8, 8, 8, 0])
+        sample = mill.sample(b.outputs, rng)
+        inputs = hopper.matching_inputs(b.outputs, s) | start
+        b.tick(sample, inputs)
+        yield sample, inputs
+
+
+def as_calls(s, ticks):
+    lines = ['\t'.join(map(str, ('N', *s, 0, 0)))]
+    lines += ['T\t%d\t%d' % tick for tick in ticks]
+    return ('\n'.join(lines) + '\n').encode()
+
+
+def as_bytes(s, ticks):
+    return struct.pack('<17I', *s) + b''.join(struct.pack('<iB', *tick) for tick in ticks)
+
+
+def frame(rng):
+    """Requests, replies and long bodies; FF is as likely as any byte."""
+    size = rng.choice([2, 2, 2, 6, 6, rng.randint(2, 254)])
+    body = bytes([rng.randint(1, 253)]) + rng.randbytes(size - 1)
+    return frames.write(body, 600)
+
+
+def damaged(rng):
+    sent = bytearray(frame(rng))
+    sent[rng.randrange(len(sent))] = rng.randrange(256)
+    return bytes(sent)
+
+
+def over_long(rng):
+    return b'\xFF\x01' + bytes(rng.randrange(255) for _ in range(rng.randint(255, 600))) + b'\xFF\xFF'
+
+
+def line(size):
+    """Six good frames of eight; the others are damaged, over-long or no frame at all."""
+    rng = random.Random(SEED)
+    sent = b''.join(rng.choice([frame] * 12 + [damaged] * 2 + [over_long, lambda r: r.randbytes(9)])(rng)
+                    for _ in range(size // 30))
+    assert len(sent) >= size
+    return sent[:size]
+
+
+def dose(rng, hour, count):
+    return journals.d(hour, count % 1000000, rng.randint(0, 1800000), rng.randint(0, 1))
+
+
+def month(size):
+    """744 hours where it is full: as many doses an hour as there is room for."""
+    rng = random.Random(SEED)
+    hours, first, lines, count = 744 * size // JOURNAL, 123456, [], 990000
+    each = size // hours
+    for hour in range(first, first + hours):
+        room = each - len(journals.h(hour))
+        while room >= 27:
+            lines.append(dose(rng, hour, count))
+            room -= len(lines[-1])
+            count += 1
+        lines.append(journals.h(hour))
+    return b''.join(lines)
+
+
+def one_hour(size):
+    rng = random.Random(SEED)
+    lines = [dose(rng, 123456, n) for n in range(size // 20)]
+    return journals.cut(lines, size - 9) + journals.h(123456)
+
+
+def made(name, tenth):
+    size = lambda full: full // 10 if tenth else full
+    program, kind = name.split('-')
+    if program in ('replay', 'ticks'):
+        s = {'al1': AL1, 'al2': AL2}[kind]
+        return {'replay': as_calls, 'ticks': as_bytes}[program](s, ticks(s, size(TICKS)))
+    if program == 'frames':
+        return line(size(LINE))
+    return {'month': month, 'hour': one_hour}[kind](size(JOURNAL))
+
+
+NAMES = ['replay-al1', 'replay-al2', 'ticks-al1', 'ticks-al2', 'frames-line', 'hours-month', 'hours-hour']
+
+
+def main(folder):
+    os.makedirs(folder, exist_ok=True)
+    for name in NAMES:
+        for tenth in (False, True):
+            path = os.path.join(folder, name + ('-tenth' if tenth else ''))
+            if not os.path.exists(path):
+                with open(path + '.new', 'wb') as file:
+                    file.write(made(name, tenth))
+                os.rename(path + '.new', path)
+
+
+if __name__ == '__main__':
+    main(*sys.argv[1:])
