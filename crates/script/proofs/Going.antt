@@ -58,11 +58,6 @@ put-part out len text ys h k e =
 pub part-length : (out : List ℕ) (len : ℕ) → length (take (length out - len) (drop len out)) ≡ length out - len
 part-length out len = length-take-le (length out - len) (drop len out) (omega (arith, length-drop len out))
 
--- what was written over a buffer that keeps its length is not longer
-pub over-fits : (text old new : List ℕ) → new ≡ over text old → length new ≡ length old → length text ≤ length old
-unfolding over
-over-fits text old new e k = omega (arith, ap length e, length-append text (drop (length text) old), length-drop (length text) old)
-
 -- ---- the whole
 
 abbrev pub given : List ℕ → List ℕ → Controller → ℕ → ℕ → Gave

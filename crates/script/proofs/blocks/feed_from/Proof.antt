@@ -14,8 +14,9 @@ use Rattle.controller.specs.Says.{saysTick, Ticks}
 use Rattle.script.specs.Answer.{Step, tickText, answered, answerTo}
 use Rattle.script.specs.Print.{prints-over}
 use Rattle.script.specs.Steps.{Answers}
+use Rattle.script.specs.Blocks.{over-fits}
 use Rattle.script.specs.Feeding.{in-enough, TickStands, TickAt}
-use Rattle.script.proofs.Going.{Going, going-none, going-line, going-stopped, going-left, ends-line, put-part, part-length, over-fits}
+use Rattle.script.proofs.Going.{Going, going-none, going-line, going-stopped, going-left, ends-line, put-part, part-length}
 use borrow.Author.Needs.{needs}
 use Rattle.script.proofs.blocks.feed_from.Statement.{statement}
 use Rattle.script.proofs.blocks.feed_from.Tie as tie
