@@ -2,61 +2,71 @@
 use libc::STDIN_FILENO;
 use libc::STDOUT_FILENO;
 use script::Replay;
+ghost use Prim.Native.Nat.{_≤_};
+ghost use lib.ListN.{length};
+ghost use Rattle.controller.specs.Sound.{Sound};
+ghost use Rattle.replay.specs.Kept.{Left, Kept};
 
-// After a read: what is carried on, how many bytes are held at the buffer's start, and whether there may be more.
-struct Turn {
+// What is carried on behind a block, and how many of its bytes are done with.
+struct Done {
+    now: Replay,
+    used: usize,
+}
+
+// What is carried on behind a read, how many bytes are held at the buffer's start, and whether there may be more.
+struct Carried {
     now: Replay,
     held: usize,
     more: bool,
 }
 
-// Moves the bytes from `from` to `to` to the start, and answers how many they are.
-fn carry(input: &mut [u8], from: usize, to: usize) -> usize {
-    let mut i = from;
-    let mut n: usize = 0;
-    while i < to {
-        input[n] = input[i];
-        n += 1;
-        i += 1;
+// Prints the answers to the whole lines of a block.
+fn answer_block(r: Replay, block: &[u8], output: &mut [u8]) -> Done
+    requires { ⌜ Sound (r .controller) × (4096 ≤ length (now output)) ⌝ }
+    ensures { λ d. ⌜ Left (now (block .entry)) d ⌝ }
+{
+    let mut now = r;
+    let mut used: usize = 0;
+    while used < block.len() {
+        let fed = script::feed(now, &block[used..], output);
+        let len = fed.len;
+        let more = fed.used;
+        now = fed.next;
+        io::write_all(STDOUT_FILENO, &output[..len]);
+        if more == 0 {
+            return Done { now, used };
+        }
+        used += more;
     }
-    n
+    Done { now, used }
 }
 
-// Answers the whole lines among the first `have` bytes, and carries the rest to the start.
-fn answer_block(r: Replay, input: &mut [u8], have: usize, output: &mut [u8]) -> Turn {
-    let mut now = r;
-    let mut at: usize = 0;
-    while at < have {
-        let fed = script::feed(now, &input[at..have], output);
-        now = fed.next;
-        if fed.used == 0 {
-            break;
-        }
-        at += fed.used;
-        io::write_all(STDOUT_FILENO, &output[..fed.len]);
+// Reads once behind what is held, and answers it.
+fn turn(r: Replay, held: usize, input: &mut [u8], output: &mut [u8]) -> Carried
+    requires { ⌜ Sound (r .controller) × (held ≤ 4095) × (4096 ≤ length (now input)) × (4096 ≤ length (now output)) ⌝ }
+    ensures { λ t. ⌜ Kept t ⌝ }
+{
+    let got = libc::read(STDIN_FILENO, &mut input[held..]);
+    let n = io::count(got, &input[held..]);
+    if n == 0 {
+        return Carried {
+            now: r,
+            held: 0,
+            more: false,
+        };
     }
-    let held = carry(input, at, have);
-    Turn {
+    let have = held + n;
+    let done = answer_block(r, &input[..have], output);
+    let now = done.now;
+    let held = script::carry(input, done.used, have);
+    Carried {
         now,
         held,
         more: true,
     }
 }
 
-// Reads once behind what is held.
-fn turn(r: Replay, held: usize, input: &mut [u8], output: &mut [u8]) -> Turn {
-    let got = libc::read(STDIN_FILENO, &mut input[held..]);
-    let n = io::count(got, &input[held..]);
-    if n == 0 {
-        return Turn {
-            now: r,
-            held: 0,
-            more: false,
-        };
-    }
-    answer_block(r, input, held + n, output)
-}
-
+// Reads to the end of the input; the turns are counted down from a number that no input uses up.
 fn main() {
     let mut input = io::large_buffer();
     let mut output = io::large_buffer();

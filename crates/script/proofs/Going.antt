@@ -30,8 +30,8 @@ ends-rest block at end h k =
 pub ends-line : {block : List ℕ} {at end : ℕ} → EndsAt block at end → end < length block → LineAt block at end (take (end - at) (drop at block))
 ends-line {block} {at} {end} e h = record {
   cut =
-    ends-rest block at end (e .after) (e .within)
-    ∙ ap (λ (l : List ℕ). take (end - at) (drop at block) ++ l) (drop-cons block end 0 h ∙ ap (λ (n : ℕ). getD block end 0 ∷ drop n block) (sym (add-one end)) ∙ ap (λ (b : ℕ). b ∷ drop (end + 1) block) (e .stop h));
+      ends-rest block at end (e .after) (e .within)
+      ∙ ap (λ (l : List ℕ). take (end - at) (drop at block) ++ l) (drop-cons block end 0 h ∙ ap (λ (n : ℕ). getD block end 0 ∷ drop n block) (sym (add-one end)) ∙ ap (λ (b : ℕ). b ∷ drop (end + 1) block) (e .stop h));
   plain = e .plain;
   place = omega (arith, e .after, length-take-le (end - at) (drop at block) (omega (arith, length-drop at block)));
   inside = h;
@@ -57,11 +57,6 @@ put-part out len text ys h k e =
 -- the part that is lent
 pub part-length : (out : List ℕ) (len : ℕ) → length (take (length out - len) (drop len out)) ≡ length out - len
 part-length out len = length-take-le (length out - len) (drop len out) (omega (arith, length-drop len out))
-
--- what was written over a buffer that keeps its length is not longer
-pub over-fits : (text old new : List ℕ) → new ≡ over text old → length new ≡ length old → length text ≤ length old
-unfolding over
-over-fits text old new e k = omega (arith, ap length e, length-append text (drop (length text) old), length-drop (length text) old)
 
 -- ---- the whole
 
@@ -92,23 +87,23 @@ going-line {block} {at} {old} {filled} {first} {new} {c} {used} {len} {new'} {c'
     let more = feedOf (length new - len - length (t .text)) (between (t .next)) (drop (end + 1) block) in
     let same : length new' ≡ length new = ap length w ∙ length-sets new len (t .text) in
     let step : given block new c used len ≡ ahead line (t .text) more =
-        ap (feedOf (length new - len) (between c)) (l .cut) ∙ feed-whole (length new - len) (between c) line (drop (end + 1) block) h (l .plain) in
+    ap (feedOf (length new - len) (between c)) (l .cut) ∙ feed-whole (length new - len) (between c) line (drop (end + 1) block) h (l .plain) in
     let room : length new' - (len + n) ≡ length new - len - length (t .text) = omega (arith, k) in
     let rest : given block new' c' (end + 1) (len + n) ≡ more =
-        ap (λ (x : Controller). feedOf (length new' - (len + n)) (between x) (drop (end + 1) block)) e
-        ∙ ap (λ (r : ℕ). feedOf r (between (t .next)) (drop (end + 1) block)) room in
+    ap (λ (x : Controller). feedOf (length new' - (len + n)) (between x) (drop (end + 1) block)) e
+    ∙ ap (λ (r : ℕ). feedOf r (between (t .next)) (drop (end + 1) block)) room in
     let text : length (given block new c used len .text) ≡ length (t .text) + length (more .text) = ap (λ (x : Gave). length (x .text)) step ∙ length-append (t .text) (more .text) in
     record {
       next = ap (λ (x : Gave). x .next) rest ∙ sym (ap (λ (x : Gave). x .next) step) ∙ g .next;
       done = omega (arith, ap (λ (x : Gave). x .used) rest, ap (λ (x : Gave). x .used) step, g .done, l .place);
       size = omega (arith, ap (λ (x : Gave). length (x .text)) rest, text, g .size, k);
       left =
-        ap (λ (x : Gave). sets new' (len + n) (x .text)) rest
-        ∙ ap (λ (x : List ℕ). sets x (len + n) (more .text)) w
-        ∙ ap (λ (x : ℕ). sets (sets new len (t .text)) (len + x) (more .text)) k
-        ∙ sym (sets-append new len (t .text) (more .text))
-        ∙ sym (ap (λ (x : Gave). sets new len (x .text)) step)
-        ∙ g .left;
+          ap (λ (x : Gave). sets new' (len + n) (x .text)) rest
+          ∙ ap (λ (x : List ℕ). sets x (len + n) (more .text)) w
+          ∙ ap (λ (x : ℕ). sets (sets new len (t .text)) (len + x) (more .text)) k
+          ∙ sym (sets-append new len (t .text) (more .text))
+          ∙ sym (ap (λ (x : Gave). sets new len (x .text)) step)
+          ∙ g .left;
       sound = s;
       inside = omega (arith, l .inside);
       room = omega (arith, g .room);

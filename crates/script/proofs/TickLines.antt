@@ -161,12 +161,12 @@ tick-stands s at after end x i t f g h =
     let last = byte-inside s end (omega arith) in
     let line : List ℕ = 84 ∷ (a .piece ++ b .piece) in
     let whole : drop at s ≡ line ++ LF ∷ drop (end + 1) s =
-        cut s at first
-        ∙ ap (λ (n : ℕ). n ∷ drop (at + 1) s) t
-        ∙ ap (λ (k : List ℕ). 84 ∷ k) (a .whole)
-        ∙ ap (λ (k : List ℕ). 84 ∷ (a .piece ++ k)) (b .whole)
-        ∙ ap (λ (k : List ℕ). 84 ∷ (a .piece ++ (b .piece ++ k))) (cut s end last ∙ ap (λ (n : ℕ). n ∷ drop (end + 1) s) h)
-        ∙ ap (λ (k : List ℕ). 84 ∷ k) (sym (append-assoc (a .piece) (b .piece) (LF ∷ drop (end + 1) s))) in
+    cut s at first
+    ∙ ap (λ (n : ℕ). n ∷ drop (at + 1) s) t
+    ∙ ap (λ (k : List ℕ). 84 ∷ k) (a .whole)
+    ∙ ap (λ (k : List ℕ). 84 ∷ (a .piece ++ k)) (b .whole)
+    ∙ ap (λ (k : List ℕ). 84 ∷ (a .piece ++ (b .piece ++ k))) (cut s end last ∙ ap (λ (n : ℕ). n ∷ drop (end + 1) s) h)
+    ∙ ap (λ (k : List ℕ). 84 ∷ k) (sym (append-assoc (a .piece) (b .piece) (LF ∷ drop (end + 1) s))) in
     let size : length line ≡ suc (length (a .piece) + length (b .piece)) = ap suc (length-append (a .piece) (b .piece)) in
     record {
       line = line;

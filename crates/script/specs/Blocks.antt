@@ -5,7 +5,7 @@ use mathlib.Core.List.{List, [], _∷_, _++_, append-assoc, append-nil}
 use Prim.Native.Nat.{ℕ, zero, suc, _+_, _-_, _≤_, _<_}
 use native.Mathlib.Omega.{arith}
 use lib.Dec.{leb, eqb}
-use lib.ListN.{length, take, drop, replicate, length-append, length-replicate}
+use lib.ListN.{length, take, drop, replicate, length-append, length-take, length-drop, length-replicate}
 use lib.Seq.{drop-length, drop-append-add}
 use borrow.Author.Tests.{eqb-true, eqb-false, ne-eqb, ltb-true, ltb-false, le-leb, lt-leb}
 use Rattle.laws.specs.Pick.{pick, pick-t, pick-f, pick-all}
@@ -309,3 +309,24 @@ lines-within room r (l ∷ ls) last =
 pub feed-within : (room : ℕ) (r : Replay) (block : List ℕ) → feedOf room r block .used ≤ length block
 unfolding feedOf
 feed-within room r block = subst (λ (b : List ℕ). feedLines room r (linesFrom [] block) (lastFrom [] block) .used ≤ length b) (sym (parts-of block .whole)) (lines-within room r (linesFrom [] block) (lastFrom [] block))
+
+-- ---- what a caller may count on
+
+-- what was written over a buffer that keeps its length is not longer
+pub over-fits : (text old new : List ℕ) → new ≡ over text old → length new ≡ length old → length text ≤ length old
+unfolding over
+over-fits text old new e k = omega (arith, ap length e, length-append text (drop (length text) old), length-drop (length text) old)
+
+-- the answers lie in the buffer, the bytes that are done with in the block
+pub feed-inside : {r : Replay} {block old new : List ℕ} {f : Fed} → Feeds r block old new f → length new ≡ length old → (f .len ≤ length old) × (f .used ≤ length block)
+feed-inside {r} {block} {old} {new} {f} p k =
+    (omega (arith, p .len, over-fits (feedOf (length old) r block .text) old new (p .left) k), omega (arith, p .used, feed-within (length old) r block))
+
+-- and where there is room, what is left as it is has no LF and at most 4,095 bytes
+pub feed-leaves : {r : Replay} {block old new : List ℕ} {f : Fed} → Feeds r block old new f → 4096 ≤ length old → f .used ≡ 0 → Plain block × (length block ≤ 4095)
+feed-leaves {r} {block} {old} p h e = feed-progress (length old) r block h (sym (p .used) ∙ e)
+
+-- no more bytes are moved than lie between the two places
+pub carry-inside : {from to r : ℕ} {old new : List ℕ} → Carries from to old new r → r ≤ to - from
+unfolding partOf
+carry-inside {from} {to} {r} {old} p = omega (arith, p .len, length-take (to - from) (drop from old))

@@ -49,11 +49,11 @@ module _ {from to i n : ℕ} {old new : List ℕ} (m : Moved from to old new i n
         most = omega (arith, m .place);
         within = omega (arith, m .place, moved-length);
         left =
-          ap (λ (l : List ℕ). set l n v) (m .left)
-          ∙ ap (λ (j : ℕ). sets (sets old 0 xs) j (v ∷ [])) size
-          ∙ sym (sets-append old 0 xs (v ∷ []))
-          ∙ ap (λ (b : ℕ). sets old 0 (xs ++ b ∷ [])) (sym next)
-          ∙ ap (sets old 0) (sym (take-suc (drop from old) n 0 (omega (arith, m .place, moved-length, length-drop from old))) ∙ ap (λ (j : ℕ). take j (drop from old)) (sym (add-one n)));
+            ap (λ (l : List ℕ). set l n v) (m .left)
+            ∙ ap (λ (j : ℕ). sets (sets old 0 xs) j (v ∷ [])) size
+            ∙ sym (sets-append old 0 xs (v ∷ []))
+            ∙ ap (λ (b : ℕ). sets old 0 (xs ++ b ∷ [])) (sym next)
+            ∙ ap (sets old 0) (sym (take-suc (drop from old) n 0 (omega (arith, m .place, moved-length, length-drop from old))) ∙ ap (λ (j : ℕ). take j (drop from old)) (sym (add-one n)));
       }
 
   moved-all : take n (drop from old) ≡ partOf from to old → Carries from to old new n

@@ -61,7 +61,7 @@ unfolding over begunLine begunOf tooLong
 feeds-on {r} {block} {old} {end} e h p k s =
     let g : Gave = record { next = inLong (r .controller); used = length block; text = [] } in
     let far : 4095 < length (begunOf (r .long) ++ block) =
-        subst (λ (b : Bool). 4095 < length (begunOf b ++ block)) (sym e) (omega (arith, length-append (begunOf true) block, length-replicate {A = ℕ} 4096 0)) in
+    subst (λ (b : Bool). 4095 < length (begunOf b ++ block)) (sym e) (omega (arith, length-append (begunOf true) block, length-replicate {A = ℕ} 4096 0)) in
     feeds g (feed-begun (length old) r block h (ends-begun p k) ∙ pick-t _ _ _ (lt-ltb 4095 _ far)) (carried r e) (omega (arith, p .within)) refl refl s
 
 -- it ends, and is answered ?
@@ -76,13 +76,13 @@ feeds-after {r} {block} {old} {mid} {new} {line} {end} {n} {f} e h l p q =
     let rest = drop (end + 1) block in
     let g = feedOf (length mid - n) (between c) rest in
     let asks : answerTo c (begunOf (r .long) ++ line) ≡ record { next = c; text = text } =
-        ap (λ (b : Bool). answerTo c (begunOf b ++ line)) e ∙ too-long c (begunOf true ++ line) (omega (arith, length-append (begunOf true) line, length-replicate {A = ℕ} 4096 0)) in
+    ap (λ (b : Bool). answerTo c (begunOf b ++ line)) e ∙ too-long c (begunOf true ++ line) (omega (arith, length-append (begunOf true) line, length-replicate {A = ℕ} 4096 0)) in
     let room : length old - length text ≡ length mid - n = omega (arith, p .long, p .next) in
     let whole : feedOf (length old) r block ≡ ahead line text g =
-        ap (feedOf (length old) r) (l .cut)
-        ∙ feed-whole (length old) r line rest h (l .plain)
-        ∙ ap (λ (s : Step). ahead line (s .text) (feedOf (length old - length (s .text)) (between (s .next)) rest)) asks
-        ∙ ap (λ (k : ℕ). ahead line text (feedOf k (between c) rest)) room in
+    ap (feedOf (length old) r) (l .cut)
+    ∙ feed-whole (length old) r line rest h (l .plain)
+    ∙ ap (λ (s : Step). ahead line (s .text) (feedOf (length old - length (s .text)) (between (s .next)) rest)) asks
+    ∙ ap (λ (k : ℕ). ahead line text (feedOf k (between c) rest)) room in
     let size = length-append text (g .text) in
     feeds (ahead line text g) whole (q .next) (omega (arith, q .used, l .place)) (omega (arith, q .len, p .next, size))
     (q .left

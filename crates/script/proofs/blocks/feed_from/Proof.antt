@@ -14,8 +14,9 @@ use Rattle.controller.specs.Says.{saysTick, Ticks}
 use Rattle.script.specs.Answer.{Step, tickText, answered, answerTo}
 use Rattle.script.specs.Print.{prints-over}
 use Rattle.script.specs.Steps.{Answers}
+use Rattle.script.specs.Blocks.{over-fits}
 use Rattle.script.specs.Feeding.{in-enough, TickStands, TickAt}
-use Rattle.script.proofs.Going.{Going, going-none, going-line, going-stopped, going-left, ends-line, put-part, part-length, over-fits}
+use Rattle.script.proofs.Going.{Going, going-none, going-line, going-stopped, going-left, ends-line, put-part, part-length}
 use borrow.Author.Needs.{needs}
 use Rattle.script.proofs.blocks.feed_from.Statement.{statement}
 use Rattle.script.proofs.blocks.feed_from.Tie as tie
@@ -47,7 +48,7 @@ tick-written c =
     let part = take (length (c .before .before .before .before .before .before .before .before .before .loop .out) - c .before .before .before .before .before .before .before .before .before .loop .len) (drop (c .before .before .before .before .before .before .before .before .before .loop .len) (c .before .before .before .before .before .before .before .before .before .loop .out)) in
     let p = prints-over (omega (arith, part-length (c .before .before .before .before .before .before .before .before .before .loop .out) (c .before .before .before .before .before .before .before .before .before .loop .len), c .before .before .before .before .before .before .before .before .loop-test .taken)) (c .put-tick .ensures) in
     let text : answerTo (c .before .before .before .before .before .before .before .before .before .loop .c) (stood (c .before .before .before .before .before) .line) .text ≡ tickText (saysTick (c .before .before .before .tick .result .answer)) =
-        ap (λ (s : Step). s .text) (stood (c .before .before .before .before .before) .asks (c .before .before .before .before .before .before .before .before .before .loop .c)) ∙ ap tickText (sym (ticked (c .before .before .before) .says)) in
+    ap (λ (s : Step). s .text) (stood (c .before .before .before .before .before) .asks (c .before .before .before .before .before .before .before .before .before .loop .c)) ∙ ap tickText (sym (ticked (c .before .before .before) .says)) in
     (p .0 ∙ ap (λ (t : List ℕ). over t part) (sym text), p .1 ∙ ap length (sym text))
 
 tick-room : (c : tie.After-put-tick Inv-loop μ-loop) → c .put-tick .result ≤ length (c .before .before .before .before .before .before .before .before .before .loop .out) - c .before .before .before .before .before .before .before .before .before .loop .len

@@ -34,9 +34,9 @@ passed-more block at i p h n =
       after = omega (arith, p .after);
       within = omega arith;
       plain =
-        subst (λ (j : ℕ). Plain (take j (drop at block))) next
-        (subst Plain (sym (take-suc (drop at block) k 0 (omega (arith, p .after))))
-        (plain-more (take k (drop at block)) (getD (drop at block) k 0) (p .plain) (λ e. n (sym here ∙ e))));
+          subst (λ (j : ℕ). Plain (take j (drop at block))) next
+          (subst Plain (sym (take-suc (drop at block) k 0 (omega (arith, p .after))))
+          (plain-more (take k (drop at block)) (getD (drop at block) k 0) (p .plain) (λ e. n (sym here ∙ e))));
     }
 
 abbrev Inv-loop : tie.InvT-loop
