@@ -4,6 +4,7 @@ pub mod Read
 pub mod Says
 pub mod AnswerLaws
 pub mod Linear
+pub mod Table
 pub mod CheckLaws
 pub mod FrameLaws
 pub mod ReadLaws

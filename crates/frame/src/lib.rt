@@ -6,6 +6,7 @@ ghost use lib.ListN.{length, take, replicate};
 ghost use lib.Seq.{sets};
 ghost use Rattle.paper.specs.Answer.{Fills};
 ghost use Rattle.frame.specs.Check.{check, enter};
+ghost use Rattle.frame.specs.Table.{entries};
 ghost use Rattle.frame.specs.Frame.{sentByte, sent, frame, framable, writeOf};
 ghost use Rattle.frame.specs.Read.{grown, step, readAll, tooShort, bad};
 ghost use Rattle.frame.specs.Says.{saysWrote, Reads};
@@ -55,24 +56,33 @@ enum State {
     },
 }
 
+// The table, made once for the bytes of a body.
+fn made_table() -> [u8; 256]
+    ensures { λ r. ⌜ r ≡ entries 256 0 ⌝ }
+{
+    TABLE
+}
+
 // A byte enters the check.
-fn enter(s: u8, x: u8) -> u8
+fn enter(table: &[u8; 256], s: u8, x: u8) -> u8
+    requires { ⌜ now table ≡ entries 256 0 ⌝ }
     ensures { λ r. ⌜ r ≡ enter s x ⌝ }
 {
-    TABLE[s as usize] ^ x
+    table[s as usize] ^ x
 }
 
 // The check byte of a body.
 pub fn check_byte(body: &[u8]) -> u8
     ensures { λ r. ⌜ r ≡ check (now (body .entry)) ⌝ }
 {
+    let table = made_table();
     let mut c: u8 = 0;
     let mut i: usize = 0;
     while i < body.len() {
-        c = enter(c, body[i]);
+        c = enter(&table, c, body[i]);
         i += 1;
     }
-    enter(c, 0)
+    enter(&table, c, 0)
 }
 
 // Whether a body can be framed.

@@ -30,13 +30,13 @@ impl Window {
     pub fn push(self, x: i32) -> Window
         ensures { λ r. ⌜ r ≡ pushOf self x ⌝ }
     {
-        let mut samples = self.samples;
-        let mut i: usize = 127;
-        while 0 < i {
-            samples[i] = samples[i - 1];
-            i -= 1;
+        let old = self.samples;
+        let mut samples = [x; 128];
+        let mut i: usize = 0;
+        while i < 127 {
+            samples[i + 1] = old[i];
+            i += 1;
         }
-        samples[0] = x;
         Window {
             samples: samples,
             held: grown(self.held),

@@ -1,26 +1,27 @@
--- What lies past place i is moved one place on already; the new sample takes the first place.
+-- The new sample stands first; behind it the old ones are laid out, place by place.
 use mathlib.Core.Path.{_≡_, refl}
-use mathlib.Core.List.{List}
-use Prim.Native.Nat.{ℕ, _-_, _^_, _≤_, _<_}
-use borrow.Author.Needs.{needs}
+use mathlib.Core.List.{List, _∷_}
+use Prim.Native.Nat.{ℕ, suc, _+_, _-_, _^_, _≤_, _<_}
 use native.Mathlib.Omega.{arith}
+use native.Mathlib.Numerals.{add-one}
 use lib.IntN.{ℤ, pos}
 use lib.ListN.{length, getD, set}
 use lib.Signed.{mag}
 use mir.Syntax.{w32}
 use mir.Val.{toZ, ofZ}
 use mir.Facts.{toZ-ofZ}
+use borrow.Author.Needs.{needs}
 use Rattle.window.specs.declared.Window.{Window}
 use Rattle.window.specs.Window.{pushOf}
-use Rattle.window.proofs.Shift.{moved, moved-none, moved-step, moved-all}
+use Rattle.window.proofs.Shift.{laid, laid-step, laid-all}
 use Rattle.window.proofs.Window.push.Statement.{statement}
 use Rattle.window.proofs.Window.push.Tie as tie
 
 abbrev Inv-loop : tie.InvT-loop
-Inv-loop self x samples₀ i₀ samples i = (i ≤ 127) × (samples ≡ moved samples₀ 127 i)
+Inv-loop self x old samples₀ i₀ samples i = (i ≤ 127) × (samples ≡ laid (toZ w32 x ∷ old) (toZ w32 x) 128 (suc i))
 
 abbrev μ-loop : tie.MeasureT-loop
-μ-loop self x samples₀ i₀ samples i = i
+μ-loop self x old samples₀ i₀ samples i = 127 - i
 
 long : (c : tie.Start Inv-loop μ-loop) → length (c .args .self .samples) ≡ 128
 long c = search needs
@@ -30,47 +31,44 @@ back : (z : ℤ) → mag z < 2 ^ 31 → toZ w32 (ofZ w32 z) ≡ z
 back z h = toZ-ofZ (record { sfits = h })
 
 -- one turn
-again : (l a : List ℤ) (i : ℕ) → length l ≡ 128 → a ≡ moved l 127 i → 0 < i → i ≤ 127 → set a i (getD a (i - 1) (pos 0)) ≡ moved l 127 (i - 1)
-again l a i e m h k = rw m (moved-step l 127 i h k (omega arith))
+again : (l a : List ℤ) (x : ℤ) (i : ℕ) → length l ≡ 128 → i < 127 → a ≡ laid (x ∷ l) x 128 (suc i) → set a (i + 1) (getD l i (pos 0)) ≡ laid (x ∷ l) x 128 (suc (i + 1))
+again l a x i e h m = rw (m, add-one) (laid-step (x ∷ l) x 128 (suc i) (omega arith) (omega arith))
 
 -- after the last turn
-pushed : (w : Window) (x v : ℤ) (a : List ℤ) (i h : ℕ) → length (w .samples) ≡ 128 → a ≡ moved (w .samples) 127 i → i ≡ 0 → v ≡ x → h ≡ pushOf w x .held → record { samples = set a 0 v; held = h } ≡ pushOf w x
+pushed : (w : Window) (x v : ℤ) (a : List ℤ) (i h : ℕ) → a ≡ laid (v ∷ w .samples) v 128 (suc i) → i ≡ 127 → v ≡ x → h ≡ pushOf w x .held → record { samples = a; held = h } ≡ pushOf w x
 unfolding pushOf
-pushed w x v a i h e m z s g = rw (m, z, s, g, moved-all (w .samples) 127 x e) refl
+pushed w x v a i h m z s g = rw (m, z, s, g, laid-all (x ∷ w .samples) x 128) refl
 
 loop-holds : tie.Need-loop-holds Inv-loop μ-loop
-loop-holds c = (omega arith, moved-none (c .before .args .self .samples) 127 (long (c .before)))
-
-sub-samples : tie.Need-sub-samples Inv-loop μ-loop
-sub-samples c = omega arith
+loop-holds c = (omega arith, refl)
 
 mul-samples : tie.Need-mul-samples Inv-loop μ-loop
-mul-samples c = omega arith
+mul-samples c = search needs
 
 array-copy-out-samples : tie.Need-array-copy-out-samples Inv-loop μ-loop
-array-copy-out-samples c = omega arith
+array-copy-out-samples c = search needs
+
+add-samples : tie.Need-add-samples Inv-loop μ-loop
+add-samples c = search needs
 
 mul-samples-2 : tie.Need-mul-samples-2 Inv-loop μ-loop
-mul-samples-2 c = omega arith
+mul-samples-2 c = search needs
 
 array-set-from-samples : tie.Need-array-set-from-samples Inv-loop μ-loop
-array-set-from-samples c = omega arith
+array-set-from-samples c = search needs
 
-sub-i : tie.Need-sub-i Inv-loop μ-loop
-sub-i c = omega arith
+add-i : tie.Need-add-i Inv-loop μ-loop
+add-i c = search needs
 
 loop-less : tie.Need-loop-less Inv-loop μ-loop
-loop-less c = omega arith
+loop-less c = search needs
 
 loop-again : tie.Need-loop-again Inv-loop μ-loop
 loop-again c =
     let v = c .before .before .loop in
     let d = c .before .before .before .before in
-    let given = c .samples2 .given in
-    (omega arith, rw back (again (d .args .self .samples) (v .samples) (v .i) (long d) (v .inv .1) (omega arith) (omega arith)))
-
-array-set-from-samples-2 : tie.Need-array-set-from-samples-2 Inv-loop μ-loop
-array-set-from-samples-2 c = omega arith
+    let given = c .samples .given in
+    (omega arith, rw back (again (d .args .self .samples) (v .samples) _ (v .i) (long d) (omega arith) (v .inv .1)))
 
 grown-requires : tie.Need-grown-requires Inv-loop μ-loop
 grown-requires c κs = search needs
@@ -80,7 +78,7 @@ unfolding pushOf
 returns c =
     let v = c .before .before .loop in
     let d = c .before .before .before .before in
-    pushed (d .args .self) (d .args .x) _ (v .samples) (v .i) (c .grown .result) (long d) (v .inv .1) (omega arith) (toZ-ofZ (d .fits .x)) (c .grown .ensures)
+    pushed (d .args .self) (d .args .x) _ (v .samples) (v .i) (c .grown .result) (v .inv .1) (omega arith) (toZ-ofZ (d .fits .x)) (c .grown .ensures)
 
 pub push-spec : {M : Type 1} → statement M
 push-spec =
@@ -89,14 +87,13 @@ push-spec =
     Inv-loop
     μ-loop
     loop-holds
-    sub-samples
     mul-samples
     array-copy-out-samples
+    add-samples
     mul-samples-2
     array-set-from-samples
-    sub-i
+    add-i
     loop-less
     loop-again
-    array-set-from-samples-2
     grown-requires
     returns)
