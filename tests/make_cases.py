@@ -968,9 +968,28 @@ def journals_cases():
     write('empty.journal', b'')
 
 
+def largest_journal():
+    """What `hours` gets in the gate: 65,536 bytes, 744 hours, every kind of
+    hour. The last hour's doses take what is left, one of them a shorter line."""
+    d, h, rng = journals.d, journals.h, random.Random(11)
+    text, count = b'', 990000
+    for hour in range(9999256, 9999999):
+        for _ in range(0 if hour % 7 == 3 else rng.randint(1, 5)):
+            count += 1
+            text += d(hour, count, rng.randint(1000000, 1800000), count % 2)
+        if hour % 11 != 5:
+            text += h(hour)
+    left = 65536 - len(text) - len(h(9999999))
+    whole, rest = divmod(left, len(d(9999999, count, 1800000)))
+    text += d(9999999, count, 10 ** (rest - 21)) + d(9999999, count, 1800000) * whole
+    with open(os.path.join(ROOT, 'crates', 'hours', 'stdin'), 'wb') as file:
+        file.write(text + h(9999999))
+
+
 def main():
     os.makedirs(CASES, exist_ok=True)
     journals_cases()
+    largest_journal()
     for case in (settings_case, al0_case, al1_case, al2_case, al3_case,
                  faults_case, line_case, frames_case, fields_case,
                  journal_case, malformed_case, long_settle_case, mixed_case):
