@@ -126,7 +126,6 @@ def stored_journals():
 def stored_record():
     yield from stored('record', 'tests/cases/*.record')
     yield from stored('record', 'samples/*.record')
-    yield from stored('record', 'crates/record/stdin')
 
 
 def made(name, *words):

@@ -409,8 +409,6 @@ def cases():
     for path in sorted(paths, key=lambda path: (os.path.getsize(path), path)):
         with open(path, 'rb') as file:
             yield os.path.basename(path), file.read()
-    with open(os.path.join(ROOT, 'crates', 'record', 'stdin'), 'rb') as file:
-        yield 'stdin.record', file.read()
 
 
 def outputs():
