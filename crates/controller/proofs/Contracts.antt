@@ -15,7 +15,7 @@ use Rattle.dosing.specs.declared.Phase.{Phase}
 use Rattle.dosing.specs.declared.Phase.the-variants.{Ready, Coarse, Fine, Hold, Settle, Discharge, Load, Calm, DoseCoarse, DoseFine, DoseSettle}
 use Rattle.controller.specs.Calls.{atReady, isReady, restartOf, controllerIn, taken, after, settingsAnswer, settingsOf, resetOf}
 use Rattle.controller.specs.Sound.{Sound}
-use Rattle.controller.specs.Done.{refused-done, fault-done}
+use Rattle.paper.specs.AnswerLaws.{refused-done, fault-done}
 use Rattle.controller.specs.Keeps.{restart-sound, settings-sound, reset-sound}
 use Rattle.controller.specs.Says.{saysSet, saysReset, saysRestart, Sets, Resets, Restarts}
 use Rattle.controller.specs.declared.Controller.{Controller}

@@ -50,7 +50,7 @@ use Rattle.controller.specs.Sound.{Sound}
 use Rattle.controller.specs.Says.{saysReply, placeAndLength, bytesOf, Replies}
 use Rattle.controller.specs.Stages.{unreadOf, addressedBy, codedBy, timedBy, zeroingBy, stagesOf, Holds}
 use Rattle.controller.specs.Parts.{Small}
-use Rattle.controller.specs.Done.{refused-done, fault-done, done-refused, fault-refused}
+use Rattle.paper.specs.AnswerLaws.{refused-done, fault-done, done-refused, fault-refused}
 use Rattle.controller.specs.Bounds.{filtered-within}
 use Rattle.controller.specs.Keeps.{request-sound}
 use Rattle.controller.specs.declared.Controller.{Controller}

@@ -35,7 +35,7 @@ use Rattle.controller.specs.Line.{filtered, Asked, addressed, zeroable, 
 use Rattle.controller.specs.Sound.{Sound, Abandoned}
 use Rattle.controller.specs.Setters.{zero-sound, counters-sound}
 use Rattle.controller.specs.Ways.{tick-ways, clear-watched}
-use Rattle.controller.specs.Done.{refused-done, on-done, passed, failed}
+use Rattle.paper.specs.AnswerLaws.{refused-done, on-done, passed, failed}
 use Rattle.controller.specs.Bounds.{and-left, and-right, or-left, or-right, within-at, near-most, clear-faulted, ready-is}
 use Rattle.controller.specs.declared.Controller.{Controller}
 use Rattle.controller.specs.declared.Counters.{Counters}

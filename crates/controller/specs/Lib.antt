@@ -10,7 +10,6 @@ pub mod LineCases
 pub mod Outside
 pub mod Made
 pub mod Parts
-pub mod Done
 pub mod Bounds
 pub mod Setters
 pub mod Ways

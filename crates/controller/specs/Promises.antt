@@ -31,7 +31,7 @@ use Rattle.controller.specs.Tick.{Result, Told, saysFault, faulted, over
 use Rattle.controller.specs.Calls.{isReady, storedBad, restartOf, freshOf, taken, after, settingsAnswer, settingsOf, resetAnswer, resetOf, linkOf}
 use Rattle.controller.specs.Line.{filtered, weightFrom, weightBy, Asked, Replied, askedOf, replyFrame, zeroedBy, replied, repliesTo, requestOf}
 use Rattle.controller.specs.Sound.{Sound, Abandoned}
-use Rattle.controller.specs.Done.{refused-done, fault-done, done-refused, fault-refused, on-done, passed, failed}
+use Rattle.paper.specs.AnswerLaws.{refused-done, fault-done, done-refused, fault-refused, on-done, passed, failed}
 use Rattle.controller.specs.Bounds.{weight-within, clear-faulted, ready-is}
 use Rattle.controller.specs.Ways.{tick-ways}
 use Rattle.controller.specs.Keeps.{after-most}

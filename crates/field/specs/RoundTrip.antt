@@ -1,6 +1,6 @@
 -- What was written reads back as the values; a field's bytes are small; a small weight is never refused. Assumes nothing.
 use mathlib.Core.Path.{_≡_, refl}
-use mathlib.Core.Bool.{Bool, true, false, _&&_}
+use mathlib.Core.Bool.{Bool, true, false}
 use mathlib.Core.List.{[]}
 use Prim.Native.Nat.{ℕ, _+_, _*_, _/_, _%_, _≤_, _<_}
 use native.Mathlib.Omega.{arith}
@@ -8,7 +8,7 @@ use lib.Dec.{leb, eqb}
 use lib.IntN.{ℤ, pos, negsuc, natAbs}
 use borrow.Author.Tests.{le-leb, leb-true}
 use Rattle.laws.specs.Pick.{pick, pick-t}
-use Rattle.laws.specs.Whole.{false-true}
+use Rattle.laws.specs.Bools.{and-left, and-right}
 use Rattle.paper.specs.Answer.{done, refused}
 use Rattle.paper.specs.Numbers.{R16}
 use Rattle.field.specs.declared.Field.{Field}
@@ -16,17 +16,13 @@ use Rattle.field.specs.declared.Weight.{Weight}
 use Rattle.field.specs.Field.{bcdOf, isBcd, valueOf, bitOf, hasBit, negative, conOf, fieldOf, writable, writeOf, signed, weightOf, readable, readOf, weight}
 
 -- the two bounds of a weight that can be written
-and-true : (a b : Bool) → a && b ≡ true → (a ≡ true) × (b ≡ true)
-and-true true b h = (refl, h)
-and-true false b h = false-true h
-
 pub six-digits : (v : Weight) → writable v ≡ true → natAbs (v .value) ≤ 999999
 unfolding writable
-six-digits v h = leb-true (natAbs (v .value)) 999999 (and-true (leb (natAbs (v .value)) 999999) (leb (v .point) 7) h .0)
+six-digits v h = leb-true (natAbs (v .value)) 999999 (and-left (leb (natAbs (v .value)) 999999) (leb (v .point) 7) h)
 
 pub point-most : (v : Weight) → writable v ≡ true → v .point ≤ 7
 unfolding writable
-point-most v h = leb-true (v .point) 7 (and-true (leb (natAbs (v .value)) 999999) (leb (v .point) 7) h .1)
+point-most v h = leb-true (v .point) 7 (and-right (leb (natAbs (v .value)) 999999) (leb (v .point) 7) h)
 
 pub small-writable : (v : Weight) → natAbs (v .value) ≤ 999999 → v .point ≤ 7 → writable v ≡ true
 unfolding writable

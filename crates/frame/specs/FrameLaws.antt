@@ -1,6 +1,6 @@
 -- How long a frame is, and what it is to be framable. Assumes nothing.
 use mathlib.Core.Path.{_≡_, refl, ap, _∙_, sym}
-use mathlib.Core.Bool.{Bool, true, false, not, _&&_}
+use mathlib.Core.Bool.{Bool, true, false, not, _&&_, and-false}
 use mathlib.Core.List.{List, [], _∷_, _++_, append-assoc, append-nil}
 use Prim.Native.Nat.{ℕ, _+_, _*_, _<_, _≤_}
 use native.Mathlib.Omega.{arith}
@@ -74,14 +74,6 @@ framable-is body e =
 pub fewest-two : (body : List ℕ) → 2 ≤ fewest body
 unfolding fewest
 fewest-two body = pick-all (λ (n : ℕ). 2 ≤ n) (extended body) (omega arith) (omega arith)
-
-pub and-false : (t : Bool) → (t && false) ≡ false
-and-false true = refl
-and-false false = refl
-
-pub and-true : (t : Bool) → (t && true) ≡ t
-and-true true = refl
-and-true false = refl
 
 -- too short or too long a body is not framable
 pub framable-short : (body : List ℕ) → length body < fewest body → framable body ≡ false

@@ -2,7 +2,6 @@ pub mod Check
 pub mod Frame
 pub mod Read
 pub mod Says
-pub mod AnswerLaws
 pub mod Linear
 pub mod Table
 pub mod CheckLaws

@@ -10,11 +10,11 @@ use borrow.Author.Tests.{le-leb, lt-leb}
 use Rattle.laws.specs.Pick.{pick-t, pick-f}
 use Rattle.laws.specs.Over.{sets-over}
 use Rattle.paper.specs.Answer.{Answer, done, refused, fault, told, inRoom, leaves, Fills}
+use Rattle.paper.specs.AnswerLaws.{refused-done}
 use Rattle.paper.specs.Numbers.{R8}
 use Rattle.text.specs.Put.{Puts}
 use Rattle.text.specs.PutLaws.{room-is, room-not, fit-puts, none-puts}
 use Rattle.journal.specs.Journal.{summaryOf}
-use Rattle.journal.specs.LineLaws.{refused-done}
 use Rattle.journal.specs.Says.{saysRefusal}
 use Rattle.journal.specs.declared.Line.{Line}
 use Rattle.journal.specs.declared.Refusal.{Refusal}

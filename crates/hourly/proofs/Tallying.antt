@@ -1,6 +1,6 @@
 -- One line more, and what it does to the tally of each hour; the line at a place of an accepted journal. Assumes nothing.
 use mathlib.Core.Path.{_≡_, refl, sym, ap, _∙_, subst}
-use mathlib.Core.Bool.{Bool, true, false, _||_}
+use mathlib.Core.Bool.{Bool, true, false, _||_, or-true, or-false}
 use mathlib.Core.List.{List, [], _∷_, _++_, append-assoc, append-nil}
 use Prim.Native.Nat.{ℕ, suc, _+_, _-_, _^_, _≤_, _<_, max}
 use native.Mathlib.Omega.{arith}
@@ -60,14 +60,6 @@ greatest-more : (as' : List ℕ) (a : ℕ) → greatest (as' ++ a ∷ []) ≡ ma
 unfolding greatest
 greatest-more [] a = omega arith
 greatest-more (x ∷ xs) a = omega (arith, greatest-more xs a)
-
-or-true : (b : Bool) → (b || true) ≡ true
-or-true true = refl
-or-true false = refl
-
-or-false : (b : Bool) → (b || false) ≡ b
-or-false true = refl
-or-false false = refl
 
 -- the tally of an hour with these amounts
 abbrev tallyBy : List ℕ → Bool → Tally

@@ -14,13 +14,13 @@ use Rattle.laws.specs.Over.{over, sets-over}
 use Rattle.laws.specs.Decimal.{decimal, digitsOf, glyph, Parsed, good, bad}
 use Rattle.laws.specs.DecimalLaws.{decimal-length}
 use Rattle.paper.specs.Answer.{Answer, done, refused, fault, told}
+use Rattle.paper.specs.AnswerLaws.{refused-done}
 use Rattle.paper.specs.Numbers.{R10, R11, R12, R13}
 use Rattle.text.specs.Put.{Puts}
 use Rattle.text.specs.PutLaws.{room-is, room-not, puts-fit, puts-none, puts-length}
 use Rattle.text.specs.Scan.{LF, TAB}
 use Rattle.journal.specs.Line.{lineOf}
 use Rattle.journal.specs.Journal.{hourIn, outOfOrder, tooFar, pastAfter, noPast, ordered, onLine, readFrom, journalOf}
-use Rattle.journal.specs.LineLaws.{refused-done}
 use Rattle.journal.specs.declared.Line.{Line}
 use Rattle.journal.specs.declared.Past.{Past}
 use Rattle.journal.specs.declared.Refusal.{Refusal}

@@ -11,9 +11,10 @@ use borrow.Author.Tests.{lt-ltb, le-ltb}
 use Rattle.laws.specs.Pick.{pick, pick-t, pick-f, pick-true, pick-false}
 use Rattle.laws.specs.Decimal.{Parsed, good, bad}
 use Rattle.paper.specs.Answer.{Answer, done, refused, fault, told}
+use Rattle.paper.specs.AnswerLaws.{refused-done, fault-done}
 use Rattle.paper.specs.Numbers.{R10, R11, R12, R13}
 use Rattle.journal.specs.Line.{textOf, inRange, lineOf}
-use Rattle.journal.specs.LineLaws.{refused-done, text-only, text-least, line-shorter, dose-range, on-range, Stands, stands}
+use Rattle.journal.specs.LineLaws.{text-only, text-least, line-shorter, dose-range, on-range, Stands, stands}
 use Rattle.journal.specs.Journal.{hourIn, outOfOrder, tooFar, noPast, pastAfter, ordered, onLine, readFrom, journalOf, summaryOf, journalText}
 use Rattle.journal.specs.declared.Line.{Line}
 use Rattle.journal.specs.declared.Line.the-variants.{Dose, On}
@@ -92,9 +93,6 @@ kept p l n a ls e = go (p .begun && outOfOrder (p .last) (p .closed) (hourIn l))
     go true y q r h = refused-done (sym (pick-true _ _) ∙ h)
     go false true q r h = refused-done (sym (pick-true _ _) ∙ sym (pick-false _ _) ∙ h)
     go false false q r h = (record { order = q; near = r }, sym (pick-false _ _) ∙ sym (pick-false _ _) ∙ h)
-
-fault-done : {X Y : Type 0} {x : X} {n : ℕ} {vs : List ℕ} → fault n vs ≡ done x → Y
-fault-done e = let z : _≡_ {A = ℕ} 0 1 = cc in let f : ⊥ = omega arith in absurd f
 
 told-done : (l : Line) (a : Answer (List Line)) (ls : List Line) → told (λ (ms : List Line). l ∷ ms) a ≡ done ls → (ms : List Line) × (a ≡ done ms) × (ls ≡ l ∷ ms)
 unfolding told

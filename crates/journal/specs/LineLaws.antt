@@ -9,10 +9,12 @@ use lib.ListN.{length, drop, length-append, length-drop}
 use lib.Seq.{drop-at, drop-drop}
 use borrow.Author.Tests.{leb-true, le-leb, lt-leb, eqb-true}
 use Rattle.laws.specs.Pick.{pick, pick-t, pick-f}
+use Rattle.laws.specs.Bools.{and-left, and-right}
 use Rattle.laws.specs.Whole.{false-true}
 use Rattle.laws.specs.Decimal.{Parsed, good, bad, numberAt, decimal, isDigit}
 use Rattle.laws.specs.DecimalLaws.{Stops, number-decimal, number-only, decimal-some, decimal-length}
 use Rattle.paper.specs.Answer.{done, refused, inRoom}
+use Rattle.paper.specs.AnswerLaws.{refused-done}
 use Rattle.paper.specs.Numbers.{R8, R10}
 use Rattle.text.specs.Scan.{LF, TAB, expect, onGood}
 use Rattle.text.specs.ScanLaws.{bad-good}
@@ -20,28 +22,12 @@ use Rattle.journal.specs.Line.{Placed, placed, lineAt, writeOf, oneLine,
 use Rattle.journal.specs.declared.Line.{Line}
 use Rattle.journal.specs.declared.Line.the-variants.{Dose, On}
 
-pub and-left : (a b : Bool) → (a && b) ≡ true → a ≡ true
-and-left true b e = refl
-and-left false b e = false-true e
-
-pub and-right : (a b : Bool) → (a && b) ≡ true → b ≡ true
-and-right true b e = e
-and-right false b e = false-true e
-
-pub and-true : (a : Bool) → (a && true) ≡ a
-and-true true = refl
-and-true false = refl
-
 within-length : (vs ms : List ℕ) → within vs ms ≡ true → length vs ≡ length ms
 unfolding within
 within-length [] [] e = refl
 within-length [] (m ∷ ms) e = false-true e
 within-length (v ∷ vs) [] e = false-true e
 within-length (v ∷ vs) (m ∷ ms) e = ap suc (within-length vs ms (and-right (leb v m) (within vs ms) e))
-
--- a refusal is no value
-pub refused-done : {X Y : Type 0} {x : X} {n : ℕ} {vs : List ℕ} → refused n vs ≡ done x → Y
-refused-done e = let z : _≡_ {A = ℕ} 0 1 = cc in let f : ⊥ = omega arith in absurd f
 
 stops : (vs rest : List ℕ) → Stops (fieldsText vs ++ rest)
 unfolding fieldsText isDigit

@@ -4,9 +4,9 @@ use mathlib.Core.List.{List, [], _∷_}
 use Prim.Native.Nat.{ℕ}
 use lib.ListN.{length}
 use Rattle.paper.specs.Answer.{Answer, done, refused, told, same, Fills, fills-one}
+use Rattle.paper.specs.AnswerLaws.{refused-done}
 use Rattle.paper.specs.Numbers.{R8, R10, R11, R12, R13}
 use Rattle.journal.specs.Line.{Placed, writeOf, oneLine, lineAt}
-use Rattle.journal.specs.LineLaws.{refused-done}
 use Rattle.journal.specs.Journal.{journalOf, summaryOf}
 use Rattle.journal.specs.declared.Line.{Line}
 use Rattle.journal.specs.declared.Wrote.{Wrote}

@@ -1,4 +1,5 @@
 pub mod Pick
+pub mod Bools
 pub mod Tests
 pub mod Whole
 pub mod Over

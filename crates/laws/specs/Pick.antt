@@ -30,6 +30,12 @@ unfolding pick
 pick-all P true p q = p
 pick-all P false p q = q
 
+-- what each has where the test picks it, the one picked has
+pub pick-if : {A : Type 0} (P : A → Type 0) (b : Bool) {x y : A} → (b ≡ true → P x) → (b ≡ false → P y) → P (pick b x y)
+unfolding pick
+pick-if P true p q = p refl
+pick-if P false p q = q refl
+
 pub pick-same : {A : Type 0} (b : Bool) (x : A) → pick b x x ≡ x
 unfolding pick
 pick-same true x = refl

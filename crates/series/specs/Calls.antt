@@ -16,7 +16,7 @@ use Rattle.controller.specs.declared.Restarted.{Restarted}
 use Rattle.controller.specs.Calls.{restartOf, controllerIn, freshOf, linkOf}
 use Rattle.controller.specs.Says.{saysRestart, Ticks, Sets, Resets, Restarts, Replies}
 use Rattle.controller.specs.Made.{Made}
-use Rattle.controller.specs.Done.{refused-done, fault-done}
+use Rattle.paper.specs.AnswerLaws.{refused-done, fault-done}
 use Rattle.series.specs.Events.{tick, link, request, settings, reset, restart, restartedFrom, eventOf, run}
 use Rattle.series.specs.Carried.{Carried}
 

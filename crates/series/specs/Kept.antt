@@ -19,7 +19,7 @@ use Rattle.controller.specs.Tick.{Result, countedOf, tickOf}
 use Rattle.controller.specs.Calls.{storedBad, restartOf, freshOf, isReady, taken, after, settingsAnswer, settingsOf, resetAnswer, resetOf, linkOf}
 use Rattle.controller.specs.Line.{Asked, Replied, zeroedBy, replied, repliesTo, askedOf, requestOf}
 use Rattle.controller.specs.Sound.{Sound}
-use Rattle.controller.specs.Done.{on-done, failed}
+use Rattle.paper.specs.AnswerLaws.{on-done, failed}
 use Rattle.controller.specs.Keeps.{tick-sound, link-sound, request-sound, settings-sound, reset-sound, restart-sound, fresh-sound}
 use Rattle.controller.specs.Outside.{Agrees, dosesSeen}
 use Rattle.controller.specs.OutsideLaws.{countedIn, tick-agrees, tick-counters}

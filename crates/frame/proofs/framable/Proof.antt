@@ -1,10 +1,11 @@
 use mathlib.Core.Path.{sym}
+use mathlib.Core.Bool.{and-true}
 use native.Mathlib.Omega.{arith}
 use borrow.Author.Needs.{needs}
 use borrow.Author.Tests.{le-leb, eq-eqb, ne-eqb}
 use Rattle.laws.specs.Pick.{pick-true, pick-false}
 use Rattle.frame.specs.Frame.{framable, fewest, extended}
-use Rattle.frame.specs.FrameLaws.{fewest-two, framable-short, framable-long, and-true}
+use Rattle.frame.specs.FrameLaws.{fewest-two, framable-short, framable-long}
 use Rattle.frame.proofs.framable.Statement.{statement}
 use Rattle.frame.proofs.framable.Tie as tie
 

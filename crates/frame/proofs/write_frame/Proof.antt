@@ -11,7 +11,7 @@ use Rattle.paper.specs.Answer.{refused, inRoom}
 use Rattle.paper.specs.Numbers.{R8}
 use Rattle.frame.specs.Frame.{frame, framable, writeOf}
 use Rattle.frame.specs.FrameLaws.{framable-is}
-use Rattle.frame.specs.AnswerLaws.{fills-refused, fills-done}
+use Rattle.paper.specs.AnswerLaws.{fills-refused, fills-done}
 use Rattle.frame.proofs.write_frame.Statement.{statement}
 use Rattle.frame.proofs.write_frame.Tie as tie
 

@@ -1,7 +1,7 @@
 use mathlib.Core.Path.{sym, ap, _∙_}
+use mathlib.Core.Bool.{and-true}
 use borrow.Author.Tests.{le-leb, lt-leb}
 use Rattle.journal.specs.Line.{inRange, within, mostOfD, mostOfH}
-use Rattle.journal.specs.LineLaws.{and-true}
 use borrow.Author.Needs.{needs}
 use Rattle.journal.proofs.in_range.Statement.{statement}
 use Rattle.journal.proofs.in_range.Tie as tie

@@ -13,7 +13,7 @@ use Rattle.laws.specs.Pick.{pick-t, pick-f, so}
 use Rattle.laws.specs.Over.{over, sets-append, sets-over}
 use Rattle.frame.specs.Frame.{framable}
 use Rattle.frame.specs.FrameLaws.{framable-long}
-use Rattle.frame.specs.AnswerLaws.{hands-refused, hands-done}
+use Rattle.paper.specs.AnswerLaws.{hands-refused, hands-done}
 use Rattle.frame.specs.Puts.{Puts}
 use Rattle.message.specs.Message.{addressBytes, bodyOf, buildOf}
 use Rattle.message.specs.BuildSplit.{address-most, body-length}

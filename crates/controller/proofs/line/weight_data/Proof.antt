@@ -8,7 +8,7 @@ use Rattle.field.specs.RoundTrip.{six-digits, point-most, written-small}
 use Rattle.field.specs.Says.{saysWritten}
 use Rattle.field.specs.declared.Weight.{Weight}
 use Rattle.controller.specs.Line.{fieldBytes}
-use Rattle.controller.specs.Done.{refused-done}
+use Rattle.paper.specs.AnswerLaws.{refused-done}
 use Rattle.controller.proofs.line.weight_data.Statement.{statement}
 use Rattle.controller.proofs.line.weight_data.Tie as tie
 

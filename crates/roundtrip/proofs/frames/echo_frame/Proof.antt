@@ -22,7 +22,7 @@ use Rattle.frame.specs.declared.Wrote.{Wrote}
 use Rattle.frame.specs.declared.Wrote.the-variants as W
 use Rattle.frame.specs.declared.Found.the-variants as F
 use Rattle.frame.specs.declared.Read.{Read}
-use Rattle.frame.specs.AnswerLaws.{hands-refused, hands-done}
+use Rattle.paper.specs.AnswerLaws.{hands-refused, hands-done}
 use Rattle.roundtrip.specs.Frames.{echoOf, saysEchoed}
 use Rattle.roundtrip.proofs.frames.echo_frame.Statement.{statement}
 use Rattle.roundtrip.proofs.frames.echo_frame.Tie as tie

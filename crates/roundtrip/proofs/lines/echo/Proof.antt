@@ -11,9 +11,10 @@ use borrow.Author.Needs.{needs}
 use Rattle.laws.specs.Pick.{pick-t, pick-f}
 use Rattle.laws.specs.Over.{over}
 use Rattle.paper.specs.Answer.{Answer, done, refused, told, leaves, Fills}
+use Rattle.paper.specs.AnswerLaws.{refused-done}
 use Rattle.paper.specs.Numbers.{R8, R10}
 use Rattle.journal.specs.Line.{inRange, textOf, writeOf, oneLine}
-use Rattle.journal.specs.LineLaws.{refused-done, text-most, write-range, write-fits, one-text}
+use Rattle.journal.specs.LineLaws.{text-most, write-range, write-fits, one-text}
 use Rattle.journal.specs.Says.{saysWrote, saysOne}
 use Rattle.journal.specs.declared.Line.{Line}
 use Rattle.journal.specs.declared.One.{One}

@@ -1,11 +1,15 @@
--- What an answer that is done tells of the tests before it. Assumes nothing.
+-- What is known of an answer: no two kinds are equal, what one that is done tells of the tests before it, and which contract a known answer meets. Assumes nothing.
 use mathlib.Core.Path.{_≡_, refl}
 use mathlib.Core.Bool.{Bool, true, false}
-use mathlib.Core.List.{List}
-use Prim.Native.Nat.{ℕ}
+use mathlib.Core.List.{List, _++_}
+use Prim.Native.Nat.{ℕ, _-_}
 use native.Mathlib.Omega.{arith}
+use lib.ListN.{length, replicate}
 use Rattle.laws.specs.Pick.{pick}
-use Rattle.paper.specs.Answer.{Answer, done, refused, fault, onDone}
+use Rattle.laws.specs.Over.{over}
+use Rattle.paper.specs.Answer.{Answer, done, refused, fault, told, onDone, bytesIn, leaves, Fills, Hands}
+
+-- ---- a refusal, a fault and what is done are no two of them equal
 
 pub refused-done : {X Q : Type 0} {n : ℕ} {vs : List ℕ} {x : X} → refused n vs ≡ done x → Q
 refused-done e = let z : _≡_ {A = ℕ} 0 1 = cc in let f : ⊥ = omega arith in absurd f
@@ -18,6 +22,8 @@ done-refused e = let z : _≡_ {A = ℕ} 0 1 = cc in let f : ⊥ = omega arith i
 
 pub fault-refused : {X Q : Type 0} {m n : ℕ} {us vs : List ℕ} → _≡_ {A = Answer X} (fault m us) (refused n vs) → Q
 fault-refused e = let z : _≡_ {A = ℕ} 0 1 = cc in let f : ⊥ = omega arith in absurd f
+
+-- ---- what an answer that is done tells
 
 -- where going on with an answer's values is done, the answer was done
 pub on-done : {A B Q : Type 0} (a : Answer A) (next : A → Answer B) (y : B) → onDone a next ≡ done y → ((x : A) → a ≡ done x → next x ≡ done y → Q) → Q
@@ -37,3 +43,23 @@ pub failed : {X : Type 0} (b : Bool) (x : X) (n : ℕ) (vs : List ℕ) (y : X) �
 unfolding pick
 failed true x n vs y e = refused-done e
 failed false x n vs y e = (refl, cc)
+
+-- ---- a call's answer meets its contract where the rule's answer is known
+
+module _ {rule : Answer (List ℕ)} {n : ℕ} {vs : List ℕ} (e : rule ≡ refused n vs) where
+  pub fills-refused : (old : List ℕ) → Fills (refused n vs) rule old old
+  unfolding told leaves
+  fills-refused old = record { says = rw e; left = rw e }
+
+  pub hands-refused : (m : ℕ) {array : List ℕ} → array ≡ replicate (m - 0) 0 → Hands m (refused n vs) rule array
+  unfolding told bytesIn
+  hands-refused m a = record { says = rw e; holds = rw e a }
+
+module _ {rule : Answer (List ℕ)} {bytes : List ℕ} (e : rule ≡ done bytes) {n : ℕ} (l : n ≡ length bytes) where
+  pub fills-done : {old new : List ℕ} → new ≡ over bytes old → Fills (done n) rule old new
+  unfolding told leaves
+  fills-done a = record { says = rw (e, l); left = rw e a }
+
+  pub hands-done : {m : ℕ} {array : List ℕ} → array ≡ bytes ++ replicate (m - length bytes) 0 → Hands m (done n) rule array
+  unfolding told bytesIn
+  hands-done a = record { says = rw (e, l); holds = rw e a }
