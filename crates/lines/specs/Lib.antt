@@ -1,0 +1,4 @@
+pub mod Lines
+pub mod Places
+pub mod Blocks
+pub mod Going
