@@ -1,18 +1,17 @@
 -- The P cases of document 01's boundary table, proved together: one list, one test computed over it, one law that turns it into the rule for each. Assumes nothing.
 use mathlib.Core.Path.{_≡_, refl}
-use mathlib.Core.Bool.{Bool, true, false, _&&_, _||_, xor, not}
-use mathlib.Core.List.{List, [], _∷_, _++_}
-use Prim.Native.Nat.{ℕ, zero, suc, _<_}
-use lib.Dec.{T, leb, eqb, eqb→eq}
+use mathlib.Core.Bool.{Bool, true, false, xor, not}
+use mathlib.Core.List.{List, [], _∷_}
+use Prim.Native.Nat.{ℕ, _<_}
+use lib.Dec.{T, eqb, eqb→eq}
 use lib.IntN.{ℤ, pos, negsuc}
-use lib.ListN.{length, getD, replicate}
-use lib.Signed.{leZ}
+use lib.ListN.{length, getD}
 use Rattle.laws.specs.Pick.{pick}
 use Rattle.laws.specs.Tests.{both, each, each-at, both-left, both-right}
 use Rattle.paper.specs.Answer.{Answer, done, refused, fault, onDone}
 use Rattle.settings.specs.declared.Settings.{Settings}
 use Rattle.settings.specs.Table.{firstBad, firstFrom, table, inRange, leastLevel, mostLevel, Wc, Wf}
-use Rattle.window.specs.Mean.{meanOf, roundAway, nearest, sum}
+use Rattle.window.specs.Mean.{meanOf, roundAway, halfUp, sumOf}
 use Rattle.window.specs.Window.{samplesOf, pushOf, emptyWindow}
 use Rattle.field.specs.declared.Field.{Field}
 use Rattle.field.specs.declared.Weight.{Weight}
@@ -22,7 +21,7 @@ use Rattle.dosing.specs.Rules.{stepOf, ready, readyToFill, readyToDose, waits, 
 use Rattle.controller.specs.declared.Controller.{Controller}
 use Rattle.controller.specs.State.{counters, restarted}
 use Rattle.controller.specs.Calls.{restartOf, controllerIn, storedBad}
-use Rattle.controller.specs.Tick.{Result, Told, tickOf, step2, step3, steps4and5, steps6to8, mismatched, runsAfter, runAfter, expected, step7, step8, seenOf, wOf, stableOf, filterOf, equalZ, none, calmRun, startOf, outside, faulted, saysFault, outputsOf, worth, input, overCapacity, changed, countersAfter, countedOf, recordsOf}
+use Rattle.controller.specs.Tick.{tickOf, step2, step3, steps4and5, steps6to8, mismatched, runsAfter, runAfter, expected, step7, step8, seenOf, wOf, stableOf, filterOf, equalZ, none, calmRun, startOf, outside, faulted, saysFault, outputsOf, worth, input, overCapacity, changed, countersAfter, countedOf, recordsOf}
 
 -- what a case asks, with document 01's numerals
 pub data Case : Type 0 where
@@ -169,7 +168,7 @@ passes-holds (totalAfter t amount t') u = eqb→eq (countedOf (counters 0 t) amo
 
 -- every case passes: computed over the whole list
 all-pass : T (each passes cases)
-unfolding each both cases passes says sameWeight sameFlag sameZ check enterAll enter enterBits enterBit fellOut readOf readable isBcd weightOf signed hasBit valueOf meanOf roundAway nearest sum outputsAt outputsAfter al1 controllerIn restartOf onDone firstBad firstFrom table inRange leastLevel mostLevel storedBad restarted tickOf step2 step3 steps4and5 steps6to8 mismatched runsAfter runAfter expected step7 step8 seenOf wOf stableOf filterOf equalZ none calmRun startOf outside faulted saysFault outputsOf worth input overCapacity changed countersAfter countedOf recordsOf stepOf ready readyToFill readyToDose waits zeroed nearZero fillBegins coarseStage fineStage fill full hold settle settleEnds dischargeOpens discharge amountOf load calm doseCoarse doseFine doseSettle reachedWf reachedWc notBelowZero Wc Wf samplesOf pushOf emptyWindow pick xor
+unfolding each both cases passes says sameWeight sameFlag sameZ check enterAll enter enterBits enterBit fellOut readOf readable isBcd weightOf signed hasBit valueOf meanOf roundAway halfUp sumOf outputsAt outputsAfter al1 controllerIn restartOf onDone firstBad firstFrom table inRange leastLevel mostLevel storedBad restarted tickOf step2 step3 steps4and5 steps6to8 mismatched runsAfter runAfter expected step7 step8 seenOf wOf stableOf filterOf equalZ none calmRun startOf outside faulted saysFault outputsOf worth input overCapacity changed countersAfter countedOf recordsOf stepOf ready readyToFill readyToDose waits zeroed nearZero fillBegins coarseStage fineStage fill full hold settle settleEnds dischargeOpens discharge amountOf load calm doseCoarse doseFine doseSettle reachedWf reachedWc notBelowZero Wc Wf samplesOf pushOf emptyWindow pick xor
 all-pass = tt
 
 -- all thirteen

@@ -11,7 +11,7 @@ use Rattle.paper.specs.Numbers.{R1, R2, R3, R15, F14, F21}
 use Rattle.settings.specs.Table.{firstBad, firstFrom, table, inRange, leastLevel, mostLevel, defaultSet, Wc, Wf}
 use Rattle.settings.specs.declared.Settings.{Settings}
 use Rattle.settings.specs.Cases.{setOf}
-use Rattle.window.specs.Mean.{meanOf, roundAway, nearest, sum}
+use Rattle.window.specs.Mean.{meanOf, roundAway, halfUp, sumOf}
 use Rattle.window.specs.Window.{samplesOf, pushOf, emptyWindow}
 use Rattle.dosing.specs.Rules.{stepOf, ready, readyToFill, readyToDose, waits, zeroed, nearZero, fillBegins, coarseStage, fineStage, fill, full, hold, settle, settleEnds, dischargeOpens, discharge, amountOf, load, calm, doseCoarse, doseFine, doseSettle, reachedWf, reachedWc, notBelowZero}
 use Rattle.dosing.specs.Rules.{units, gates}
@@ -39,7 +39,7 @@ ticked c (t ∷ ts) = ticked (tickOf c (t .0) (t .1) .next) ts
 
 -- to unfold this is to unfold every rule of these calls
 unfoldable pub rules : Unit {0}
-unfolding lastOf ticked setOf restartOf storedBad onDone firstBad firstFrom table inRange leastLevel mostLevel settingsOf settingsAnswer after taken resetOf resetAnswer isReady readyIn atReady linkOf xor answers freshOf restarted defaultSet tickOf step2 step3 steps4and5 steps6to8 mismatched runsAfter runAfter expected step7 step8 seenOf wOf stableOf filterOf equalZ none calmRun startOf outside faulted saysFault outputsOf worth input overCapacity changed countersAfter countedOf recordsOf stepOf ready readyToFill readyToDose waits zeroed nearZero fillBegins coarseStage fineStage fill full hold settle settleEnds dischargeOpens discharge amountOf load calm doseCoarse doseFine doseSettle reachedWf reachedWc notBelowZero Wc Wf samplesOf pushOf emptyWindow meanOf roundAway nearest sum pick
+unfolding lastOf ticked setOf restartOf storedBad onDone firstBad firstFrom table inRange leastLevel mostLevel settingsOf settingsAnswer after taken resetOf resetAnswer isReady readyIn atReady linkOf xor answers freshOf restarted defaultSet tickOf step2 step3 steps4and5 steps6to8 mismatched runsAfter runAfter expected step7 step8 seenOf wOf stableOf filterOf equalZ none calmRun startOf outside faulted saysFault outputsOf worth input overCapacity changed countersAfter countedOf recordsOf stepOf ready readyToFill readyToDose waits zeroed nearZero fillBegins coarseStage fineStage fill full hold settle settleEnds dischargeOpens discharge amountOf load calm doseCoarse doseFine doseSettle reachedWf reachedWc notBelowZero Wc Wf samplesOf pushOf emptyWindow meanOf roundAway halfUp sumOf pick
 rules = tt
 
 abbrev outputs : ℕ → Answer Told

@@ -1,6 +1,6 @@
 -- What the answers of the field's writer and reader say, in the paper's words. Assumes nothing.
 use mathlib.Core.Path.{_≡_, refl}
-use mathlib.Core.List.{List, []}
+use mathlib.Core.List.{[]}
 use Prim.Native.Nat.{ℕ}
 use lib.IntN.{ℤ, natAbs}
 use Rattle.paper.specs.Answer.{Answer, done, refused, same}

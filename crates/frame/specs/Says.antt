@@ -4,7 +4,7 @@ use mathlib.Core.Bool.{Bool}
 use mathlib.Core.List.{List, [], _∷_, _++_}
 use Prim.Native.Nat.{ℕ, _-_}
 use lib.ListN.{length, replicate}
-use Rattle.paper.specs.Answer.{Answer, done, refused, fault, told, bytesIn, Fills, same, fills-one}
+use Rattle.paper.specs.Answer.{Answer, done, refused, told, bytesIn, Fills, same, fills-one}
 use Rattle.paper.specs.Numbers.{R6, R8, R9, R14}
 use Rattle.frame.specs.Check.{check}
 use Rattle.frame.specs.Frame.{framable, writeOf}

@@ -1,5 +1,5 @@
 -- What the answers of splitting and building say, in the paper's words. Assumes nothing.
-use mathlib.Core.Path.{_≡_, refl, ap, ap₂}
+use mathlib.Core.Path.{_≡_, refl, ap₂}
 use mathlib.Core.List.{List, []}
 use Prim.Native.Nat.{ℕ}
 use Rattle.paper.specs.Answer.{Answer, done, refused, Hands, same, hands-one}

@@ -1,6 +1,6 @@
 -- The numbers of refusal and of faults (document 01, "Numbers of refusal", "One tick"). Assumes nothing.
 use mathlib.Core.Path.{_≡_, refl}
-use mathlib.Core.List.{List, [], _∷_}
+use mathlib.Core.List.{[], _∷_}
 use Prim.Native.Nat.{ℕ}
 
 -- inputs above 15

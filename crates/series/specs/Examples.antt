@@ -20,7 +20,7 @@ use Rattle.paper.specs.Answer.{onDone}
 use Rattle.settings.specs.Table.{firstBad, firstFrom, table, inRange, leastLevel, mostLevel, defaultSet, Wc, Wf}
 use Rattle.settings.specs.declared.Settings.{Settings}
 use Rattle.settings.specs.Cases.{setOf}
-use Rattle.window.specs.Mean.{meanOf, roundAway, nearest, sum}
+use Rattle.window.specs.Mean.{meanOf, roundAway, halfUp, sumOf}
 use Rattle.window.specs.Window.{samplesOf, pushOf, emptyWindow}
 use Rattle.dosing.specs.Rules.{stepOf, ready, readyToFill, readyToDose, waits, zeroed, nearZero, fillBegins, coarseStage, fineStage, fill, full, hold, settle, settleEnds, dischargeOpens, discharge, amountOf, load, calm, doseCoarse, doseFine, doseSettle, reachedWf, reachedWc, notBelowZero}
 use Rattle.controller.specs.declared.Controller.{Controller}
@@ -58,7 +58,7 @@ pub two-doses :
     (dosesAfter twoOfAL1 ≡ 112 ∷ 250 ∷ [])
     × (dosesAfter twoOfAL2 ≡ 200 ∷ 150 ∷ [])
     × (dosesAfter twoOfAL3 ≡ 250 ∷ 100 ∷ [])
-unfolding seen seenAfter anewIf anew eventOf restartedFrom nothingSeen restartOf storedBad onDone firstBad firstFrom table inRange leastLevel mostLevel wAt clear inDoseSettle shuts3 leavesSettle completes begins opens3 noted amountSeen dosesSeen atReady readyIn isReady linkOf freshOf restarted defaultSet tickOf step2 step3 steps4and5 steps6to8 mismatched runsAfter runAfter expected step7 step8 seenOf wOf stableOf filterOf equalZ none calmRun startOf outside faulted saysFault outputsOf worth input overCapacity changed countersAfter countedOf recordsOf stepOf ready readyToFill readyToDose waits zeroed nearZero fillBegins coarseStage fineStage fill full hold settle settleEnds dischargeOpens discharge amountOf load calm doseCoarse doseFine doseSettle reachedWf reachedWc notBelowZero Wc Wf samplesOf pushOf emptyWindow meanOf roundAway nearest sum pick xor setOf
+unfolding seen seenAfter anewIf anew eventOf restartedFrom nothingSeen restartOf storedBad onDone firstBad firstFrom table inRange leastLevel mostLevel wAt clear inDoseSettle shuts3 leavesSettle completes begins opens3 noted amountSeen dosesSeen atReady readyIn isReady linkOf freshOf restarted defaultSet tickOf step2 step3 steps4and5 steps6to8 mismatched runsAfter runAfter expected step7 step8 seenOf wOf stableOf filterOf equalZ none calmRun startOf outside faulted saysFault outputsOf worth input overCapacity changed countersAfter countedOf recordsOf stepOf ready readyToFill readyToDose waits zeroed nearZero fillBegins coarseStage fineStage fill full hold settle settleEnds dischargeOpens discharge amountOf load calm doseCoarse doseFine doseSettle reachedWf reachedWc notBelowZero Wc Wf samplesOf pushOf emptyWindow meanOf roundAway halfUp sumOf pick xor setOf
 two-doses = (refl, refl, refl)
 
 -- ---- they are series: their restart carries the fresh controller's counters over, and nothing else restarts
@@ -102,7 +102,7 @@ abbrev stamp : Record → Stamped
 stamp r = record { hour = 10; dose = r }
 
 told-AL1 : records freshOf twoOfAL1 ≡ dose 1 112 ∷ dose 2 250 ∷ []
-unfolding records recordsAt recordsIn eventOf restartedFrom nothingSeen restartOf storedBad onDone firstBad firstFrom table inRange leastLevel mostLevel wAt clear inDoseSettle shuts3 leavesSettle completes begins opens3 noted amountSeen dosesSeen atReady readyIn isReady linkOf freshOf restarted defaultSet tickOf step2 step3 steps4and5 steps6to8 mismatched runsAfter runAfter expected step7 step8 seenOf wOf stableOf filterOf equalZ none calmRun startOf outside faulted saysFault outputsOf worth input overCapacity changed countersAfter countedOf recordsOf stepOf ready readyToFill readyToDose waits zeroed nearZero fillBegins coarseStage fineStage fill full hold settle settleEnds dischargeOpens discharge amountOf load calm doseCoarse doseFine doseSettle reachedWf reachedWc notBelowZero Wc Wf samplesOf pushOf emptyWindow meanOf roundAway nearest sum pick xor setOf
+unfolding records recordsAt recordsIn eventOf restartedFrom nothingSeen restartOf storedBad onDone firstBad firstFrom table inRange leastLevel mostLevel wAt clear inDoseSettle shuts3 leavesSettle completes begins opens3 noted amountSeen dosesSeen atReady readyIn isReady linkOf freshOf restarted defaultSet tickOf step2 step3 steps4and5 steps6to8 mismatched runsAfter runAfter expected step7 step8 seenOf wOf stableOf filterOf equalZ none calmRun startOf outside faulted saysFault outputsOf worth input overCapacity changed countersAfter countedOf recordsOf stepOf ready readyToFill readyToDose waits zeroed nearZero fillBegins coarseStage fineStage fill full hold settle settleEnds dischargeOpens discharge amountOf load calm doseCoarse doseFine doseSettle reachedWf reachedWc notBelowZero Wc Wf samplesOf pushOf emptyWindow meanOf roundAway halfUp sumOf pick xor setOf
 told-AL1 = refl
 
 -- a line after a D of its hour

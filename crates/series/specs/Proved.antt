@@ -1,7 +1,7 @@
 -- Demand 3 holds of every series of calls from a fresh controller. Assumes nothing.
 use mathlib.Core.Path.{_≡_, sym, ap, ap₂, refl, _∙_}
 use mathlib.Core.Bool.{Bool, true, false}
-use mathlib.Core.List.{List, [], _∷_, _++_}
+use mathlib.Core.List.{List}
 use Prim.Native.Nat.{ℕ, _≤_}
 use lib.Dec.{ltb}
 use lib.IntN.{ℤ}

@@ -1,5 +1,5 @@
 -- What a good set satisfies, range by range: the table read as facts. Assumes nothing.
-use Prim.Native.Nat.{ℕ, _≤_}
+use Prim.Native.Nat.{_≤_}
 use Rattle.settings.specs.Table.{leastLevel, mostLevel}
 use Rattle.settings.specs.declared.Settings.{Settings}
 

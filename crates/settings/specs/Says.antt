@@ -1,6 +1,6 @@
 -- What the check's answer says, in the paper's words. Assumes nothing.
-use mathlib.Core.Path.{_≡_, refl, ap}
-use mathlib.Core.List.{List, [], _∷_}
+use mathlib.Core.Path.{_≡_, refl}
+use mathlib.Core.List.{[], _∷_}
 use Rattle.paper.specs.Answer.{Answer, done, refused, same}
 use Rattle.paper.specs.Numbers.{R2}
 use Rattle.settings.specs.Table.{firstBad, defaultSet}

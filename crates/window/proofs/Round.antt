@@ -10,17 +10,17 @@ use lib.IntN.{ℤ, pos, negsuc, _+ℤ_, _-ℤ_, negℤ, natAbs, -ℤ-one, negℤ
 use lib.Signed.{ltZ, quotZ, remZ}
 use borrow.Author.Tests.{ltb-true}
 use Rattle.laws.specs.Whole.{true-false}
-use Rattle.window.specs.Mean.{nearest, roundAway}
+use Rattle.window.specs.Mean.{halfUp, roundAway}
 
 module _ (m n : ℕ) (h : 0 < n) where
-  near-up : n ≤ 2 * (m % n) → nearest m n ≡ m / n + 1
-  unfolding nearest
+  near-up : n ≤ 2 * (m % n) → halfUp m n ≡ m / n + 1
+  unfolding halfUp
   near-up k =
       let e : 2 * m + n ≡ (m / n + 1) * (2 * n) + (2 * (m % n) - n) = omega (arith, div-add-mod' m n) in
       ap (λ (x : ℕ). x / (2 * n)) e ∙ digits-div (m / n + 1) (omega (arith, mod-lt m h))
 
-  near-down : 2 * (m % n) < n → nearest m n ≡ m / n
-  unfolding nearest
+  near-down : 2 * (m % n) < n → halfUp m n ≡ m / n
+  unfolding halfUp
   near-down k =
       let e : 2 * m + n ≡ m / n * (2 * n) + (2 * (m % n) + n) = omega (arith, div-add-mod' m n) in
       ap (λ (x : ℕ). x / (2 * n)) e ∙ digits-div (m / n) (omega arith)

@@ -8,17 +8,17 @@ use lib.IntN.{ℤ, pos, negsuc, _+ℤ_, natAbs, +ℤ-idr, +ℤ-idl, +ℤ-assoc}
 use lib.ListN.{length, take, getD}
 use lib.Seq.{take-nil}
 use lib.Signed.{mag}
-use Rattle.window.specs.Mean.{sum, roundAway, meanOf}
+use Rattle.window.specs.Mean.{sumOf, roundAway, meanOf}
 use Rattle.window.specs.Range.{Between, Each, AllI32, Total}
 use Rattle.window.specs.Laws.{sum-between}
 
 -- past the end the element is 0, so no bound on i is asked
-sum-take : (xs : List ℤ) (i : ℕ) → sum (take (suc i) xs) ≡ sum (take i xs) +ℤ getD xs i (pos 0)
-unfolding sum
+sum-take : (xs : List ℤ) (i : ℕ) → sumOf (take (suc i) xs) ≡ sumOf (take i xs) +ℤ getD xs i (pos 0)
+unfolding sumOf
 sum-take [] zero = refl
 sum-take [] (suc i) = refl
 sum-take (x ∷ xs) zero = +ℤ-idr x ∙ sym (+ℤ-idl x)
-sum-take (x ∷ xs) (suc i) = ap (λ (z : ℤ). x +ℤ z) (sum-take xs i) ∙ sym (+ℤ-assoc x (sum (take i xs)) (getD xs i (pos 0)))
+sum-take (x ∷ xs) (suc i) = ap (λ (z : ℤ). x +ℤ z) (sum-take xs i) ∙ sym (+ℤ-assoc x (sumOf (take i xs)) (getD xs i (pos 0)))
 
 between-i32 : (z : ℤ) → mag z < 2 ^ 31 → Between 2147483648 2147483647 z
 unfolding Between
@@ -33,7 +33,7 @@ all-take (x ∷ xs) (suc i) a h = (a .0, all-take xs i (a .1) h)
 
 -- nothing is added yet
 pub total-none : Total [] (pos 0)
-unfolding sum Each
+unfolding sumOf Each
 total-none = record { adds = refl; all = tt }
 
 -- one element more
@@ -46,7 +46,7 @@ between-size n (pos m) h = omega arith
 between-size n (negsuc m) h = h
 
 pub total-size : (xs : List ℤ) (s : ℤ) → Total xs s → natAbs s ≤ length xs * 2147483648
-total-size xs s t = rw (t .adds) (between-size (length xs) (sum xs) (sum-between _ _ xs (t .all)))
+total-size xs s t = rw (t .adds) (between-size (length xs) (sumOf xs) (sum-between _ _ xs (t .all)))
 
 pub take-least : (n h : ℕ) (xs : List ℤ) → take n (take h xs) ≡ take (min n (min h (length xs))) xs
 take-least zero h xs = rw zero-min
@@ -59,7 +59,7 @@ unfolding meanOf
 mean-none [] e = refl
 mean-none (x ∷ xs) e = absurd (omega arith)
 
-pub mean-some : (xs : List ℤ) → 0 < length xs → meanOf xs ≡ roundAway (sum xs) (length xs)
+pub mean-some : (xs : List ℤ) → 0 < length xs → meanOf xs ≡ roundAway (sumOf xs) (length xs)
 unfolding meanOf
 mean-some [] h = absurd (not-suc-le-zero h)
 mean-some (x ∷ xs) h = refl

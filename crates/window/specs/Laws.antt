@@ -17,7 +17,7 @@ use mir.Val.{SFits}
 use Rattle.laws.specs.Pick.{pick, pick-t, pick-f}
 use Rattle.paper.specs.Answer.{same}
 use Rattle.window.specs.declared.Window.{Window}
-use Rattle.window.specs.Mean.{sum, nearest, roundAway, meanOf}
+use Rattle.window.specs.Mean.{sumOf, halfUp, roundAway, meanOf}
 use Rattle.window.specs.Window.{samplesOf, emptyWindow, pushOf}
 use Rattle.window.specs.Range.{Between, Each, Within, AllI32}
 
@@ -93,31 +93,31 @@ between-add a b c d (pos m) (negsuc n) h k = by-sign (c + a) (d + b) (ltb m (suc
 between-add a b c d (negsuc m) (pos n) h k = by-sign (c + a) (d + b) (ltb n (suc m)) n m (omega arith) (omega arith)
 between-add a b c d (negsuc m) (negsuc n) h k = omega arith
 
-near-le : (m n most : ℕ) → 0 < n → m ≤ n * most → nearest m n ≤ most
-unfolding nearest
+near-le : (m n most : ℕ) → 0 < n → m ≤ n * most → halfUp m n ≤ most
+unfolding halfUp
 near-le m n most h k =
     let p : 0 < 2 * n = omega arith in
-    let q : nearest m n < suc most = div-lt-iff-lt-mul p .1 (omega arith) in
+    let q : halfUp m n < suc most = div-lt-iff-lt-mul p .1 (omega arith) in
     omega arith
 
 module _ (low high : ℕ) where
   round-between : (s : ℤ) (n : ℕ) → 0 < n → Between (n * low) (n * high) s → Between low high (roundAway s n)
   unfolding Between roundAway
   round-between (pos m) n h k = near-le m n high h k
-  round-between (negsuc m) n h k = minus low high (nearest (suc m) n) (near-le (suc m) n low h k)
+  round-between (negsuc m) n h k = minus low high (halfUp (suc m) n) (near-le (suc m) n low h k)
 
-  pub sum-between : (xs : List ℤ) → Each low high xs → Between (length xs * low) (length xs * high) (sum xs)
-  unfolding Each sum
+  pub sum-between : (xs : List ℤ) → Each low high xs → Between (length xs * low) (length xs * high) (sumOf xs)
+  unfolding Each sumOf
   sum-between [] e = minus (0 * low) (0 * high) 0 (omega arith)
   sum-between (x ∷ xs) e =
       rw (suc-mul (length xs) low, suc-mul (length xs) high)
-      (between-add low high (length xs * low) (length xs * high) x (sum xs) (e .0) (sum-between xs (e .1)))
+      (between-add low high (length xs * low) (length xs * high) x (sumOf xs) (e .0) (sum-between xs (e .1)))
 
   -- the mean of numbers from -low to high is from -low to high too
   pub mean-between : (xs : List ℤ) → Each low high xs → Between low high (meanOf xs)
   unfolding meanOf
   mean-between [] e = minus low high 0 (omega arith)
-  mean-between (x ∷ xs) e = round-between (sum (x ∷ xs)) (length (x ∷ xs)) (omega arith) (sum-between (x ∷ xs) e)
+  mean-between (x ∷ xs) e = round-between (sumOf (x ∷ xs)) (length (x ∷ xs)) (omega arith) (sum-between (x ∷ xs) e)
 
 between-size : (b : ℕ) (z : ℤ) → Between b b z → natAbs z ≤ b
 unfolding Between

@@ -3,7 +3,7 @@ use mathlib.Core.Path.{_≡_}
 use mathlib.Core.List.{List, [], _∷_}
 use Prim.Native.Nat.{ℕ, suc, _≤_}
 use lib.IntN.{ℤ, pos, negsuc, natAbs}
-use Rattle.window.specs.Mean.{sum}
+use Rattle.window.specs.Mean.{sumOf}
 
 -- from -low to high
 unfoldable pub Between : ℕ → ℕ → ℤ → Type 0
@@ -26,5 +26,5 @@ Within b (x ∷ xs) = (natAbs x ≤ b) × Within b xs
 
 -- s is the sum of the numbers, and they are i32s
 pub record Total (xs : List ℤ) (s : ℤ) : Type 0 where
-  pub adds : s ≡ sum xs
+  pub adds : s ≡ sumOf xs
   pub all : AllI32 xs

@@ -38,7 +38,7 @@ impl Window {
             i += 1;
         }
         Window {
-            samples: samples,
+            samples,
             held: grown(self.held),
         }
     }
@@ -81,11 +81,11 @@ fn total(w: Window, n: usize) -> i64
     ensures { λ r. ⌜ Total (take n (w .samples)) r ⌝ }
 {
     let mut s: i64 = 0;
-    let mut i: usize = 0;
-    while i < n {
-        let x = w.samples[i];
+    let mut k: usize = 0;
+    while k < n {
+        let x = w.samples[k];
         s += x as i64;
-        i += 1;
+        k += 1;
     }
     s
 }

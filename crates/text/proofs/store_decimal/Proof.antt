@@ -3,7 +3,7 @@ use borrow.Author.Needs.{needs}
 use native.Mathlib.Omega.{arith}
 use mathlib.Core.Path.{_≡_, refl, ap}
 use mathlib.Core.List.{[]}
-use Prim.Native.Nat.{_+_, _<_, _/_, _%_}
+use Prim.Native.Nat.{_+_, _<_, _/_}
 use lib.ListN.{length, length-set}
 use lib.Seq.{sets}
 use Rattle.laws.specs.Decimal.{decimal}

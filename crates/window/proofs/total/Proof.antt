@@ -16,10 +16,10 @@ use Rattle.window.proofs.total.Statement.{statement}
 use Rattle.window.proofs.total.Tie as tie
 
 abbrev Inv-loop : tie.InvT-loop
-Inv-loop n w s₀ i₀ s i = (i ≤ n) × Total (take i (w .samples)) (toZ w64 s)
+Inv-loop n w s₀ k₀ s k = (k ≤ n) × Total (take k (w .samples)) (toZ w64 s)
 
 abbrev μ-loop : tie.MeasureT-loop
-μ-loop n w s₀ i₀ s i = n - i
+μ-loop n w s₀ k₀ s k = n - k
 
 loop-holds : tie.Need-loop-holds Inv-loop μ-loop
 loop-holds c = (omega arith, total-none)
@@ -35,11 +35,11 @@ module _ (c : tie.After-x Inv-loop μ-loop) where
   abbrev xs : List ℤ
   xs = c .before .before .before .args .t1 .samples
 
-  abbrev i : ℕ
-  i = c .before .before .loop .i
+  abbrev k : ℕ
+  k = c .before .before .loop .k
 
   abbrev x : ℤ
-  x = getD xs i (pos 0)
+  x = getD xs k (pos 0)
 
   abbrev s : ℤ
   s = toZ w64 (c .before .before .loop .s)
@@ -50,11 +50,11 @@ module _ (c : tie.After-x Inv-loop μ-loop) where
   wide : SFits w64 x
   wide = sfits-widen tt narrow
 
-  more : Total (take (i + 1) xs) (s +ℤ x)
-  more = rw add-one (total-more xs i s (c .before .before .loop .inv .1) (c .x .given))
+  more : Total (take (k + 1) xs) (s +ℤ x)
+  more = rw add-one (total-more xs k s (c .before .before .loop .inv .1) (c .x .given))
 
   fits : SFits w64 (s +ℤ x)
-  fits = fits64 (s +ℤ x) (omega (arith, total-size (take (i + 1) xs) (s +ℤ x) more, length-take (i + 1) xs))
+  fits = fits64 (s +ℤ x) (omega (arith, total-size (take (k + 1) xs) (s +ℤ x) more, length-take (k + 1) xs))
 
 cast-s : tie.Need-cast-s Inv-loop μ-loop
 cast-s c = rw (toZ-ofZ (narrow c)) (wide c)
@@ -62,8 +62,8 @@ cast-s c = rw (toZ-ofZ (narrow c)) (wide c)
 add-s : tie.Need-add-s Inv-loop μ-loop
 add-s c = rw (toZ-ofZ (narrow c), toZ-ofZ (wide c)) (fits c)
 
-add-i : tie.Need-add-i Inv-loop μ-loop
-add-i c = omega arith
+add-k : tie.Need-add-k Inv-loop μ-loop
+add-k c = omega arith
 
 loop-less : tie.Need-loop-less Inv-loop μ-loop
 loop-less c = omega arith
@@ -73,7 +73,7 @@ loop-again c = rw (toZ-ofZ (narrow c), toZ-ofZ (wide c), toZ-ofZ (fits c)) (omeg
 
 returns : tie.Need-returns Inv-loop μ-loop
 returns c =
-    let e : c .before .loop .i ≡ c .before .before .args .n = omega arith in
+    let e : c .before .loop .k ≡ c .before .before .args .n = omega arith in
     rw (← e) (c .before .loop .inv .1)
 
 pub total-spec : {M : Type 1} → statement M
@@ -87,7 +87,7 @@ total-spec =
     element-copy-out-x
     cast-s
     add-s
-    add-i
+    add-k
     loop-less
     loop-again
     returns)
