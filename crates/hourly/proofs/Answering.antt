@@ -10,7 +10,7 @@ use lib.Ieee.{Float, binary64, div, isNan, inUnsigned}
 use borrow.Author.Tests.{eqb-false}
 use Rattle.laws.specs.Pick.{pick}
 use Rattle.paper.specs.Answer.{Answer, done, refused, fault, told, onDone, leaves, Fills}
-use Rattle.journal.specs.Says.{saysRefusal}
+use Rattle.journal.specs.Says.{saysRefusal, refusal-told}
 use Rattle.journal.specs.declared.Line.{Line}
 use Rattle.journal.specs.declared.Refusal.{Refusal}
 use Rattle.journal.specs.declared.Refusal.the-variants as R
@@ -85,13 +85,6 @@ else-done f next (done x) = refl
 else-done f next (refused n vs) = refl
 else-done f next (fault n vs) = refl
 
-refusal-says : (r : Refusal) → saysRefusal r ≡ told length (saysRefusal {X = List ℕ} r)
-unfolding told
-refusal-says (R.R10 n) = refl
-refusal-says (R.R11 n) = refl
-refusal-says (R.R12 n) = refl
-refusal-says R.R13 = refl
-
 refusal-leaves : (r : Refusal) (old : List ℕ) → old ≡ leaves (saysRefusal r) old
 unfolding leaves
 refusal-leaves (R.R10 n) old = refl
@@ -103,4 +96,4 @@ refusal-leaves R.R13 old = refl
 pub refused-fills : {A X : Type 0} (f : A → X) (next : A → Answer (List ℕ)) (a : Answer A) (r : Refusal) (old : List ℕ) → saysRefusal r ≡ told f a → Fills (saysRefusal r) (onDone a next) old old
 refused-fills {X = X} f next a r old e =
     let g : saysRefusal r ≡ onDone a next = sym (else-refusal X (onDone a next) r) ∙ ap (orElse (onDone a next)) e ∙ else-done f next a in
-    record { says = refusal-says r ∙ ap (told length) g; left = refusal-leaves r old ∙ ap (λ (x : Answer (List ℕ)). leaves x old) g }
+    record { says = refusal-told length r ∙ ap (told length) g; left = refusal-leaves r old ∙ ap (λ (x : Answer (List ℕ)). leaves x old) g }

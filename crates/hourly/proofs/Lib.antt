@@ -1,4 +1,5 @@
 pub mod Tallying
+pub mod Passing
 pub mod Answering
 pub mod Printing
 pub mod Reporting

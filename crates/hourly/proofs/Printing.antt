@@ -14,7 +14,7 @@ use Rattle.laws.specs.Pick.{pick, pick-t, pick-f}
 use Rattle.laws.specs.Over.{sets-append, sets-over}
 use Rattle.laws.specs.Decimal.{decimal}
 use Rattle.laws.specs.DecimalLaws.{decimal-length}
-use Rattle.paper.specs.Answer.{Answer, done, refused, told, inRoom, leaves, Fills}
+use Rattle.paper.specs.Answer.{Answer, done, refused, told, onDone, inRoom, leaves, Fills}
 use Rattle.paper.specs.Numbers.{R8}
 use Rattle.text.specs.Put.{Puts}
 use Rattle.text.specs.PutLaws.{room-is, puts-fit, fit-puts, puts-length}
@@ -22,7 +22,7 @@ use Rattle.journal.specs.Journal.{firstHour, summaryOf}
 use Rattle.journal.specs.declared.Line.{Line}
 use Rattle.journal.specs.declared.Summary.{Summary}
 use Rattle.hourly.specs.Hours.{amountsAt, hasOn, total, greatest, figuresOf, measuredOrIdle, hourOf, inFloat}
-use Rattle.hourly.specs.Text.{Row, rowFrom, rowOf, rowText, rowsOf, rowsText, hoursFrom, spanOf, hoursText}
+use Rattle.hourly.specs.Text.{Row, rowFrom, rowOf, rowText, rowsOf, rowsText, hoursFrom, spanOf, hoursText, printOf}
 use Rattle.hourly.specs.Accepted.{Accepted}
 use Rattle.hourly.specs.Bounds.{modest, text-short}
 use Rattle.hourly.specs.Tally.{outside, tallyOf, linesOf, Tells, shownBy, shownOf, rowsBy, textBy, Printable, hoursIn}
@@ -204,3 +204,8 @@ prints s found table f t =
 -- the first line's hour is no later than the last line's
 pub first-last : {s : List ℕ} {found : Summary} → Found s found → found .first ≤ found .last
 first-last f = omega (arith, f .first, f .last, found-accepted f .order)
+
+-- and the text is what is printed, if it has room
+pub prints-answer : {s : List ℕ} {found : Summary} {table : List Tally} → Found s found → Prints s found table → (room : ℕ) → inRoom [] room (textBy table (found .first) (hoursIn found)) ≡ printOf s room
+unfolding printOf onDone
+prints-answer f p room = ap (inRoom [] room) (p .text) ∙ sym (ap (λ (a : Answer (List Line)). onDone a (λ ls. inRoom [] room (hoursText ls))) (f .journal))

@@ -60,16 +60,17 @@ cases = (refl, refl)
 
 -- ---- its length
 
--- a refusal's number and line are small
-record Named (n k : ℕ) (vs : List ℕ) : Type 0 where
-  number : k ≤ 13
-  line : getD vs 0 0 ≤ n
+-- a journal's refusal is one of R10 to R13, and names a line
+pub record Named (n k : ℕ) (vs : List ℕ) : Type 0 where
+  pub least : R10 ≤ k
+  pub number : k ≤ R13
+  pub line : getD vs 0 0 ≤ n
 
-named : (m r : ℕ) (ws : List ℕ) (k : ℕ) (vs : List ℕ) → r ≤ 13 → getD ws 0 0 ≤ m → _≡_ {A = Answer (List Line)} (refused r ws) (refused k vs) → Named m k vs
-named m r ws k vs h l e =
+named : (m r : ℕ) (ws : List ℕ) (k : ℕ) (vs : List ℕ) → R10 ≤ r → r ≤ R13 → getD ws 0 0 ≤ m → _≡_ {A = Answer (List Line)} (refused r ws) (refused k vs) → Named m k vs
+named m r ws k vs o h l e =
     let p : r ≡ k = cc in
     let q : ws ≡ vs = cc in
-    record { number = omega arith; line = omega (arith, ap (λ (x : List ℕ). getD x 0 0) q) }
+    record { least = omega arith; number = omega arith; line = omega (arith, ap (λ (x : List ℕ). getD x 0 0) q) }
 
 told-refused : {A B : Type 0} (g : A → B) (a : Answer A) (n : ℕ) (vs : List ℕ) → told g a ≡ refused n vs → a ≡ refused n vs
 unfolding told
@@ -85,16 +86,16 @@ read-named (suc f) p n (b ∷ bs) k vs e = go (lineOf (b ∷ bs)) (λ l rest. re
   where
     judged : (l : Line) (u v : Bool) (a : Answer (List Line)) → (a ≡ refused k vs → Named (suc n + f) k vs)
         → pick u (refused R11 (n ∷ [])) (pick v (refused R12 (n ∷ [])) (told (λ (ls : List Line). l ∷ ls) a)) ≡ refused k vs → Named (n + suc f) k vs
-    judged l true v a rest e = named (n + suc f) R11 (n ∷ []) k vs (omega arith) (omega arith) e
-    judged l false true a rest e = named (n + suc f) R12 (n ∷ []) k vs (omega arith) (omega arith) e
-    judged l false false a rest e = let r = rest (told-refused (λ (ls : List Line). l ∷ ls) a k vs e) in record { number = r .number; line = omega (arith, r .line) }
+    judged l true v a rest e = named (n + suc f) R11 (n ∷ []) k vs (omega arith) (omega arith) (omega arith) e
+    judged l false true a rest e = named (n + suc f) R12 (n ∷ []) k vs (omega arith) (omega arith) (omega arith) e
+    judged l false false a rest e = let r = rest (told-refused (λ (ls : List Line). l ∷ ls) a k vs e) in record { least = r .least; number = r .number; line = omega (arith, r .line) }
 
     go : (r : Parsed Line) → ((l : Line) (rest : List ℕ) → readFrom f (pastAfter p l) (suc n) rest ≡ refused k vs → Named (suc n + f) k vs)
         → onLine n r (λ l rest. ordered p l n (told (λ (ls : List Line). l ∷ ls) (readFrom f (pastAfter p l) (suc n) rest))) ≡ refused k vs → Named (n + suc f) k vs
     go (good l rest) behind e =
         judged l (p .begun && outOfOrder (p .last) (p .closed) (hourIn l)) (p .begun && tooFar (p .first) (hourIn l)) (readFrom f (pastAfter p l) (suc n) rest)
         (behind l rest) e
-    go bad behind e = named (n + suc f) R10 (n ∷ []) k vs (omega arith) (omega arith) e
+    go bad behind e = named (n + suc f) R10 (n ∷ []) k vs (omega arith) (omega arith) (omega arith) e
 
 pub refusal-length : (number line : ℕ) → length (refusalText number line) ≡ length (decimal number) + length (decimal line) + 4
 unfolding refusalText
@@ -103,13 +104,13 @@ refusal-length number line = omega (arith, length-append (decimal number) (TAB �
 refusal-short : (number line : ℕ) → number ≤ 13 → line ≤ 65537 → length (refusalText number line) ≤ 33480
 refusal-short number line h l = omega (arith, refusal-length number line, decimal-length 2 number (omega arith) (omega arith), decimal-length 5 line (omega arith) (omega arith))
 
-journal-named : (s : List ℕ) (k : ℕ) (vs : List ℕ) → journalOf s ≡ refused k vs → Named 65537 k vs
+pub journal-named : (s : List ℕ) (k : ℕ) (vs : List ℕ) → journalOf s ≡ refused k vs → Named 65537 k vs
 unfolding journalOf pick
 journal-named s k vs e = go (ltb 65536 (length s)) refl e
   where
     go : (b : Bool) → ltb 65536 (length s) ≡ b → pick b (refused R13 []) (readFrom (length s) noPast 1 s) ≡ refused k vs → Named 65537 k vs
-    go true p e = named 65537 R13 [] k vs (omega arith) (omega arith) e
-    go false p e = let r = read-named (length s) noPast 1 s k vs e in record { number = r .number; line = omega (arith, r .line, ltb-false 65536 (length s) p) }
+    go true p e = named 65537 R13 [] k vs (omega arith) (omega arith) (omega arith) e
+    go false p e = let r = read-named (length s) noPast 1 s k vs e in record { least = r .least; number = r .number; line = omega (arith, r .line, ltb-false 65536 (length s) p) }
 
 -- 33,480 bytes hold every report
 pub report-short : (s : List ℕ) → length (reportOf s) ≤ 33480

@@ -7,8 +7,9 @@ use lib.Dec.{eqb}
 use lib.ListN.{length, getD, take}
 use lib.Ieee.{nan, binary64, add, div, toBits, toUnsigned}
 use Rattle.laws.specs.Pick.{pick}
-use Rattle.paper.specs.Answer.{Answer, done, refused, fault}
-use Rattle.journal.specs.Journal.{journalOf}
+use Rattle.paper.specs.Answer.{Answer, done, refused, fault, told}
+use Rattle.journal.specs.Journal.{journalOf, summaryOf, firstHour}
+use Rattle.journal.specs.Says.{saysJudged}
 use Rattle.journal.specs.declared.Line.{Line}
 use Rattle.journal.specs.declared.Line.the-variants.{Dose, On}
 use Rattle.journal.specs.declared.Summary.{Summary}
@@ -18,6 +19,7 @@ use Rattle.hourly.specs.declared.Figures.{Figures}
 use Rattle.hourly.specs.declared.Hour.{Hour}
 use Rattle.hourly.specs.declared.Hour.the-variants.{Measured, Idle, Missing}
 use Rattle.hourly.specs.declared.Tally.{Tally}
+use Rattle.hourly.specs.declared.Tallied.{Tallied}
 use Rattle.hourly.specs.declared.Shown.{Shown}
 use Rattle.hourly.specs.declared.Shown.the-variants as S
 
@@ -64,6 +66,11 @@ outside = record { doses = 0; sum = nan; largest = 0; on = false }
 pub record Tells (table : List Tally) (first : ℕ) (ls : List Line) : Type 0 where
   pub size : length table ≡ 744
   pub at : (k : ℕ) → k < 744 → getD table k outside ≡ tallyOf ls (first + k)
+
+-- what one pass finds: what the journal's reader says of it, and the tallies of its lines from its first hour on
+pub record Counts (s : List ℕ) (t : Tallied) : Type 0 where
+  pub judged : saysJudged (t .judged) ≡ told summaryOf (journalOf s)
+  pub tells : (ls : List Line) → journalOf s ≡ done ls → Tells (t .table) (firstHour ls) ls
 
 -- the hour's answer by its tally
 unfoldable pub figuresFrom : Tally → Figures

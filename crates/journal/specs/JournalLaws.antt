@@ -5,10 +5,11 @@ use mathlib.Core.List.{List, [], _∷_, _++_}
 use Prim.Native.Nat.{ℕ, zero, suc, _+_, _-_, _*_, _≤_, _<_}
 use native.Mathlib.Nat.{le-refl}
 use native.Mathlib.Omega.{arith}
+use native.Mathlib.Numerals.{add-one}
 use native.Mathlib.Decide.{decLt}
 use lib.ListN.{length, drop, length-append, length-drop}
 use borrow.Author.Tests.{lt-ltb, le-ltb}
-use Rattle.laws.specs.Pick.{pick, pick-t, pick-f, pick-true, pick-false}
+use Rattle.laws.specs.Pick.{pick, pick-t, pick-f, pick-true, pick-false, pick-map}
 use Rattle.laws.specs.Decimal.{Parsed, good, bad}
 use Rattle.paper.specs.Answer.{Answer, done, refused, fault, told}
 use Rattle.paper.specs.AnswerLaws.{refused-done, fault-done}
@@ -73,6 +74,62 @@ journal-lines s h = pick-f _ _ _ (le-ltb 65536 (length s) h)
 pub journal-long : (s : List ℕ) → 65536 < length s → journalOf s ≡ refused R13 []
 unfolding journalOf
 journal-long s h = pick-t _ _ _ (lt-ltb 65536 (length s) h)
+
+-- ---- what is told of the lines from line n on
+
+told-told : {A B C : Type 0} (f : B → C) (g : A → B) (a : Answer A) → told f (told g a) ≡ told (λ x. f (g x)) a
+unfolding told
+told-told f g (done x) = refl
+told-told f g (refused n vs) = refl
+told-told f g (fault n vs) = refl
+
+pub told-same : {A B : Type 0} (f g : A → B) (a : Answer A) → ((x : A) → f x ≡ g x) → told f a ≡ told g a
+unfolding told
+told-same f g (done x) h = ap (λ (y : _). done y) (h x)
+told-same f g (refused n vs) h = refl
+told-same f g (fault n vs) h = refl
+
+told-ordered : {A B : Type 0} (f : A → B) (p : Past) (l : Line) (n : ℕ) (a : Answer A) → told f (ordered p l n a) ≡ ordered p l n (told f a)
+unfolding ordered told
+told-ordered f p l n a =
+    let late = p .begun && outOfOrder (p .last) (p .closed) (hourIn l) in
+    let far = p .begun && tooFar (p .first) (hourIn l) in
+    pick-map (told f) late (refused R11 (n ∷ [])) (pick far (refused R12 (n ∷ [])) a)
+    ∙ ap (pick late (refused R11 (n ∷ []))) (pick-map (told f) far (refused R12 (n ∷ [])) a)
+
+pub told-none : {X : Type 0} (f : List Line → X) (p : Past) (n : ℕ) → told f (linesFrom p n []) ≡ done (f [])
+unfolding told
+told-none f p n = ap (told f) (lines-none p n)
+
+pub told-bad : {X : Type 0} (f : List Line → X) (p : Past) (n : ℕ) (l : List ℕ) → 0 < length l → lineOf l ≡ bad → told f (linesFrom p n l) ≡ refused R10 (n ∷ [])
+unfolding told
+told-bad f p n l h e = ap (told f) (lines-bad p n l h e)
+
+-- after a line, what f tells of it and the others is what g tells of the others
+pub told-good : {X : Type 0} (f g : List Line → X) (p : Past) (n : ℕ) (l : List ℕ) (x : Line) (rest : List ℕ) → lineOf l ≡ good x rest → ((ls : List Line) → f (x ∷ ls) ≡ g ls)
+    → told f (linesFrom p n l) ≡ ordered p x n (told g (linesFrom (pastAfter p x) (n + 1) rest))
+told-good f g p n l x rest e h =
+    let more = linesFrom (pastAfter p x) (suc n) rest in
+    ap (told f) (lines-good p n l x rest e)
+    ∙ told-ordered f p x n (told (λ (ls : List Line). x ∷ ls) more)
+    ∙ ap (ordered p x n) (told-told f (λ (ls : List Line). x ∷ ls) more
+    ∙ told-same (λ (ls : List Line). f (x ∷ ls)) g more h
+    ∙ ap (λ (m : ℕ). told g (linesFrom (pastAfter p x) m rest)) (sym (add-one n)))
+
+-- a line against those before it
+pub order-broken : {X : Type 0} (p : Past) (l : Line) (n : ℕ) (a : Answer X) → (p .begun && outOfOrder (p .last) (p .closed) (hourIn l)) ≡ true → ordered p l n a ≡ refused R11 (n ∷ [])
+unfolding ordered
+order-broken p l n a e = pick-t _ _ _ e
+
+pub order-far : {X : Type 0} (p : Past) (l : Line) (n : ℕ) (a : Answer X) → (p .begun && outOfOrder (p .last) (p .closed) (hourIn l)) ≡ false
+    → (p .begun && tooFar (p .first) (hourIn l)) ≡ true → ordered p l n a ≡ refused R12 (n ∷ [])
+unfolding ordered
+order-far p l n a e f = pick-f _ _ _ e ∙ pick-t _ _ _ f
+
+pub order-kept : {X : Type 0} (p : Past) (l : Line) (n : ℕ) (a : Answer X) → (p .begun && outOfOrder (p .last) (p .closed) (hourIn l)) ≡ false
+    → (p .begun && tooFar (p .first) (hourIn l)) ≡ false → ordered p l n a ≡ a
+unfolding ordered
+order-kept p l n a e f = pick-f _ _ _ e ∙ pick-f _ _ _ f
 
 -- the order of a line after those before it, and its distance from the first
 pub record Keeps (p : Past) (l : Line) : Type 0 where

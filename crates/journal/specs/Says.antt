@@ -93,17 +93,25 @@ refusal-one R.R13 (R.R11 m) e = cc
 refusal-one R.R13 (R.R12 m) e = cc
 refusal-one R.R13 R.R13 e = refl
 
--- no refusal is a summary
-done-refused : {X : Type 0} (s : Summary) (r : Refusal) → done s ≡ saysRefusal r → X
-done-refused s (R.R10 n) e = refused-done (sym e)
-done-refused s (R.R11 n) e = refused-done (sym e)
-done-refused s (R.R12 n) e = refused-done (sym e)
-done-refused s R.R13 e = refused-done (sym e)
+-- no refusal is done
+pub refusal-done : {X Q : Type 0} {x : X} (r : Refusal) → saysRefusal r ≡ done x → Q
+refusal-done (R.R10 n) e = refused-done e
+refusal-done (R.R11 n) e = refused-done e
+refusal-done (R.R12 n) e = refused-done e
+refusal-done R.R13 e = refused-done e
+
+-- a refusal is the same, whatever would have been told
+pub refusal-told : {X Y : Type 0} (f : X → Y) (r : Refusal) → saysRefusal r ≡ told f (saysRefusal r)
+unfolding told
+refusal-told f (R.R10 n) = refl
+refusal-told f (R.R11 n) = refl
+refusal-told f (R.R12 n) = refl
+refusal-told f R.R13 = refl
 
 pub judged-one : (a b : Judged) → saysJudged a ≡ saysJudged b → a ≡ b
 judged-one (J.Lines s) (J.Lines t) e = cc
-judged-one (J.Lines s) (J.Refused r) e = done-refused s r e
-judged-one (J.Refused q) (J.Lines t) e = done-refused t q (sym e)
+judged-one (J.Lines s) (J.Refused r) e = refusal-done r (sym e)
+judged-one (J.Refused q) (J.Lines t) e = refusal-done q e
 judged-one (J.Refused q) (J.Refused r) e = ap (λ (x : Refusal). J.Refused x) (refusal-one q r e)
 
 -- two results that both meet a call's contract are equal

@@ -328,7 +328,7 @@ fn line_from(n: usize, got: [u32; 4]) -> Line
 }
 
 // The hour of a line.
-fn hour_in(line: Line) -> u32
+pub fn hour_in(line: Line) -> u32
     ensures { λ r. ⌜ r ≡ hourIn line ⌝ }
 {
     match line {
@@ -358,7 +358,7 @@ fn closes_hour(line: Line) -> bool
 }
 
 // Before the first line.
-fn no_past() -> Past
+pub fn no_past() -> Past
     ensures { λ r. ⌜ r ≡ noPast ⌝ }
 {
     Past {
@@ -380,7 +380,7 @@ fn first_hour(past: Past, hour: u32) -> u32
 }
 
 // After one line more.
-fn past_after(past: Past, line: Line) -> Past
+pub fn past_after(past: Past, line: Line) -> Past
     ensures { λ r. ⌜ r ≡ pastAfter past line ⌝ }
 {
     let hour = hour_in(line);
@@ -393,7 +393,7 @@ fn past_after(past: Past, line: Line) -> Past
 }
 
 // R11: the hour goes back, or an H has closed it.
-fn out_of_order(past: Past, hour: u32) -> bool
+pub fn out_of_order(past: Past, hour: u32) -> bool
     ensures { λ r. ⌜ r ≡ (past .begun && outOfOrder (past .last) (past .closed) hour) ⌝ }
 {
     if past.begun {
@@ -406,7 +406,7 @@ fn out_of_order(past: Past, hour: u32) -> bool
 }
 
 // R12: the hour is 744 or more above the first line's.
-fn too_far(past: Past, hour: u32) -> bool
+pub fn too_far(past: Past, hour: u32) -> bool
     ensures { λ r. ⌜ r ≡ (past .begun && tooFar (past .first) hour) ⌝ }
 {
     if past.begun {

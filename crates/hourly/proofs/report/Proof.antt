@@ -1,64 +1,82 @@
-use mathlib.Core.Path.{ap, sym, _∙_, subst}
+use mathlib.Core.Path.{_≡_, ap, subst}
 use mathlib.Core.List.{List}
 use Prim.Native.Nat.{ℕ}
 use borrow.Author.Needs.{needs}
 use denote.Ref.{now}
-use Rattle.paper.specs.Answer.{Answer}
+use lib.ListN.{length}
+use Rattle.paper.specs.Answer.{Fills}
 use Rattle.text.specs.Put.{Puts}
 use Rattle.journal.specs.Journal.{journalOf}
-use Rattle.journal.specs.Says.{saysJudged}
-use Rattle.journal.specs.declared.Line.{Line}
-use Rattle.hourly.specs.Report.{reportFrom, reportOf}
-use Rattle.hourly.proofs.Tallying.{found-of}
-use Rattle.hourly.proofs.Reporting.{refused-report}
+use Rattle.hourly.specs.Text.{printOf}
+use Rattle.hourly.specs.Says.{saysPrinted}
+use Rattle.hourly.specs.Report.{reportOf, journal-named}
+use Rattle.hourly.specs.declared.Printed.{Printed}
+use Rattle.hourly.proofs.Reporting.{text-puts, no-text-puts, refused-line}
 use Rattle.hourly.proofs.report.Statement.{statement}
 use Rattle.hourly.proofs.report.Tie as tie
 
-read-requires : tie.Need-read-requires
-read-requires c κs = search needs
+print-requires : tie.Need-print-requires
+print-requires c κs = search needs
 
-enum-known-judged : tie.Need-enum-known-judged
-enum-known-judged c = search needs
+enum-known-printed : tie.Need-enum-known-printed
+enum-known-printed c = search needs
 
-put-lines-requires : tie.Need-put-lines-requires
-put-lines-requires c κs = sym (c .before .before .before .before .read .ensures) ∙ ap saysJudged (c .before .before .judged .given .1)
-
-enum-known-judged-2 : tie.Need-enum-known-judged-2
-enum-known-judged-2 c = search needs
+enum-known-printed-2 : tie.Need-enum-known-printed-2
+enum-known-printed-2 c = search needs
 
 put-refusal-requires : tie.Need-put-refusal-requires
 put-refusal-requires c κs = search needs
+
+enum-told : tie.Need-enum-told
+enum-told c = search needs
 
 same-length : tie.Need-same-length
 same-length c = search needs
 
 returns : tie.Need-returns
-unfolding reportOf reportFrom
+unfolding printOf reportOf
 returns c =
-    let a = c .before .before .before .before .before .before .before .before .before .before .args in
-    let f = found-of (now (a .bytes)) (c .before .before .before .before .before .judged .given .0 .0) (sym (c .before .before .before .before .before .before .before .read .ensures) ∙ ap saysJudged (c .before .before .before .before .before .judged .given .1)) in
-    subst (λ (x : Answer (List Line)). Puts (now (a .out)) 0 (reportFrom x) (c .before .before .put-lines .last .0) (c .before .before .put-lines .result)) (sym (f .journal)) (c .before .before .put-lines .ensures)
+    let a = c .before .before .before .before .before .before .before .before .before .args in
+    let p = c .before .before .before .before .before .print in
+    text-puts (journalOf (now (a .bytes))) (c .before .printed .given .0 .0) (now (a .out)) (p .last .1 .0)
+    (subst (λ (x : Printed). Fills (saysPrinted x) (printOf (now (a .bytes)) (length (now (a .out)))) (now (a .out)) (p .last .1 .0)) (c .before .printed .given .1) (p .ensures))
 
 same-length-2 : tie.Need-same-length-2
 same-length-2 c = search needs
 
 returns-2 : tie.Need-returns-2
-unfolding reportOf
+unfolding printOf reportOf
 returns-2 c =
-    let a = c .before .before .before .before .before .before .before .before .before .before .args in
-    let e = refused-report (journalOf (now (a .bytes))) (c .before .before .before .before .before .judged2 .given .0 .0) (sym (ap saysJudged (c .before .before .before .before .before .judged2 .given .1)) ∙ c .before .before .before .before .before .before .before .read .ensures) in
-    subst (λ (x : List ℕ). Puts (now (a .out)) 0 x (c .before .before .put-refusal .last .0) (c .before .before .put-refusal .result)) (sym e) (c .before .before .put-refusal .ensures)
+    let a = c .before .before .before .before .before .before .before .before .before .before .before .before .before .args in
+    let p = c .before .before .before .before .before .before .before .before .before .print in
+    let w = c .before .before .put-refusal in
+    let l = refused-line (journalOf (now (a .bytes))) (c .before .before .before .before .before .printed2 .given .0 .0) (now (a .out)) (p .last .1 .0)
+    (subst (λ (x : Printed). Fills (saysPrinted x) (printOf (now (a .bytes)) (length (now (a .out)))) (now (a .out)) (p .last .1 .0)) (c .before .before .before .before .before .printed2 .given .1) (p .ensures)) in
+    subst (λ (x : List ℕ). Puts x 0 (reportOf (now (a .bytes))) (w .last .0) (w .result)) (l .0) (subst (λ (x : List ℕ). Puts (p .last .1 .0) 0 x (w .last .0) (w .result)) (l .1) (w .ensures))
+
+same-length-3 : tie.Need-same-length-3
+same-length-3 c = search needs
+
+returns-3 : tie.Need-returns-3
+unfolding printOf reportOf
+returns-3 c =
+    let a = c .before .before .before .before .before .before .before .before .args in
+    let p = c .before .before .before .before .print in
+    no-text-puts (journalOf (now (a .bytes))) (now (a .out)) (p .last .1 .0) (λ m vs e. journal-named (now (a .bytes)) m vs e .least)
+    (subst (λ (x : Printed). Fills (saysPrinted x) (printOf (now (a .bytes)) (length (now (a .out)))) (now (a .out)) (p .last .1 .0)) (c .enum-told .given .1) (p .ensures))
 
 pub report-spec : {M : Type 1} → statement M
 report-spec =
     tie.close
     (tie.spec
-    read-requires
-    enum-known-judged
-    put-lines-requires
-    enum-known-judged-2
+    print-requires
+    enum-known-printed
+    enum-known-printed-2
     put-refusal-requires
+    enum-told
     same-length
     returns
     same-length-2
-    returns-2)
+    returns-2
+    same-length-3
+    returns-3)
