@@ -2,4 +2,3 @@ pub mod Tallying
 pub mod Passing
 pub mod Answering
 pub mod Printing
-pub mod Reporting

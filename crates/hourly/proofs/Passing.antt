@@ -4,21 +4,18 @@ use mathlib.Core.Bool.{Bool, true, false, _&&_}
 use mathlib.Core.List.{List, [], _∷_, _++_, append-assoc, append-nil}
 use Prim.Native.Nat.{ℕ, _+_, _-_, _*_, _≤_, _<_}
 use native.Mathlib.Omega.{arith}
-use lib.Dec.{leb, ltb}
 use lib.ListN.{length, getD, drop, set, length-append, length-drop, drop-of-length-le, replicate}
 use borrow.Author.Tests.{leb-false, ltb-false}
-use Rattle.laws.specs.Pick.{pick, pick-true, pick-false}
-use Rattle.laws.specs.Decimal.{good, bad}
+use Rattle.laws.specs.Pick.{pick}
 use Rattle.laws.specs.Whole.{false-true}
 use Rattle.paper.specs.Answer.{Answer, done, refused, fault, told}
-use Rattle.paper.specs.Numbers.{R10, R11, R12, R13}
-use Rattle.journal.specs.Line.{textOf, inRange, lineOf, lineAt, placed}
-use Rattle.journal.specs.LineLaws.{Stands, line-at-only, placed-bad, text-only, text-least}
+use Rattle.paper.specs.Numbers.{R10, R11, R12}
+use Rattle.journal.specs.Line.{textOf, lineOf, lineAt}
+use Rattle.journal.specs.LineLaws.{Stands, placed-bad, text-only, text-least}
 use Rattle.journal.specs.Journal.{hourIn, outOfOrder, tooFar, noPast, pastAfter, ordered, journalOf, firstHour, lastHour, summaryOf}
-use Rattle.journal.specs.JournalLaws.{linesFrom, journal-lines, journal-long, told-none, told-bad, told-good, order-broken, order-far, order-kept, Keeps}
+use Rattle.journal.specs.JournalLaws.{linesFrom, journal-lines, told-none, told-bad, told-good, order-broken, order-far, order-kept}
 use Rattle.journal.specs.declared.Line.{Line}
 use Rattle.journal.specs.declared.Past.{Past}
-use Rattle.journal.specs.declared.Summary.{Summary}
 use Rattle.journal.specs.declared.Refusal.{Refusal}
 use Rattle.journal.specs.declared.Judged.the-variants as J
 use Rattle.journal.specs.Says.{saysRefusal, saysJudged, refusal-done, refusal-told}

@@ -12,12 +12,10 @@ use lib.Seq.{sets, drop-cons, getD-take, length-take-le}
 use borrow.Author.Tests.{le-leb, lt-leb}
 use Rattle.laws.specs.Pick.{pick, pick-t, pick-f}
 use Rattle.laws.specs.Over.{sets-append, sets-over}
-use Rattle.laws.specs.Decimal.{decimal}
-use Rattle.laws.specs.DecimalLaws.{decimal-length}
 use Rattle.paper.specs.Answer.{Answer, done, refused, told, onDone, inRoom, leaves, Fills}
 use Rattle.paper.specs.Numbers.{R8}
 use Rattle.text.specs.Put.{Puts}
-use Rattle.text.specs.PutLaws.{room-is, puts-fit, fit-puts, puts-length}
+use Rattle.text.specs.PutLaws.{room-is, puts-fit, puts-length}
 use Rattle.journal.specs.Journal.{firstHour, summaryOf}
 use Rattle.journal.specs.declared.Line.{Line}
 use Rattle.journal.specs.declared.Summary.{Summary}
@@ -32,30 +30,6 @@ use Rattle.hourly.specs.declared.Tally.{Tally}
 use Rattle.hourly.specs.Floats.{whole-back}
 use Rattle.hourly.proofs.Answering.{hour-tally}
 use Rattle.hourly.proofs.Tallying.{Found, found-accepted}
-
--- the room that is left for the other
-pub room-then : {old mid : List ℕ} {at p : ℕ} (x y : List ℕ) → at + length (x ++ y) ≤ length old → Puts old at x mid p → p + length y ≤ length mid
-room-then {old} {mid} {at} {p} x y room first =
-    let n : length (x ++ y) ≡ length x + length y = length-append x y in
-    let place : p ≡ at + length x = puts-fit (room-is old at x (omega arith)) first .1 in
-    let size : length mid ≡ length old = puts-length first in
-    omega arith
-
--- a text, and behind it another
-pub put-then : {old mid new : List ℕ} {at p r : ℕ} (x y : List ℕ) → at + length (x ++ y) ≤ length old → Puts old at x mid p → (p + length y ≤ length mid → Puts mid p y new r) → Puts old at (x ++ y) new r
-put-then {old} {mid} {new} {at} {p} {r} x y room first behind =
-    let n : length (x ++ y) ≡ length x + length y = length-append x y in
-    let a = puts-fit (room-is old at x (omega arith)) first in
-    let place : p ≡ at + length x = a .1 in
-    let left = room-then x y room first in
-    let b = puts-fit (room-is mid p y left) (behind left) in
-    fit-puts (room-is old at (x ++ y) room)
-    (b .0 ∙ ap (λ (o : List ℕ). sets o p y) (a .0) ∙ ap (λ (i : ℕ). sets (sets old at x) i y) place ∙ sym (sets-append old at x y))
-    (b .1 ∙ omega arith)
-
--- a u64 has at most 20 digits
-pub digits-most : (n : ℕ) → n < 2 ^ 64 → length (decimal n) ≤ 20
-digits-most n h = decimal-length 20 n (omega arith) (omega arith)
 
 -- the text of the rows from row k on
 abbrev pub restBy : List Tally → ℕ → ℕ → ℕ → List ℕ

@@ -2,30 +2,24 @@
 use mathlib.Core.Path.{_≡_, refl, sym, ap, _∙_, subst}
 use mathlib.Core.Bool.{Bool, true, false, _||_, or-true, or-false}
 use mathlib.Core.List.{List, [], _∷_, _++_, append-assoc, append-nil}
-use Prim.Native.Nat.{ℕ, suc, _+_, _-_, _^_, _≤_, _<_, max}
+use Prim.Native.Nat.{ℕ, _+_, _-_, _^_, _≤_, _<_, max}
 use native.Mathlib.Omega.{arith}
-use native.Mathlib.Numerals.{add-one}
 use native.Mathlib.Decide.{ℕ-discrete}
 use lib.Dec.{eqb}
-use lib.ListN.{length, getD, take, drop, set, length-append, length-set, replicate, length-replicate, getD-replicate, take-append-drop}
-use lib.Seq.{take-suc, drop-cons, drop-at, getD-set-same, getD-set-other, length-take-le, take-all}
+use lib.ListN.{length, getD, set, length-append, length-set, replicate, length-replicate, getD-replicate}
+use lib.Seq.{getD-set-same, getD-set-other}
 use borrow.Author.Tests.{eq-eqb, ne-eqb}
 use Rattle.laws.specs.Pick.{pick-t, pick-f}
-use Rattle.laws.specs.Decimal.{good}
 use Rattle.paper.specs.Answer.{done, told}
-use Rattle.journal.specs.Line.{textOf, inRange, lineOf, placed, lineAt}
-use Rattle.journal.specs.Journal.{hourIn, journalOf, journalText, firstHour, lastHour, summaryOf}
-use Rattle.journal.specs.LineLaws.{read-text, dose-range}
+use Rattle.journal.specs.Line.{inRange}
+use Rattle.journal.specs.Journal.{hourIn, journalOf, firstHour, lastHour, summaryOf}
+use Rattle.journal.specs.LineLaws.{dose-range}
 use Rattle.journal.specs.JournalLaws.{judged-lines}
-use Rattle.journal.specs.Order.{Within}
-use Rattle.journal.specs.Says.{saysAt, at-one}
 use Rattle.journal.specs.declared.Line.{Line}
 use Rattle.journal.specs.declared.Line.the-variants.{Dose, On}
 use Rattle.journal.specs.declared.Summary.{Summary}
-use Rattle.journal.specs.declared.At.{At}
-use Rattle.journal.specs.declared.At.the-variants as A
 use Rattle.hourly.specs.Hours.{doseAt, amountsAt, isOn, hasOn, total, greatest, inFloat}
-use Rattle.hourly.specs.Accepted.{InRange, Ranged, Accepted, accepted, each-line, each-take}
+use Rattle.hourly.specs.Accepted.{Ranged, Accepted, accepted}
 use Rattle.hourly.specs.Bounds.{modest}
 use Rattle.hourly.specs.Tally.{outside, noTally, withDose, withOn, counted, tallyOf, Tells, Counts, linesIn, linesOf}
 use Rattle.hourly.specs.declared.Tally.{Tally}

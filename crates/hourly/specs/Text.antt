@@ -1,11 +1,10 @@
 -- The hour program's text (document 01, "Journal and hours"). Assumes nothing.
 use mathlib.Core.Path.{_≡_, refl}
-use mathlib.Core.Bool.{Bool, true, false}
 use mathlib.Core.List.{List, [], _∷_, _++_, map}
 use Prim.Native.Nat.{ℕ, zero, suc, _+_, _-_}
 use lib.IntN.{pos}
 use lib.ListN.{length}
-use lib.Ieee.{Float, binary64, toBits, div, ofInt}
+use lib.Ieee.{binary64, toBits, div, ofInt}
 use Rattle.laws.specs.Pick.{pick}
 use Rattle.laws.specs.Decimal.{decimal, digitsOf, glyph, hexOf}
 use Rattle.paper.specs.Answer.{Answer, onDone, inRoom}

@@ -6,17 +6,16 @@ use journal::Refusal;
 use journal::Summary;
 ghost use mathlib.Core.Path.{_≡_};
 ghost use mathlib.Core.List.{[], _∷_};
-ghost use Prim.Native.Nat.{_+_, _-_, _≤_, _<_, max};
+ghost use Prim.Native.Nat.{_+_, _≤_, _<_, max};
 ghost use lib.ListN.{length, replicate};
 ghost use lib.Seq.{sets};
 ghost use Rattle.paper.specs.Answer.{done, told, inRoom, Fills};
 ghost use Rattle.journal.specs.Journal.{journalOf, summaryOf};
 ghost use Rattle.journal.specs.declared.Judged.the-variants.{Refused};
 ghost use Rattle.hourly.specs.Hours.{askOf, hourOf};
-ghost use Rattle.hourly.specs.Text.{measured, rowText, hoursText, printOf};
+ghost use Rattle.hourly.specs.Text.{measured, rowText, printOf};
 ghost use Rattle.hourly.specs.Tally.{noTally, withDose, counted, linesOf, Counts, hourFrom, saysShown, Summed, shownOf, textBy, Printable, hoursIn};
 ghost use Rattle.hourly.specs.Rows.{tailText};
-ghost use Rattle.hourly.specs.Report.{refusalText, refusalOf, reportOf};
 ghost use Rattle.text.specs.Put.{Puts};
 ghost use Rattle.hourly.specs.Says.{saysAsked, saysPrinted};
 
@@ -382,47 +381,5 @@ pub fn print(bytes: &[u8], out: &mut [u8]) -> Printed
     match judged {
         Judged::Lines(found) => print_table(table, found, out),
         Judged::Refused(refusal) => Printed::Refused(refusal),
-    }
-}
-
-// ---- the program
-
-// R, a refusal's number and its line, if they have room.
-fn put_refused(out: &mut [u8], number: u64, line: u64) -> usize
-    ensures { λ r. ⌜ Puts (now (out .entry)) 0 (refusalText number line) (now (out .exit)) r ⌝ }
-{
-    let size = text::decimal_len(number) + text::decimal_len(line) + 4;
-    if out.len() < size {
-        return 0;
-    }
-    let mut p = text::put_byte(out, 0, b'R');
-    p = text::put_byte(out, p, TAB);
-    p = text::put_decimal(out, p, number);
-    p = text::put_byte(out, p, TAB);
-    p = text::put_decimal(out, p, line);
-    text::put_byte(out, p, LF)
-}
-
-// The one line of a journal's refusal.
-fn put_refusal(out: &mut [u8], refusal: Refusal) -> usize
-    ensures { λ r. ⌜ Puts (now (out .entry)) 0 (refusalOf refusal) (now (out .exit)) r ⌝ }
-{
-    match refusal {
-        Refusal::R10(line) => put_refused(out, 10, line as u64),
-        Refusal::R11(line) => put_refused(out, 11, line as u64),
-        Refusal::R12(line) => put_refused(out, 12, line as u64),
-        Refusal::R13 => put_refused(out, 13, 0),
-    }
-}
-
-// What the hour program prints for a journal, if it has room: its text, or the line of its refusal.
-pub fn report(bytes: &[u8], out: &mut [u8]) -> usize
-    ensures { λ r. ⌜ Puts (now (out .entry)) 0 (reportOf (now (bytes .entry))) (now (out .exit)) r ⌝ }
-{
-    let printed = print(bytes, out);
-    match printed {
-        Printed::Text(size) => size,
-        Printed::Refused(refusal) => put_refusal(out, refusal),
-        Printed::R8 => 0,
     }
 }

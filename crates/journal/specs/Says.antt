@@ -2,15 +2,12 @@
 use mathlib.Core.Path.{_≡_, refl, ap, sym}
 use mathlib.Core.List.{List, [], _∷_}
 use Prim.Native.Nat.{ℕ}
-use lib.ListN.{length}
-use Rattle.paper.specs.Answer.{Answer, done, refused, told, same, Fills, fills-one}
+use Rattle.paper.specs.Answer.{Answer, done, refused, told, same}
 use Rattle.paper.specs.AnswerLaws.{refused-done}
-use Rattle.paper.specs.Numbers.{R8, R10, R11, R12, R13}
-use Rattle.journal.specs.Line.{Placed, writeOf, oneLine, lineAt}
+use Rattle.paper.specs.Numbers.{R10, R11, R12, R13}
+use Rattle.journal.specs.Line.{Placed, oneLine, lineAt}
 use Rattle.journal.specs.Journal.{journalOf, summaryOf}
 use Rattle.journal.specs.declared.Line.{Line}
-use Rattle.journal.specs.declared.Wrote.{Wrote}
-use Rattle.journal.specs.declared.Wrote.the-variants as W
 use Rattle.journal.specs.declared.One.{One}
 use Rattle.journal.specs.declared.One.the-variants as O
 use Rattle.journal.specs.declared.At.{At}
@@ -20,12 +17,6 @@ use Rattle.journal.specs.declared.Refusal.{Refusal}
 use Rattle.journal.specs.declared.Refusal.the-variants as R
 use Rattle.journal.specs.declared.Judged.{Judged}
 use Rattle.journal.specs.declared.Judged.the-variants as J
-
--- a writer's R10 carries line 0
-abbrev pub saysWrote : Wrote → Answer ℕ
-saysWrote (W.Line n) = done n
-saysWrote W.R10 = refused R10 (0 ∷ [])
-saysWrote W.R8 = refused R8 []
 
 -- a reader of one line by itself answers R10 with line 1
 abbrev pub saysOne : One → Answer Line
@@ -48,17 +39,6 @@ saysJudged (J.Lines s) = done s
 saysJudged (J.Refused r) = saysRefusal r
 
 -- two answers that say the same are equal
-pub wrote-one : (a b : Wrote) → saysWrote a ≡ saysWrote b → a ≡ b
-wrote-one (W.Line n) (W.Line m) e = cc
-wrote-one (W.Line n) W.R10 e = cc
-wrote-one (W.Line n) W.R8 e = cc
-wrote-one W.R10 (W.Line m) e = cc
-wrote-one W.R10 W.R10 e = refl
-wrote-one W.R10 W.R8 e = cc
-wrote-one W.R8 (W.Line m) e = cc
-wrote-one W.R8 W.R10 e = cc
-wrote-one W.R8 W.R8 e = refl
-
 pub one-one : (a b : One) → saysOne a ≡ saysOne b → a ≡ b
 one-one (O.Line l) (O.Line m) e = cc
 one-one (O.Line l) O.R10 e = cc
@@ -123,7 +103,3 @@ read-line-determined s a b p q = one-one a b (same p q)
 
 pub read-determined : (s : List ℕ) (a b : Judged) → saysJudged a ≡ told summaryOf (journalOf s) → saysJudged b ≡ told summaryOf (journalOf s) → a ≡ b
 read-determined s a b p q = judged-one a b (same p q)
-
-pub write-determined : (l : Line) (old new new' : List ℕ) (a b : Wrote)
-    → Fills (saysWrote a) (writeOf l (length old)) old new → Fills (saysWrote b) (writeOf l (length old)) old new' → (a ≡ b) × (new ≡ new')
-write-determined l old new new' a b p q = (wrote-one a b (fills-one p q .0), fills-one p q .1)

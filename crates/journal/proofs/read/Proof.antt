@@ -10,7 +10,7 @@ use borrow.Author.Needs.{needs}
 use Rattle.laws.specs.Decimal.{good, bad}
 use Rattle.paper.specs.Answer.{refused, told}
 use Rattle.paper.specs.Numbers.{R10}
-use Rattle.text.specs.Scan.{LF, placeAfter}
+use Rattle.text.specs.Scan.{placeAfter}
 use Rattle.text.specs.ScanLaws.{byte-inside}
 use Rattle.journal.specs.Line.{mostOfD, fieldsAt, lineOf}
 use Rattle.journal.specs.LineLaws.{line-shorter}
