@@ -19,7 +19,7 @@ use Rattle.text.specs.PutLaws.{room-is, puts-fit, puts-length}
 use Rattle.journal.specs.Journal.{firstHour, summaryOf}
 use Rattle.journal.specs.declared.Line.{Line}
 use Rattle.journal.specs.declared.Summary.{Summary}
-use Rattle.hourly.specs.Hours.{amountsAt, hasOn, total, greatest, figuresOf, measuredOrIdle, hourOf, inFloat}
+use Rattle.hourly.specs.Hours.{amountsAt, hasOn, total, greatest, figuresOf, measuredOrIdle, hourOf, asF64}
 use Rattle.hourly.specs.Text.{Row, rowFrom, rowOf, rowText, rowsOf, rowsText, hoursFrom, spanOf, hoursText, printOf}
 use Rattle.hourly.specs.Accepted.{Accepted}
 use Rattle.hourly.specs.Bounds.{modest, text-short}
@@ -101,7 +101,7 @@ unfolding shownOf rowOf rowFrom hourOf measuredOrIdle figuresOf tallyOf pick
 shown-tally ls h b = ap (λ (x : Hour). shownBy x (tallyOf ls h)) (hour-tally ls h) ∙ go (hasOn h ls) (amountsAt h ls) b
   where
     go : (on : Bool) (amounts : List ℕ) → total amounts ≤ 2 ^ 53
-        → shownBy (pick on (measuredOrIdle amounts) Missing) (record { doses = length amounts; sum = inFloat (total amounts); largest = greatest amounts; on = on }) ≡ rowFrom (pick on (measuredOrIdle amounts) Missing) amounts
+        → shownBy (pick on (measuredOrIdle amounts) Missing) (record { doses = length amounts; sum = asF64 (total amounts); largest = greatest amounts; on = on }) ≡ rowFrom (pick on (measuredOrIdle amounts) Missing) amounts
     go true [] b = refl
     go true (a ∷ as') b = rw (whole-back (total (a ∷ as')) b .1)
     go false amounts b = refl

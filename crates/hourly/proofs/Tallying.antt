@@ -1,6 +1,6 @@
 -- One line more, and what it does to the tally of each hour; the line at a place of an accepted journal. Assumes nothing.
 use mathlib.Core.Path.{_≡_, refl, sym, ap, _∙_, subst}
-use mathlib.Core.Bool.{Bool, true, false, _||_, or-true, or-false}
+use mathlib.Core.Bool.{Bool, true, false, _||_, or-true, or-false, or-assoc}
 use mathlib.Core.List.{List, [], _∷_, _++_, append-assoc, append-nil}
 use Prim.Native.Nat.{ℕ, _+_, _-_, _^_, _≤_, _<_, max}
 use native.Mathlib.Omega.{arith}
@@ -18,7 +18,7 @@ use Rattle.journal.specs.JournalLaws.{judged-lines}
 use Rattle.journal.specs.declared.Line.{Line}
 use Rattle.journal.specs.declared.Line.the-variants.{Dose, On}
 use Rattle.journal.specs.declared.Summary.{Summary}
-use Rattle.hourly.specs.Hours.{doseAt, amountsAt, isOn, hasOn, total, greatest, inFloat}
+use Rattle.hourly.specs.Hours.{doseAt, amountsAt, isOn, hasOn, total, greatest, asF64}
 use Rattle.hourly.specs.Accepted.{Ranged, Accepted, accepted}
 use Rattle.hourly.specs.Bounds.{modest}
 use Rattle.hourly.specs.Tally.{outside, noTally, withDose, withOn, counted, tallyOf, Tells, Counts, linesIn, linesOf}
@@ -35,16 +35,8 @@ amounts-more h (x ∷ ls) l = ap (λ (r : List ℕ). doseAt h x ++ r) (amounts-m
 
 on-more : (h : ℕ) (ls : List Line) (l : Line) → hasOn h (ls ++ l ∷ []) ≡ (hasOn h ls || isOn h l)
 unfolding hasOn
-on-more h [] l = either (isOn h l)
-  where
-    either : (b : Bool) → (b || false) ≡ b
-    either true = refl
-    either false = refl
-on-more h (x ∷ ls) l = ap (λ (b : Bool). isOn h x || b) (on-more h ls l) ∙ regroup (isOn h x) (hasOn h ls) (isOn h l)
-  where
-    regroup : (a b c : Bool) → (a || (b || c)) ≡ ((a || b) || c)
-    regroup true b c = refl
-    regroup false b c = refl
+on-more h [] l = or-false (isOn h l)
+on-more h (x ∷ ls) l = ap (λ (b : Bool). isOn h x || b) (on-more h ls l) ∙ sym (or-assoc (isOn h x) (hasOn h ls) (isOn h l))
 
 total-more : (as' : List ℕ) (a : ℕ) → total (as' ++ a ∷ []) ≡ total as' + a
 unfolding total
@@ -58,7 +50,7 @@ greatest-more (x ∷ xs) a = omega (arith, greatest-more xs a)
 
 -- the tally of an hour with these amounts
 abbrev tallyBy : List ℕ → Bool → Tally
-tallyBy amounts on = record { doses = length amounts; sum = inFloat (total amounts); largest = greatest amounts; on = on }
+tallyBy amounts on = record { doses = length amounts; sum = asF64 (total amounts); largest = greatest amounts; on = on }
 
 tally-is : (ls : List Line) (h : ℕ) (amounts : List ℕ) (on : Bool) → amountsAt h ls ≡ amounts → hasOn h ls ≡ on → tallyOf ls h ≡ tallyBy amounts on
 unfolding tallyOf

@@ -13,7 +13,7 @@ use Rattle.journal.specs.Says.{saysJudged}
 use Rattle.journal.specs.declared.Line.{Line}
 use Rattle.journal.specs.declared.Line.the-variants.{Dose, On}
 use Rattle.journal.specs.declared.Summary.{Summary}
-use Rattle.hourly.specs.Hours.{amountsAt, hasOn, total, greatest, inFloat}
+use Rattle.hourly.specs.Hours.{amountsAt, hasOn, total, greatest, asF64}
 use Rattle.hourly.specs.Text.{Row, measured, idle, missing, HourRow, rowsText}
 use Rattle.hourly.specs.declared.Figures.{Figures}
 use Rattle.hourly.specs.declared.Hour.{Hour}
@@ -35,10 +35,10 @@ linesOf s = linesIn (journalOf s)
 -- ---- the tally of one hour
 
 unfoldable pub noTally : Tally
-noTally = record { doses = 0; sum = inFloat 0; largest = 0; on = false }
+noTally = record { doses = 0; sum = asF64 0; largest = 0; on = false }
 
 unfoldable pub withDose : Tally → ℕ → Tally
-withDose t a = record { doses = t .doses + 1; sum = add binary64 (t .sum) (inFloat a); largest = max (t .largest) a; on = t .on }
+withDose t a = record { doses = t .doses + 1; sum = add binary64 (t .sum) (asF64 a); largest = max (t .largest) a; on = t .on }
 
 unfoldable pub withOn : Tally → Tally
 withOn t = record { doses = t .doses; sum = t .sum; largest = t .largest; on = true }
@@ -53,7 +53,7 @@ unfoldable pub tallyOf : List Line → ℕ → Tally
 tallyOf ls h =
     record {
       doses = length (amountsAt h ls);
-      sum = inFloat (total (amountsAt h ls));
+      sum = asF64 (total (amountsAt h ls));
       largest = greatest (amountsAt h ls);
       on = hasOn h ls;
     }
@@ -74,7 +74,7 @@ pub record Counts (s : List ℕ) (t : Tallied) : Type 0 where
 
 -- the hour's answer by its tally
 unfoldable pub figuresFrom : Tally → Figures
-figuresFrom t = record { sum = t .sum; largest = inFloat (t .largest); mean = div binary64 (t .sum) (inFloat (t .doses)) }
+figuresFrom t = record { sum = t .sum; largest = asF64 (t .largest); mean = div binary64 (t .sum) (asF64 (t .doses)) }
 
 unfoldable pub hourFrom : Tally → Hour
 hourFrom t = pick (t .on) (pick (eqb (t .doses) 0) Idle (Measured (figuresFrom t))) Missing
@@ -89,7 +89,7 @@ saysShown S.Missing = missing
 -- the sum is a whole number that an f64 holds exactly
 pub record Summed (t : Tally) : Type 0 where
   pub whole : ℕ
-  pub exact : t .sum ≡ inFloat whole
+  pub exact : t .sum ≡ asF64 whole
   pub small : whole ≤ 2 ^ 53
 
 -- what is printed of an hour by its answer and its tally

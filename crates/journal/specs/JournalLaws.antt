@@ -7,7 +7,7 @@ use native.Mathlib.Nat.{le-refl}
 use native.Mathlib.Omega.{arith}
 use native.Mathlib.Numerals.{add-one}
 use native.Mathlib.Decide.{decLt}
-use lib.ListN.{length, drop, length-append, length-drop}
+use lib.ListN.{length, length-append}
 use borrow.Author.Tests.{lt-ltb, le-ltb}
 use Rattle.laws.specs.Pick.{pick, pick-t, pick-f, pick-true, pick-false, pick-map}
 use Rattle.laws.specs.Decimal.{Parsed, good, bad}
@@ -15,7 +15,7 @@ use Rattle.paper.specs.Answer.{Answer, done, refused, fault, told}
 use Rattle.paper.specs.AnswerLaws.{refused-done, fault-done}
 use Rattle.paper.specs.Numbers.{R10, R11, R12, R13}
 use Rattle.journal.specs.Line.{textOf, inRange, lineOf}
-use Rattle.journal.specs.LineLaws.{text-only, text-least, line-shorter, dose-range, on-range, Stands, stands}
+use Rattle.journal.specs.LineLaws.{text-only, text-least, line-shorter, dose-range, on-range}
 use Rattle.journal.specs.Journal.{hourIn, outOfOrder, tooFar, noPast, pastAfter, ordered, onLine, readFrom, journalOf, summaryOf, journalText}
 use Rattle.journal.specs.declared.Line.{Line}
 use Rattle.journal.specs.declared.Line.the-variants.{Dose, On}
@@ -194,37 +194,10 @@ journal-reads s ls e = lines-reads (length s) noPast 1 s ls (le-refl (length s))
 pub reads-journal : (s : List ℕ) (ls : List Line) → length s ≤ 65536 → Reads noPast s ls → journalOf s ≡ done ls
 reads-journal s ls h r = journal-lines s h ∙ reads-lines 1 r
 
--- from `at` on stand a line and then others
-pub record Next (p : Past) (s : List ℕ) (at : ℕ) (ls : List Line) : Type 0 where
-  pub line : Line
-  pub next : ℕ
-  pub others : List Line
-  pub all : ls ≡ line ∷ others
-  pub here : Stands s at line next
-  pub rest : Reads (pastAfter p line) (drop next s) others
-
-pub reads-next : (p : Past) (s : List ℕ) (at : ℕ) (ls : List Line) → at < length s → Reads p (drop at s) ls → Next p s at ls
-reads-next p s at ls h r = go (drop at s) ls refl r
-  where
-    go : (d : List ℕ) (ms : List Line) → drop at s ≡ d → Reads p d ms → Next p s at ms
-    go d ms q none = absurd (omega (arith, ap length q, length-drop at s))
-    go d ms q (more {rest = rest} {l = l} {ls = others} e k m) =
-        let w = stands s at l rest (ap lineOf q ∙ e) in
-        let o : rest ≡ drop (length s - length rest) s = cc (w .line) in
-        record { line = l; next = length s - length rest; others = others; all = refl; here = w; rest = subst (λ (t : List ℕ). Reads (pastAfter p l) t others) o m }
-
-pub reads-end : {p : Past} {s : List ℕ} {ls : List Line} → length s ≡ 0 → Reads p s ls → ls ≡ []
-reads-end h none = refl
-reads-end {p} {s} h (more {rest = rest} {l = l} e k r) = absurd (omega (arith, line-shorter s l rest e))
-
 -- a rule holds of each line
 abbrev pub Each : (Line → Type 0) → List Line → Type 0
 Each P [] = Unit
 Each P (l ∷ ls) = P l × Each P ls
-
-pub each-map : {P Q : Line → Type 0} (ls : List Line) → ((l : Line) → P l → Q l) → Each P ls → Each Q ls
-each-map [] f e = tt
-each-map (l ∷ ls) f e = (f l (e .0), each-map ls f (e .1))
 
 -- the bytes are the lines' text
 reads-text : {p : Past} {s : List ℕ} {ls : List Line} → Reads p s ls → s ≡ journalText ls
@@ -265,12 +238,3 @@ judged-lines s m e = go (journalOf s) refl e
     go (done ls) q h = (ls, q, cc)
     go (refused n vs) q h = refused-done (sym h)
     go (fault n vs) q h = fault-done (sym h)
-
-pub judged-refused : (s : List ℕ) (n : ℕ) (vs : List ℕ) → refused n vs ≡ told summaryOf (journalOf s) → journalOf s ≡ refused n vs
-unfolding told
-judged-refused s n vs e = go (journalOf s) refl e
-  where
-    go : (a : Answer (List Line)) → journalOf s ≡ a → refused n vs ≡ told summaryOf a → journalOf s ≡ refused n vs
-    go (done ls) q h = refused-done h
-    go (refused m ws) q h = q ∙ cc
-    go (fault m ws) q h = let z : _≡_ {A = ℕ} 0 1 = cc in let f : ⊥ = omega arith in absurd f

@@ -134,7 +134,7 @@ past-after-requires : tie.Need-past-after-requires Inv-loop μ-loop
 past-after-requires c κs = search needs
 
 sub-k : tie.Need-sub-k Inv-loop μ-loop
-sub-k c = turned (c .before) .low
+sub-k c = omega (arith, turned (c .before) .low)
 
 cast-k : tie.Need-cast-k Inv-loop μ-loop
 cast-k c = search needs
@@ -143,7 +143,7 @@ mul-tally : tie.Need-mul-tally Inv-loop μ-loop
 mul-tally c = omega (arith, turned (c .before) .high)
 
 array-copy-out-tally : tie.Need-array-copy-out-tally Inv-loop μ-loop
-array-copy-out-tally c = turned (c .before) .high
+array-copy-out-tally c = omega (arith, turned (c .before) .high)
 
 with-line-requires : tie.Need-with-line-requires Inv-loop μ-loop
 with-line-requires c κs = turned (c .before .before) .few
