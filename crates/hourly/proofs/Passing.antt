@@ -20,7 +20,7 @@ use Rattle.journal.specs.declared.Refusal.{Refusal}
 use Rattle.journal.specs.declared.Judged.the-variants as J
 use Rattle.journal.specs.Says.{saysRefusal, saysJudged, refusal-done, refusal-told}
 use Rattle.hourly.specs.Accepted.{InRange, Ranged}
-use Rattle.hourly.specs.Tally.{outside, noTally, counted, Tells, Counts}
+use Rattle.hourly.specs.Tally.{outside, noTally, counted, Tells, Counts, acceptedAfter}
 use Rattle.hourly.specs.declared.Tally.{Tally}
 use Rattle.hourly.specs.declared.Tallied.{Tallied}
 use Rattle.hourly.proofs.Tallying.{tells-none, tells-start, tells-more, old-few}
@@ -131,8 +131,8 @@ module _ {s : List ℕ} {past : Past} {at n : ℕ} {table : List Tally} (p : Pas
       ∙ told-none (λ (ms : List Line). p .lines ++ ms) past (n + 1)
       ∙ ap done (append-nil (p .lines))
 
-  pub counts-all : length s ≤ at → Counts s (record { judged = J.Lines (record { lines = n; first = past .first; last = past .last }); table = table })
-  unfolding told summaryOf
+  pub counts-all : length s ≤ at → Counts s (acceptedAfter n past table)
+  unfolding told summaryOf acceptedAfter
   counts-all h =
       let e = ended h in
       record {

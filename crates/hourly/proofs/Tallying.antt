@@ -1,6 +1,6 @@
 -- One line more, and what it does to the tally of each hour; the line at a place of an accepted journal. Assumes nothing.
 use mathlib.Core.Path.{_≡_, refl, sym, ap, _∙_, subst}
-use mathlib.Core.Bool.{Bool, true, false, _||_, or-true, or-false, or-assoc}
+use mathlib.Core.Bool.{Bool, true, _||_, or-true, or-false, or-assoc}
 use mathlib.Core.List.{List, [], _∷_, _++_, append-assoc, append-nil}
 use Prim.Native.Nat.{ℕ, _+_, _-_, _^_, _≤_, _<_, max}
 use native.Mathlib.Omega.{arith}

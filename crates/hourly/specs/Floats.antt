@@ -5,8 +5,7 @@ use Prim.Native.Nat.{ℕ, zero, suc, _+_, _*_, _^_, _≤_, _<_}
 use native.Mathlib.Nat.{mul-one, mul-comm, mul-assoc, add-mul, mul-pos, zero-lt-suc, zero-mul}
 use native.Mathlib.Omega.{arith}
 use lib.Dec.{T, ltb, eqb·suc-zero, le→leb}
-use lib.Ieee.{Float, nan, inf, fin, Format, binary64, prec, low, emax, up, down, round, units, odd, add, sum, div, ofInt, isNan, ofBits, toUnsigned, inUnsigned}
-use lib.Ieee as ieee
+use lib.Ieee.{Float, nan, inf, fin, Format, binary64, prec, low, emax, up, down, round, units, odd, add, sum, div, ofInt, isNan, ofBits, toUnsigned, inUnsigned, inFloat}
 use lib.Ieee.Fits.{down-pos, round-is}
 use lib.Ieee.Exact.{HasValue}
 use lib.Ieee.Back.{round-whole, unsigned-back}
@@ -43,7 +42,7 @@ add-whole a b h k = add-values binary64 (round binary64 false a 1) (round binary
 
 -- a whole number up to 2 ^ 53 comes back from its float
 pub whole-back : (n : ℕ) → n ≤ 2 ^ 53 → T (inUnsigned binary64 64 (asF64 n)) × (toUnsigned 64 (asF64 n) ≡ n)
-unfolding ieee.inFloat asF64
+unfolding inFloat asF64
 whole-back n h = unsigned-back binary64 64 n (le→leb n (2 ^ 53) h) (omega arith)
 
 odd-no-nan : (d : ℕ) (s : Bool) (q k l : ℕ) → T (not (isNan (odd d s q k l)))

@@ -12,7 +12,9 @@ use Rattle.journal.specs.Journal.{journalOf, summaryOf, firstHour}
 use Rattle.journal.specs.Says.{saysJudged}
 use Rattle.journal.specs.declared.Line.{Line}
 use Rattle.journal.specs.declared.Line.the-variants.{Dose, On}
+use Rattle.journal.specs.declared.Past.{Past}
 use Rattle.journal.specs.declared.Summary.{Summary}
+use Rattle.journal.specs.declared.Judged.the-variants as J
 use Rattle.hourly.specs.Hours.{amountsAt, hasOn, total, greatest, asF64}
 use Rattle.hourly.specs.Text.{Row, measured, idle, missing, HourRow, rowsText}
 use Rattle.hourly.specs.declared.Figures.{Figures}
@@ -71,6 +73,10 @@ pub record Tells (table : List Tally) (first : ℕ) (ls : List Line) : Type 0 wh
 pub record Counts (s : List ℕ) (t : Tallied) : Type 0 where
   pub judged : saysJudged (t .judged) ≡ told summaryOf (journalOf s)
   pub tells : (ls : List Line) → journalOf s ≡ done ls → Tells (t .table) (firstHour ls) ls
+
+-- a journal accepted after n lines, by what they say of the hours
+unfoldable pub acceptedAfter : ℕ → Past → List Tally → Tallied
+acceptedAfter n past table = record { judged = J.Lines (record { lines = n; first = past .first; last = past .last }); table = table }
 
 -- the hour's answer by its tally
 unfoldable pub figuresFrom : Tally → Figures

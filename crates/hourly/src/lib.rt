@@ -2,6 +2,7 @@
 use journal::At;
 use journal::Judged;
 use journal::Line;
+use journal::Past;
 use journal::Refusal;
 use journal::Summary;
 ghost use mathlib.Core.Path.{_≡_};
@@ -14,7 +15,7 @@ ghost use Rattle.journal.specs.Journal.{journalOf, summaryOf};
 ghost use Rattle.journal.specs.declared.Judged.the-variants.{Refused};
 ghost use Rattle.hourly.specs.Hours.{askOf, hourOf};
 ghost use Rattle.hourly.specs.Text.{measured, rowText, printOf};
-ghost use Rattle.hourly.specs.Tally.{noTally, withDose, counted, linesOf, Counts, hourFrom, saysShown, Summed, shownOf, textBy, Printable, hoursIn};
+ghost use Rattle.hourly.specs.Tally.{noTally, withDose, counted, linesOf, Counts, acceptedAfter, hourFrom, saysShown, Summed, shownOf, textBy, Printable, hoursIn};
 ghost use Rattle.hourly.specs.Rows.{tailText};
 ghost use Rattle.text.specs.Put.{Puts};
 ghost use Rattle.hourly.specs.Says.{saysAsked, saysPrinted};
@@ -143,6 +144,21 @@ fn refused(refusal: Refusal, table: [Tally; SPAN]) -> Tallied
     }
 }
 
+// A journal that is accepted after its last line, with all tallies.
+fn accepted(lines: usize, past: Past, table: [Tally; SPAN]) -> Tallied
+    ensures { λ r. ⌜ r ≡ acceptedAfter lines past table ⌝ }
+{
+    let found = Summary {
+        lines,
+        first: past.first,
+        last: past.last,
+    };
+    Tallied {
+        judged: Judged::Lines(found),
+        table,
+    }
+}
+
 // A whole journal in one pass: R13, then line by line R10, R11, R12; each line that is taken is counted at its hour.
 fn tallies(bytes: &[u8]) -> Tallied
     ensures { λ r. ⌜ Counts (now (bytes .entry)) r ⌝ }
@@ -174,15 +190,7 @@ fn tallies(bytes: &[u8]) -> Tallied
         at = next;
         lines = number;
     }
-    let found = Summary {
-        lines,
-        first: past.first,
-        last: past.last,
-    };
-    Tallied {
-        judged: Judged::Lines(found),
-        table,
-    }
+    accepted(lines, past, table)
 }
 
 // ---- an hour's answer

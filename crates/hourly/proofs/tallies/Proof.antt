@@ -1,6 +1,6 @@
 -- The pass over the lines: what is read from `at` on gives the rest of the answer, and the lines so far are counted. Assumes nothing.
 use Prim.Native.Nat.{ℕ, _-_, _≤_}
-use mathlib.Core.Path.{_≡_, sym, ap, _∙_}
+use mathlib.Core.Path.{_≡_, sym, ap, _∙_, subst}
 use mathlib.Core.Bool.{Bool, true, false, _&&_}
 use mathlib.Core.List.{List}
 use native.Mathlib.Omega.{arith}
@@ -12,6 +12,7 @@ use Rattle.journal.specs.JournalLaws.{journal-long}
 use Rattle.journal.specs.LineLaws.{Stands, line-at-only}
 use Rattle.journal.specs.Says.{saysAt}
 use Rattle.journal.specs.declared.Line.{Line}
+use Rattle.hourly.specs.Tally.{Counts}
 use Rattle.hourly.proofs.Passing.{Passed, Turn, passed-none, counts-refused, counts-all, malformed, late, distant, turn}
 use Rattle.hourly.proofs.tallies.Statement.{statement}
 use Rattle.hourly.proofs.tallies.Tie as tie
@@ -160,8 +161,11 @@ loop-less c = omega (arith, here (known (c .before .before .before)) .onward, he
 loop-again : tie.Need-loop-again Inv-loop μ-loop
 loop-again c = rw (c .with-line .ensures) (turned (c .before .before .before) .again)
 
+accepted-requires : tie.Need-accepted-requires Inv-loop μ-loop
+accepted-requires c κs = search needs
+
 returns-5 : tie.Need-returns-5 Inv-loop μ-loop
-returns-5 c = counts-all (c .before .loop .inv) (omega (arith, c .loop-test .left))
+returns-5 c = subst (Counts (S (c .before .before))) (sym (c .accepted .ensures)) (counts-all (c .before .before .loop .inv) (omega (arith, c .before .loop-test .left)))
 
 pub tallies-spec : {M : Type 1} → statement M
 tallies-spec =
@@ -197,4 +201,5 @@ tallies-spec =
     array-set-from-table
     loop-less
     loop-again
+    accepted-requires
     returns-5)
