@@ -10,11 +10,11 @@ use lib.Ieee.{Float, binary64, div, isNan, inUnsigned}
 use borrow.Author.Tests.{eqb-false}
 use Rattle.laws.specs.Pick.{pick}
 use Rattle.paper.specs.Answer.{Answer, done, refused, fault, told, onDone, leaves, Fills}
-use Rattle.journal.specs.Says.{saysRefusal}
+use Rattle.journal.specs.Says.{saysRefusal, refusal-told}
 use Rattle.journal.specs.declared.Line.{Line}
 use Rattle.journal.specs.declared.Refusal.{Refusal}
 use Rattle.journal.specs.declared.Refusal.the-variants as R
-use Rattle.hourly.specs.Hours.{amountsAt, hasOn, total, greatest, figuresOf, measuredOrIdle, hourOf, inFloat}
+use Rattle.hourly.specs.Hours.{amountsAt, hasOn, total, greatest, figuresOf, measuredOrIdle, hourOf, asF64}
 use Rattle.hourly.specs.Tally.{tallyOf, figuresFrom, hourFrom, Summed}
 use Rattle.hourly.specs.declared.Figures.{Figures}
 use Rattle.hourly.specs.declared.Hour.{Hour}
@@ -27,7 +27,7 @@ pub hour-tally : (ls : List Line) (h : ℕ) → hourFrom (tallyOf ls h) ≡ hour
 unfolding hourFrom tallyOf figuresFrom hourOf measuredOrIdle figuresOf pick
 hour-tally ls h = ap (λ (x : Hour). pick (hasOn h ls) x Missing) (go (amountsAt h ls))
   where
-    go : (amounts : List ℕ) → pick (eqb (length amounts) 0) Idle (Measured (record { sum = inFloat (total amounts); largest = inFloat (greatest amounts); mean = div binary64 (inFloat (total amounts)) (inFloat (length amounts)) })) ≡ measuredOrIdle amounts
+    go : (amounts : List ℕ) → pick (eqb (length amounts) 0) Idle (Measured (record { sum = asF64 (total amounts); largest = asF64 (greatest amounts); mean = div binary64 (asF64 (total amounts)) (asF64 (length amounts)) })) ≡ measuredOrIdle amounts
     go [] = refl
     go (a ∷ as') = rw eqb·suc-zero
 
@@ -52,8 +52,8 @@ pub mean-number : (t : Tally) (f : Figures) → Summed t → t .doses ≤ 2 ^ 53
 unfolding figuresFrom
 mean-number t f s d e =
     let m = measured-from t f e in
-    let g : div binary64 (t .sum) (inFloat (t .doses)) ≡ f .mean = ap (λ (x : Figures). x .mean) (m .0) in
-    subst (λ (x : Float). T (not (isNan x))) (ap (λ (x : Float). div binary64 x (inFloat (t .doses))) (sym (s .exact)) ∙ g) (mean-no-nan (s .whole) (t .doses) (s .small) d (m .1))
+    let g : div binary64 (t .sum) (asF64 (t .doses)) ≡ f .mean = ap (λ (x : Figures). x .mean) (m .0) in
+    subst (λ (x : Float). T (not (isNan x))) (ap (λ (x : Float). div binary64 x (asF64 (t .doses))) (sym (s .exact)) ∙ g) (mean-no-nan (s .whole) (t .doses) (s .small) d (m .1))
 
 -- ---- the journal's refusal
 
@@ -85,13 +85,6 @@ else-done f next (done x) = refl
 else-done f next (refused n vs) = refl
 else-done f next (fault n vs) = refl
 
-refusal-says : (r : Refusal) → saysRefusal r ≡ told length (saysRefusal {X = List ℕ} r)
-unfolding told
-refusal-says (R.R10 n) = refl
-refusal-says (R.R11 n) = refl
-refusal-says (R.R12 n) = refl
-refusal-says R.R13 = refl
-
 refusal-leaves : (r : Refusal) (old : List ℕ) → old ≡ leaves (saysRefusal r) old
 unfolding leaves
 refusal-leaves (R.R10 n) old = refl
@@ -103,4 +96,4 @@ refusal-leaves R.R13 old = refl
 pub refused-fills : {A X : Type 0} (f : A → X) (next : A → Answer (List ℕ)) (a : Answer A) (r : Refusal) (old : List ℕ) → saysRefusal r ≡ told f a → Fills (saysRefusal r) (onDone a next) old old
 refused-fills {X = X} f next a r old e =
     let g : saysRefusal r ≡ onDone a next = sym (else-refusal X (onDone a next) r) ∙ ap (orElse (onDone a next)) e ∙ else-done f next a in
-    record { says = refusal-says r ∙ ap (told length) g; left = refusal-leaves r old ∙ ap (λ (x : Answer (List ℕ)). leaves x old) g }
+    record { says = refusal-told length r ∙ ap (told length) g; left = refusal-leaves r old ∙ ap (λ (x : Answer (List ℕ)). leaves x old) g }

@@ -12,17 +12,15 @@ use lib.Seq.{sets, drop-cons, getD-take, length-take-le}
 use borrow.Author.Tests.{le-leb, lt-leb}
 use Rattle.laws.specs.Pick.{pick, pick-t, pick-f}
 use Rattle.laws.specs.Over.{sets-append, sets-over}
-use Rattle.laws.specs.Decimal.{decimal}
-use Rattle.laws.specs.DecimalLaws.{decimal-length}
-use Rattle.paper.specs.Answer.{Answer, done, refused, told, inRoom, leaves, Fills}
+use Rattle.paper.specs.Answer.{Answer, done, refused, told, onDone, inRoom, leaves, Fills}
 use Rattle.paper.specs.Numbers.{R8}
 use Rattle.text.specs.Put.{Puts}
-use Rattle.text.specs.PutLaws.{room-is, puts-fit, fit-puts, puts-length}
+use Rattle.text.specs.PutLaws.{room-is, puts-fit, puts-length}
 use Rattle.journal.specs.Journal.{firstHour, summaryOf}
 use Rattle.journal.specs.declared.Line.{Line}
 use Rattle.journal.specs.declared.Summary.{Summary}
-use Rattle.hourly.specs.Hours.{amountsAt, hasOn, total, greatest, figuresOf, measuredOrIdle, hourOf, inFloat}
-use Rattle.hourly.specs.Text.{Row, rowFrom, rowOf, rowText, rowsOf, rowsText, hoursFrom, spanOf, hoursText}
+use Rattle.hourly.specs.Hours.{amountsAt, hasOn, total, greatest, figuresOf, measuredOrIdle, hourOf, asF64}
+use Rattle.hourly.specs.Text.{Row, rowFrom, rowOf, rowText, rowsOf, rowsText, hoursFrom, spanOf, hoursText, printOf}
 use Rattle.hourly.specs.Accepted.{Accepted}
 use Rattle.hourly.specs.Bounds.{modest, text-short}
 use Rattle.hourly.specs.Tally.{outside, tallyOf, linesOf, Tells, shownBy, shownOf, rowsBy, textBy, Printable, hoursIn}
@@ -32,30 +30,6 @@ use Rattle.hourly.specs.declared.Tally.{Tally}
 use Rattle.hourly.specs.Floats.{whole-back}
 use Rattle.hourly.proofs.Answering.{hour-tally}
 use Rattle.hourly.proofs.Tallying.{Found, found-accepted}
-
--- the room that is left for the other
-pub room-then : {old mid : List ℕ} {at p : ℕ} (x y : List ℕ) → at + length (x ++ y) ≤ length old → Puts old at x mid p → p + length y ≤ length mid
-room-then {old} {mid} {at} {p} x y room first =
-    let n : length (x ++ y) ≡ length x + length y = length-append x y in
-    let place : p ≡ at + length x = puts-fit (room-is old at x (omega arith)) first .1 in
-    let size : length mid ≡ length old = puts-length first in
-    omega arith
-
--- a text, and behind it another
-pub put-then : {old mid new : List ℕ} {at p r : ℕ} (x y : List ℕ) → at + length (x ++ y) ≤ length old → Puts old at x mid p → (p + length y ≤ length mid → Puts mid p y new r) → Puts old at (x ++ y) new r
-put-then {old} {mid} {new} {at} {p} {r} x y room first behind =
-    let n : length (x ++ y) ≡ length x + length y = length-append x y in
-    let a = puts-fit (room-is old at x (omega arith)) first in
-    let place : p ≡ at + length x = a .1 in
-    let left = room-then x y room first in
-    let b = puts-fit (room-is mid p y left) (behind left) in
-    fit-puts (room-is old at (x ++ y) room)
-    (b .0 ∙ ap (λ (o : List ℕ). sets o p y) (a .0) ∙ ap (λ (i : ℕ). sets (sets old at x) i y) place ∙ sym (sets-append old at x y))
-    (b .1 ∙ omega arith)
-
--- a u64 has at most 20 digits
-pub digits-most : (n : ℕ) → n < 2 ^ 64 → length (decimal n) ≤ 20
-digits-most n h = decimal-length 20 n (omega arith) (omega arith)
 
 -- the text of the rows from row k on
 abbrev pub restBy : List Tally → ℕ → ℕ → ℕ → List ℕ
@@ -127,7 +101,7 @@ unfolding shownOf rowOf rowFrom hourOf measuredOrIdle figuresOf tallyOf pick
 shown-tally ls h b = ap (λ (x : Hour). shownBy x (tallyOf ls h)) (hour-tally ls h) ∙ go (hasOn h ls) (amountsAt h ls) b
   where
     go : (on : Bool) (amounts : List ℕ) → total amounts ≤ 2 ^ 53
-        → shownBy (pick on (measuredOrIdle amounts) Missing) (record { doses = length amounts; sum = inFloat (total amounts); largest = greatest amounts; on = on }) ≡ rowFrom (pick on (measuredOrIdle amounts) Missing) amounts
+        → shownBy (pick on (measuredOrIdle amounts) Missing) (record { doses = length amounts; sum = asF64 (total amounts); largest = greatest amounts; on = on }) ≡ rowFrom (pick on (measuredOrIdle amounts) Missing) amounts
     go true [] b = refl
     go true (a ∷ as') b = rw (whole-back (total (a ∷ as')) b .1)
     go false amounts b = refl
@@ -204,3 +178,8 @@ prints s found table f t =
 -- the first line's hour is no later than the last line's
 pub first-last : {s : List ℕ} {found : Summary} → Found s found → found .first ≤ found .last
 first-last f = omega (arith, f .first, f .last, found-accepted f .order)
+
+-- and the text is what is printed, if it has room
+pub prints-answer : {s : List ℕ} {found : Summary} {table : List Tally} → Found s found → Prints s found table → (room : ℕ) → inRoom [] room (textBy table (found .first) (hoursIn found)) ≡ printOf s room
+unfolding printOf onDone
+prints-answer f p room = ap (inRoom [] room) (p .text) ∙ sym (ap (λ (a : Answer (List Line)). onDone a (λ ls. inRoom [] room (hoursText ls))) (f .journal))

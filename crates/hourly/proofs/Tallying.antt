@@ -1,34 +1,29 @@
 -- One line more, and what it does to the tally of each hour; the line at a place of an accepted journal. Assumes nothing.
 use mathlib.Core.Path.{_≡_, refl, sym, ap, _∙_, subst}
-use mathlib.Core.Bool.{Bool, true, false, _||_, or-true, or-false}
+use mathlib.Core.Bool.{Bool, true, _||_, or-true, or-false, or-assoc}
 use mathlib.Core.List.{List, [], _∷_, _++_, append-assoc, append-nil}
-use Prim.Native.Nat.{ℕ, suc, _+_, _-_, _^_, _≤_, _<_, max}
+use Prim.Native.Nat.{ℕ, _+_, _-_, _^_, _≤_, _<_, max}
 use native.Mathlib.Omega.{arith}
-use native.Mathlib.Numerals.{add-one}
 use native.Mathlib.Decide.{ℕ-discrete}
 use lib.Dec.{eqb}
-use lib.ListN.{length, getD, take, drop, set, length-append, length-set, replicate, length-replicate, getD-replicate, take-append-drop}
-use lib.Seq.{take-suc, drop-cons, drop-at, getD-set-same, getD-set-other, length-take-le, take-all}
+use lib.ListN.{length, getD, set, length-append, length-set, replicate, length-replicate, getD-replicate}
+use lib.Seq.{getD-set-same, getD-set-other}
 use borrow.Author.Tests.{eq-eqb, ne-eqb}
 use Rattle.laws.specs.Pick.{pick-t, pick-f}
-use Rattle.laws.specs.Decimal.{good}
 use Rattle.paper.specs.Answer.{done, told}
-use Rattle.journal.specs.Line.{textOf, inRange, lineOf, placed, lineAt}
-use Rattle.journal.specs.Journal.{hourIn, journalOf, journalText, firstHour, lastHour, summaryOf}
-use Rattle.journal.specs.LineLaws.{read-text, dose-range}
+use Rattle.journal.specs.Line.{inRange}
+use Rattle.journal.specs.Journal.{hourIn, journalOf, firstHour, lastHour, summaryOf}
+use Rattle.journal.specs.LineLaws.{dose-range}
 use Rattle.journal.specs.JournalLaws.{judged-lines}
-use Rattle.journal.specs.Order.{Within}
-use Rattle.journal.specs.Says.{saysAt, at-one}
 use Rattle.journal.specs.declared.Line.{Line}
 use Rattle.journal.specs.declared.Line.the-variants.{Dose, On}
 use Rattle.journal.specs.declared.Summary.{Summary}
-use Rattle.journal.specs.declared.At.{At}
-use Rattle.journal.specs.declared.At.the-variants as A
-use Rattle.hourly.specs.Hours.{doseAt, amountsAt, isOn, hasOn, total, greatest, inFloat}
-use Rattle.hourly.specs.Accepted.{InRange, Ranged, Accepted, accepted, each-line, each-take}
+use Rattle.hourly.specs.Hours.{doseAt, amountsAt, isOn, hasOn, total, greatest, asF64}
+use Rattle.hourly.specs.Accepted.{Ranged, Accepted, accepted}
 use Rattle.hourly.specs.Bounds.{modest}
-use Rattle.hourly.specs.Tally.{outside, noTally, withDose, withOn, counted, tallyOf, Tells, linesIn, linesOf}
+use Rattle.hourly.specs.Tally.{outside, noTally, withDose, withOn, counted, tallyOf, Tells, Counts, linesIn, linesOf}
 use Rattle.hourly.specs.declared.Tally.{Tally}
+use Rattle.hourly.specs.declared.Tallied.{Tallied}
 use Rattle.hourly.specs.Floats.{add-whole}
 
 -- ---- one line more
@@ -40,16 +35,8 @@ amounts-more h (x ∷ ls) l = ap (λ (r : List ℕ). doseAt h x ++ r) (amounts-m
 
 on-more : (h : ℕ) (ls : List Line) (l : Line) → hasOn h (ls ++ l ∷ []) ≡ (hasOn h ls || isOn h l)
 unfolding hasOn
-on-more h [] l = either (isOn h l)
-  where
-    either : (b : Bool) → (b || false) ≡ b
-    either true = refl
-    either false = refl
-on-more h (x ∷ ls) l = ap (λ (b : Bool). isOn h x || b) (on-more h ls l) ∙ regroup (isOn h x) (hasOn h ls) (isOn h l)
-  where
-    regroup : (a b c : Bool) → (a || (b || c)) ≡ ((a || b) || c)
-    regroup true b c = refl
-    regroup false b c = refl
+on-more h [] l = or-false (isOn h l)
+on-more h (x ∷ ls) l = ap (λ (b : Bool). isOn h x || b) (on-more h ls l) ∙ sym (or-assoc (isOn h x) (hasOn h ls) (isOn h l))
 
 total-more : (as' : List ℕ) (a : ℕ) → total (as' ++ a ∷ []) ≡ total as' + a
 unfolding total
@@ -63,7 +50,7 @@ greatest-more (x ∷ xs) a = omega (arith, greatest-more xs a)
 
 -- the tally of an hour with these amounts
 abbrev tallyBy : List ℕ → Bool → Tally
-tallyBy amounts on = record { doses = length amounts; sum = inFloat (total amounts); largest = greatest amounts; on = on }
+tallyBy amounts on = record { doses = length amounts; sum = asF64 (total amounts); largest = greatest amounts; on = on }
 
 tally-is : (ls : List Line) (h : ℕ) (amounts : List ℕ) (on : Bool) → amountsAt h ls ≡ amounts → hasOn h ls ≡ on → tallyOf ls h ≡ tallyBy amounts on
 unfolding tallyOf
@@ -100,94 +87,52 @@ tally-there ls (On x) h d =
     (amounts-more h ls (On x) ∙ append-nil (amountsAt h ls))
     (on-more h ls (On x) ∙ ap (λ (b : Bool). hasOn h ls || b) (ne-eqb x h d) ∙ or-false (hasOn h ls))
 
--- ---- the line at a place
+-- ---- a table with one line more
 
--- n lines are counted, and the bytes from `at` on are the text of the others
-pub record Counted (s : List ℕ) (ls : List Line) (first : ℕ) (table : List Tally) (at n : ℕ) : Type 0 where
-  pub left : drop at s ≡ journalText (drop n ls)
-  pub tells : Tells table first (take n ls)
+-- an hour of no line has no tally, whatever the first
+pub tells-none : (table : List Tally) (f g : ℕ) → Tells table f [] → Tells table g []
+unfolding tallyOf amountsAt total greatest hasOn
+tells-none table f g t = record { size = t .size; at = λ k b. t .at k b }
 
--- the line whose turn it is has a place in the table; it is counted in there
-pub record Turn (s : List ℕ) (ls : List Line) (first : ℕ) (table : List Tally) (n : ℕ) (line : Line) (next : ℕ) : Type 0 where
-  pub low : first ≤ hourIn line
-  pub high : hourIn line - first < 744
-  pub few : getD table (hourIn line - first) outside .doses < 16384
-  pub again : Counted s ls first (set table (hourIn line - first) (counted (getD table (hourIn line - first) outside) line)) next (n + 1)
+pub tells-start : (table : List Tally) (first : ℕ) → table ≡ replicate 744 noTally → Tells table first []
+unfolding noTally tallyOf amountsAt total greatest hasOn
+tells-start table first e =
+    record { size = ap length e ∙ length-replicate 744 noTally; at = λ k b. ap (λ (t : List Tally). getD t k outside) e ∙ getD-replicate 744 k noTally outside b }
 
--- the reader answers that line, and no refusal
-abbrev pub Taken : (s : List ℕ) (ls : List Line) (first : ℕ) (table : List Tally) (n : ℕ) → At → Type 0
-Taken s ls first table n (A.Line line next) = Turn s ls first table n line next
-Taken s ls first table n A.R10 = ⊥
+module _ (ls : List Line) (first : ℕ) (table : List Tally) (l : Line) (tells : Tells table first ls) (low : first ≤ hourIn l) (high : hourIn l - first < 744) where
+  abbrev pub spot : ℕ
+  spot = hourIn l - first
 
--- what follows some bytes stands where they end
-rest-back : (s x rest : List ℕ) → s ≡ x ++ rest → drop (length s - length rest) s ≡ rest
-rest-back s x rest e =
-    let n : length s - length rest ≡ length x = omega (arith, ap length e, length-append x rest) in
-    ap (λ (k : ℕ). drop k s) n ∙ ap (drop (length x)) e ∙ drop-at x rest (length x) refl
+  -- the table with the line counted in at its hour
+  abbrev pub after : List Tally
+  after = set table spot (counted (getD table spot outside) l)
 
-module _ (ls : List Line) (first : ℕ) (table : List Tally) (n : ℕ) (h : n < length ls) (tells : Tells table first (take n ls)) (ranged : Ranged ls) (lines : length ls ≤ 16384) where
-  abbrev this : Line
-  this = getD ls n (On 0)
+  old : getD table spot outside ≡ tallyOf ls (hourIn l)
+  old = tells .at spot high ∙ ap (tallyOf ls) (omega arith)
 
-  abbrev spot : ℕ
-  spot = hourIn this - first
-
-  old : first ≤ hourIn this → spot < 744 → getD table spot outside ≡ tallyOf (take n ls) (hourIn this)
-  old low high = tells .at spot high ∙ ap (tallyOf (take n ls)) (omega arith)
-
-  old-few : first ≤ hourIn this → spot < 744 → getD table spot outside .doses < 16384
+  pub old-few : Ranged ls → getD table spot outside .doses ≤ length ls
   unfolding tallyOf
-  old-few low high =
-      let e : getD table spot outside .doses ≡ length (amountsAt (hourIn this) (take n ls)) = ap (λ (t : Tally). t .doses) (old low high) in
-      omega (arith, modest (hourIn this) (take n ls) (each-take InRange ls n ranged) .few, length-take-le n ls (omega arith))
+  old-few ranged =
+      let e : getD table spot outside .doses ≡ length (amountsAt (hourIn l) ls) = ap (λ (t : Tally). t .doses) old in
+      omega (arith, modest (hourIn l) ls ranged .few)
 
-  tells-again : first ≤ hourIn this → spot < 744 → Tells (set table spot (counted (getD table spot outside) this)) first (take (n + 1) ls)
-  tells-again low high = record { size = length-set table spot _ ∙ tells .size; at = λ k b. go k b (ℕ-discrete (hourIn this) (first + k)) }
+  pub tells-more : Ranged ls → inRange l ≡ true → length ls ≤ 16384 → Tells after first (ls ++ l ∷ [])
+  tells-more ranged range few = record { size = length-set table spot _ ∙ tells .size; at = λ k b. go k b (ℕ-discrete (hourIn l) (first + k)) }
     where
-      snoc : take (n + 1) ls ≡ take n ls ++ this ∷ []
-      snoc = rw add-one (take-suc ls n (On 0) h)
-
-      go : (k : ℕ) → k < 744 → Dec (hourIn this ≡ first + k) → getD (set table spot (counted (getD table spot outside) this)) k outside ≡ tallyOf (take (n + 1) ls) (first + k)
+      go : (k : ℕ) → k < 744 → Dec (hourIn l ≡ first + k) → getD after k outside ≡ tallyOf (ls ++ l ∷ []) (first + k)
       go k b (yes e) =
           let p : spot ≡ k = omega arith in
-          ap (λ (i : ℕ). getD (set table spot (counted (getD table spot outside) this)) i outside) (sym p)
-          ∙ getD-set-same table spot (counted (getD table spot outside) this) outside (omega (arith, tells .size))
-          ∙ ap (λ (t : Tally). counted t this) (old low high)
-          ∙ sym (tally-here (take n ls) this (each-take InRange ls n ranged) (each-line InRange ls n (On 0) ranged h) (omega (arith, length-take-le n ls (omega arith))))
-          ∙ ap (λ (x : List Line). tallyOf x (hourIn this)) (sym snoc)
-          ∙ ap (tallyOf (take (n + 1) ls)) e
+          ap (λ (i : ℕ). getD after i outside) (sym p)
+          ∙ getD-set-same table spot (counted (getD table spot outside) l) outside (omega (arith, tells .size))
+          ∙ ap (λ (t : Tally). counted t l) old
+          ∙ sym (tally-here ls l ranged range few)
+          ∙ ap (tallyOf (ls ++ l ∷ [])) e
       go k b (no e) =
-          getD-set-other table spot k (counted (getD table spot outside) this) outside (λ p. e (omega arith))
+          getD-set-other table spot k (counted (getD table spot outside) l) outside (λ p. e (omega arith))
           ∙ tells .at k b
-          ∙ sym (tally-there (take n ls) this (first + k) e)
-          ∙ ap (λ (x : List Line). tallyOf x (first + k)) (sym snoc)
+          ∙ sym (tally-there ls l (first + k) e)
 
--- one turn of the pass
-pub turn : (s : List ℕ) (ls : List Line) (first : ℕ) (table : List Tally) (at n : ℕ) (r : At) → Accepted s ls → firstHour ls ≡ first → n < length ls → Counted s ls first table at n → saysAt r ≡ lineAt s at → Taken s ls first table n r
-unfolding journalText lineAt placed
-turn s ls first table at n r a f h c e =
-    let l = getD ls n (On 0) in
-    let rest = journalText (drop (suc n) ls) in
-    let text : drop at s ≡ textOf l ++ rest = c .left ∙ ap journalText (drop-cons ls n (On 0) h) in
-    let read : lineOf (drop at s) ≡ good l rest = ap lineOf text ∙ read-text l rest (each-line InRange ls n (On 0) (a .ranged) h) in
-    let whole : s ≡ (take at s ++ textOf l) ++ rest = sym (take-append-drop at s) ∙ ap (λ (x : List ℕ). take at s ++ x) text ∙ sym (append-assoc (take at s) (textOf l) rest) in
-    let b = each-line (Within ls) ls n (On 0) (a .within) h in
-    let low : first ≤ hourIn l = omega (arith, b .from) in
-    let high : hourIn l - first < 744 = omega (arith, b .near) in
-    let taken : Turn s ls first table n l (length s - length rest)
-    = record {
-      low = low;
-      high = high;
-      few = old-few ls first table n h (c .tells) (a .ranged) (a .few) low high;
-      again =
-          record {
-            left = rest-back s (take at s ++ textOf l) rest whole ∙ ap (λ (k : ℕ). journalText (drop k ls)) (sym (add-one n));
-            tells = tells-again ls first table n h (c .tells) (a .ranged) (a .few) low high;
-          };
-    } in
-    subst (Taken s ls first table n) (sym (at-one r (A.Line l (length s - length rest)) (e ∙ ap (placed (length s)) read))) taken
-
--- ---- the pass as a whole
+-- ---- an accepted journal
 
 -- the lines of an accepted journal, and what the reader said of them
 pub record Found (s : List ℕ) (found : Summary) : Type 0 where
@@ -214,18 +159,6 @@ found-of s found e =
 pub found-accepted : {s : List ℕ} {found : Summary} → Found s found → Accepted s (linesOf s)
 found-accepted {s} f = accepted s (linesOf s) (f .journal)
 
--- before the first line
-pub counted-none : (s : List ℕ) (ls : List Line) (first : ℕ) (table : List Tally) → Accepted s ls → table ≡ replicate 744 noTally → Counted s ls first table 0 0
-unfolding noTally tallyOf amountsAt total greatest hasOn
-counted-none s ls first table a e =
-    record {
-      left = a .text;
-      tells = record { size = ap length e ∙ length-replicate 744 noTally; at = λ k b. ap (λ (t : List Tally). getD t k outside) e ∙ getD-replicate 744 k noTally outside b ∙ none k };
-    }
-  where
-    none : (k : ℕ) → noTally ≡ tallyOf [] (first + k)
-    none k = refl
-
--- after the last one
-pub counted-all : (s : List ℕ) (ls : List Line) (first : ℕ) (table : List Tally) (at n : ℕ) → length ls ≤ n → Counted s ls first table at n → Tells table first ls
-counted-all s ls first table at n h c = subst (Tells table first) (take-all n ls h) (c .tells)
+-- the pass has counted those lines
+pub counts-tell : {s : List ℕ} {found : Summary} {t : Tallied} → Found s found → Counts s t → Tells (t .table) (found .first) (linesOf s)
+counts-tell {s} {t = t} f c = subst (λ (h : ℕ). Tells (t .table) h (linesOf s)) (f .first) (c .tells (linesOf s) (f .journal))

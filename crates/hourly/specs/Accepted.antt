@@ -1,11 +1,10 @@
 -- What an accepted journal is: the text of its lines, each in range, their hours from the first to the last and within 744 hours. Assumes nothing.
 use mathlib.Core.Path.{_≡_}
 use mathlib.Core.Bool.{true}
-use mathlib.Core.List.{List, [], _∷_}
-use Prim.Native.Nat.{ℕ, zero, suc, _+_, _≤_, _<_}
+use mathlib.Core.List.{List}
+use Prim.Native.Nat.{ℕ, _+_, _≤_, _<_}
 use native.Mathlib.Omega.{arith}
-use native.Mathlib.Nat.{le-of-suc-le-suc}
-use lib.ListN.{length, getD, take}
+use lib.ListN.{length}
 use Rattle.paper.specs.Answer.{done}
 use Rattle.journal.specs.Line.{inRange}
 use Rattle.journal.specs.Journal.{journalOf, firstHour, lastHour, journalText}
@@ -40,15 +39,3 @@ accepted s ls e =
       order = hours .0;
       span = hours .1;
     }
-
--- what holds of each line holds of line n, and of each of the first n
-pub each-line : (P : Line → Type 0) (ls : List Line) (n : ℕ) (d : Line) → Each P ls → n < length ls → P (getD ls n d)
-each-line P [] n d e h = absurd (omega arith)
-each-line P (l ∷ ls) zero d e h = e .0
-each-line P (l ∷ ls) (suc n) d e h = each-line P ls n d (e .1) (le-of-suc-le-suc h)
-
-pub each-take : (P : Line → Type 0) (ls : List Line) (n : ℕ) → Each P ls → Each P (take n ls)
-each-take P [] zero e = tt
-each-take P [] (suc n) e = tt
-each-take P (l ∷ ls) zero e = tt
-each-take P (l ∷ ls) (suc n) e = (e .0, each-take P ls n (e .1))

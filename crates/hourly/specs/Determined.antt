@@ -7,12 +7,10 @@ use lib.ListN.{length, getD}
 use Rattle.laws.specs.Pick.{pick}
 use Rattle.paper.specs.Answer.{Answer, done, refused, fault, same, Fills, fills-one}
 use Rattle.paper.specs.Numbers.{R8, R10, R11, R12}
-use Rattle.text.specs.Put.{Puts, puts-determined}
 use Rattle.journal.specs.declared.Refusal.{Refusal}
 use Rattle.journal.specs.declared.Refusal.the-variants as R
 use Rattle.hourly.specs.Hours.{askOf}
 use Rattle.hourly.specs.Text.{printOf}
-use Rattle.hourly.specs.Report.{reportOf}
 use Rattle.hourly.specs.Says.{saysAsked, saysPrinted}
 use Rattle.hourly.specs.declared.Hour.{Hour}
 use Rattle.hourly.specs.declared.Asked.{Asked}
@@ -65,6 +63,3 @@ hour-determined s h a b p q = asked-one a b (same p q)
 
 pub text-determined : (s old : List ℕ) (a b : Printed) {new new' : List ℕ} → Fills (saysPrinted a) (printOf s (length old)) old new → Fills (saysPrinted b) (printOf s (length old)) old new' → (a ≡ b) × (new ≡ new')
 text-determined s old a b p q = let e = fills-one p q in (printed-one a b (e .0), e .1)
-
-pub report-determined : (s old : List ℕ) {new new' : List ℕ} {r r' : ℕ} → Puts old 0 (reportOf s) new r → Puts old 0 (reportOf s) new' r' → (new ≡ new') × (r ≡ r')
-report-determined s old p q = puts-determined p q

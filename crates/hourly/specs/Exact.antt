@@ -13,7 +13,7 @@ use Rattle.laws.specs.Pick.{pick}
 use Rattle.paper.specs.Answer.{Answer, done, refused, fault, told}
 use Rattle.journal.specs.Journal.{journalOf}
 use Rattle.journal.specs.declared.Line.{Line}
-use Rattle.hourly.specs.Hours.{amountsAt, hasOn, total, greatest, inFloat, figuresOf, measuredOrIdle, hourOf, askOf}
+use Rattle.hourly.specs.Hours.{amountsAt, hasOn, total, greatest, asF64, figuresOf, measuredOrIdle, hourOf, askOf}
 use Rattle.hourly.specs.Accepted.{Accepted, accepted}
 use Rattle.hourly.specs.Bounds.{modest}
 use Rattle.hourly.specs.Floats.{whole-no-nan, mean-no-nan}
@@ -25,10 +25,10 @@ use Rattle.hourly.specs.declared.Hour.the-variants.{Measured, Idle, Miss
 pub record Exact (amounts : List ℕ) (f : Figures) : Type 0 where
   pub sum : HasValue (f .sum) false (total amounts) 1
   pub largest : HasValue (f .largest) false (greatest amounts) 1
-  pub mean : f .mean ≡ div binary64 (f .sum) (inFloat (length amounts))
+  pub mean : f .mean ≡ div binary64 (f .sum) (asF64 (length amounts))
 
-whole-exact : (n : ℕ) → n ≤ 2 ^ 53 → HasValue (inFloat n) false n 1
-unfolding ofInt inFloat
+whole-exact : (n : ℕ) → n ≤ 2 ^ 53 → HasValue (asF64 n) false n 1
+unfolding ofInt asF64
 whole-exact n h = round-whole binary64 false n h
 
 -- a measured hour has the figures of its amounts, and a dose

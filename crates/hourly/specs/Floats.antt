@@ -5,13 +5,12 @@ use Prim.Native.Nat.{ℕ, zero, suc, _+_, _*_, _^_, _≤_, _<_}
 use native.Mathlib.Nat.{mul-one, mul-comm, mul-assoc, add-mul, mul-pos, zero-lt-suc, zero-mul}
 use native.Mathlib.Omega.{arith}
 use lib.Dec.{T, ltb, eqb·suc-zero, le→leb}
-use lib.Ieee.{Float, nan, inf, fin, Format, binary64, prec, low, emax, up, down, round, units, odd, add, sum, div, ofInt, isNan, ofBits, toUnsigned, inUnsigned}
-use lib.Ieee as ieee
+use lib.Ieee.{Float, nan, inf, fin, Format, binary64, prec, low, emax, up, down, round, units, odd, add, sum, div, ofInt, isNan, ofBits, toUnsigned, inUnsigned, inFloat}
 use lib.Ieee.Fits.{down-pos, round-is}
 use lib.Ieee.Exact.{HasValue}
 use lib.Ieee.Back.{round-whole, unsigned-back}
 use lib.Ieee.Scale.{round-same}
-use Rattle.hourly.specs.Hours.{inFloat}
+use Rattle.hourly.specs.Hours.{asF64}
 
 cross : (x y p q a b : ℕ) → x * 1 ≡ a * p → y * 1 ≡ b * q → x * q + y * p ≡ (a + b) * (p * q)
 cross x y p q a b h k =
@@ -37,13 +36,13 @@ add-values f (fin false m e) (fin false n d) a b v w =
     (mul-one _ ∙ cross (m * up e) (n * up d) (down e) (down d) a b (v .1) (w .1))
 
 -- the sum of two whole numbers up to 2 ^ 53 is exact
-pub add-whole : (a b : ℕ) → a ≤ 2 ^ 53 → b ≤ 2 ^ 53 → add binary64 (inFloat a) (inFloat b) ≡ inFloat (a + b)
-unfolding ofInt inFloat
+pub add-whole : (a b : ℕ) → a ≤ 2 ^ 53 → b ≤ 2 ^ 53 → add binary64 (asF64 a) (asF64 b) ≡ asF64 (a + b)
+unfolding ofInt asF64
 add-whole a b h k = add-values binary64 (round binary64 false a 1) (round binary64 false b 1) a b (round-whole binary64 false a h) (round-whole binary64 false b k)
 
 -- a whole number up to 2 ^ 53 comes back from its float
-pub whole-back : (n : ℕ) → n ≤ 2 ^ 53 → T (inUnsigned binary64 64 (inFloat n)) × (toUnsigned 64 (inFloat n) ≡ n)
-unfolding ieee.inFloat inFloat
+pub whole-back : (n : ℕ) → n ≤ 2 ^ 53 → T (inUnsigned binary64 64 (asF64 n)) × (toUnsigned 64 (asF64 n) ≡ n)
+unfolding inFloat asF64
 whole-back n h = unsigned-back binary64 64 n (le→leb n (2 ^ 53) h) (omega arith)
 
 odd-no-nan : (d : ℕ) (s : Bool) (q k l : ℕ) → T (not (isNan (odd d s q k l)))
@@ -76,14 +75,14 @@ div-no-nan f (fin s m e) (fin t zero d) a b v w h =
 div-no-nan f (fin s m e) (fin t (suc n) d) a b v w h = rw eqb·suc-zero (round-no-nan f _ _ _)
 
 -- a whole number is no NaN, nor is a mean of whole numbers
-pub whole-no-nan : (n : ℕ) → T (not (isNan (inFloat n)))
-unfolding ofInt inFloat
+pub whole-no-nan : (n : ℕ) → T (not (isNan (asF64 n)))
+unfolding ofInt asF64
 whole-no-nan n = round-no-nan binary64 false n 1
 
-pub mean-no-nan : (a b : ℕ) → a ≤ 2 ^ 53 → b ≤ 2 ^ 53 → 0 < b → T (not (isNan (div binary64 (inFloat a) (inFloat b))))
-unfolding ofInt inFloat
+pub mean-no-nan : (a b : ℕ) → a ≤ 2 ^ 53 → b ≤ 2 ^ 53 → 0 < b → T (not (isNan (div binary64 (asF64 a) (asF64 b))))
+unfolding ofInt asF64
 mean-no-nan a b h k p = div-no-nan binary64 (round binary64 false a 1) (round binary64 false b 1) a b (round-whole binary64 false a h) (round-whole binary64 false b k) p
 
-pub zero-whole : ofBits binary64 0 ≡ inFloat 0
-unfolding ofBits ofInt inFloat
+pub zero-whole : ofBits binary64 0 ≡ asF64 0
+unfolding ofBits ofInt asF64
 zero-whole = refl

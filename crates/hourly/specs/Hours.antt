@@ -1,6 +1,5 @@
 -- An hour's answer (document 01, "Journal and hours"). Assumes nothing.
-use mathlib.Core.Path.{_≡_, refl}
-use mathlib.Core.Bool.{Bool, true, false, _||_}
+use mathlib.Core.Bool.{Bool, false, _||_}
 use mathlib.Core.List.{List, [], _∷_, _++_}
 use Prim.Native.Nat.{ℕ, _+_, max}
 use lib.Dec.{eqb}
@@ -44,16 +43,16 @@ greatest [] = 0
 greatest (a ∷ as') = max a (greatest as')
 
 -- a whole number as an f64
-unfoldable pub inFloat : ℕ → Float
-inFloat n = ofInt binary64 (pos n)
+unfoldable pub asF64 : ℕ → Float
+asF64 n = ofInt binary64 (pos n)
 
 -- its sum, largest amount and mean as f64: the first two exact, the mean one division of the sum by the number of doses
 unfoldable pub figuresOf : List ℕ → Figures
 figuresOf amounts =
     record {
-      sum = inFloat (total amounts);
-      largest = inFloat (greatest amounts);
-      mean = div binary64 (inFloat (total amounts)) (inFloat (length amounts));
+      sum = asF64 (total amounts);
+      largest = asF64 (greatest amounts);
+      mean = div binary64 (asF64 (total amounts)) (asF64 (length amounts));
     }
 
 -- An hour with an H is measured if it has a D, else idle

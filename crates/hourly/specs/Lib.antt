@@ -9,4 +9,3 @@ pub mod Accepted
 pub mod Bounds
 pub mod Floats
 pub mod Exact
-pub mod Report

@@ -13,7 +13,7 @@ use Rattle.laws.specs.Decimal.{decimal, hexOf}
 use Rattle.laws.specs.DecimalLaws.{decimal-apart, hex-apart, hex-length}
 use Rattle.text.specs.Scan.{LF, TAB}
 use Rattle.journal.specs.declared.Line.{Line}
-use Rattle.hourly.specs.Hours.{amountsAt, hasOn, total, figuresOf, measuredOrIdle, hourOf, inFloat}
+use Rattle.hourly.specs.Hours.{amountsAt, hasOn, total, figuresOf, measuredOrIdle, hourOf, asF64}
 use Rattle.hourly.specs.Text.{Row, measured, idle, missing, letterM, letterI, letterX, HourRow, rowFrom, rowOf, rowText, rowsOf, rowsText, hoursText, spanOf}
 use Rattle.hourly.specs.declared.Hour.{Hour}
 
@@ -105,7 +105,7 @@ row-fits ls h = pick-all (λ (x : Hour). RowFits (rowFrom x (amountsAt h ls))) (
   where
     either : (amounts : List ℕ) → RowFits (rowFrom (measuredOrIdle amounts) amounts)
     either [] = tt
-    either (a ∷ as') = toBits-lt binary64 (figuresOf (a ∷ as') .mean) (div-fits binary64 (inFloat (total (a ∷ as'))) (inFloat (length (a ∷ as'))))
+    either (a ∷ as') = toBits-lt binary64 (figuresOf (a ∷ as') .mean) (div-fits binary64 (asF64 (total (a ∷ as'))) (asF64 (length (a ∷ as'))))
 
 rows-fit : (ls : List Line) (hs : List ℕ) → RowsFit (map (λ h. record { hour = h; row = rowOf ls h }) hs)
 rows-fit ls [] = tt

@@ -1,5 +1,5 @@
 -- What the answers of the hours' calls say, in the paper's words. Assumes nothing.
-use mathlib.Core.List.{List, []}
+use mathlib.Core.List.{[]}
 use Prim.Native.Nat.{ℕ}
 use Rattle.paper.specs.Answer.{Answer, done, refused}
 use Rattle.paper.specs.Numbers.{R8}

@@ -7,17 +7,21 @@ use lib.Dec.{eqb}
 use lib.ListN.{length, getD, take}
 use lib.Ieee.{nan, binary64, add, div, toBits, toUnsigned}
 use Rattle.laws.specs.Pick.{pick}
-use Rattle.paper.specs.Answer.{Answer, done, refused, fault}
-use Rattle.journal.specs.Journal.{journalOf}
+use Rattle.paper.specs.Answer.{Answer, done, refused, fault, told}
+use Rattle.journal.specs.Journal.{journalOf, summaryOf, firstHour}
+use Rattle.journal.specs.Says.{saysJudged}
 use Rattle.journal.specs.declared.Line.{Line}
 use Rattle.journal.specs.declared.Line.the-variants.{Dose, On}
+use Rattle.journal.specs.declared.Past.{Past}
 use Rattle.journal.specs.declared.Summary.{Summary}
-use Rattle.hourly.specs.Hours.{amountsAt, hasOn, total, greatest, inFloat}
+use Rattle.journal.specs.declared.Judged.the-variants as J
+use Rattle.hourly.specs.Hours.{amountsAt, hasOn, total, greatest, asF64}
 use Rattle.hourly.specs.Text.{Row, measured, idle, missing, HourRow, rowsText}
 use Rattle.hourly.specs.declared.Figures.{Figures}
 use Rattle.hourly.specs.declared.Hour.{Hour}
 use Rattle.hourly.specs.declared.Hour.the-variants.{Measured, Idle, Missing}
 use Rattle.hourly.specs.declared.Tally.{Tally}
+use Rattle.hourly.specs.declared.Tallied.{Tallied}
 use Rattle.hourly.specs.declared.Shown.{Shown}
 use Rattle.hourly.specs.declared.Shown.the-variants as S
 
@@ -33,10 +37,10 @@ linesOf s = linesIn (journalOf s)
 -- ---- the tally of one hour
 
 unfoldable pub noTally : Tally
-noTally = record { doses = 0; sum = inFloat 0; largest = 0; on = false }
+noTally = record { doses = 0; sum = asF64 0; largest = 0; on = false }
 
 unfoldable pub withDose : Tally → ℕ → Tally
-withDose t a = record { doses = t .doses + 1; sum = add binary64 (t .sum) (inFloat a); largest = max (t .largest) a; on = t .on }
+withDose t a = record { doses = t .doses + 1; sum = add binary64 (t .sum) (asF64 a); largest = max (t .largest) a; on = t .on }
 
 unfoldable pub withOn : Tally → Tally
 withOn t = record { doses = t .doses; sum = t .sum; largest = t .largest; on = true }
@@ -51,7 +55,7 @@ unfoldable pub tallyOf : List Line → ℕ → Tally
 tallyOf ls h =
     record {
       doses = length (amountsAt h ls);
-      sum = inFloat (total (amountsAt h ls));
+      sum = asF64 (total (amountsAt h ls));
       largest = greatest (amountsAt h ls);
       on = hasOn h ls;
     }
@@ -65,9 +69,18 @@ pub record Tells (table : List Tally) (first : ℕ) (ls : List Line) : Type 0 wh
   pub size : length table ≡ 744
   pub at : (k : ℕ) → k < 744 → getD table k outside ≡ tallyOf ls (first + k)
 
+-- what one pass finds: what the journal's reader says of it, and the tallies of its lines from its first hour on
+pub record Counts (s : List ℕ) (t : Tallied) : Type 0 where
+  pub judged : saysJudged (t .judged) ≡ told summaryOf (journalOf s)
+  pub tells : (ls : List Line) → journalOf s ≡ done ls → Tells (t .table) (firstHour ls) ls
+
+-- a journal accepted after n lines, by what they say of the hours
+unfoldable pub acceptedAfter : ℕ → Past → List Tally → Tallied
+acceptedAfter n past table = record { judged = J.Lines (record { lines = n; first = past .first; last = past .last }); table = table }
+
 -- the hour's answer by its tally
 unfoldable pub figuresFrom : Tally → Figures
-figuresFrom t = record { sum = t .sum; largest = inFloat (t .largest); mean = div binary64 (t .sum) (inFloat (t .doses)) }
+figuresFrom t = record { sum = t .sum; largest = asF64 (t .largest); mean = div binary64 (t .sum) (asF64 (t .doses)) }
 
 unfoldable pub hourFrom : Tally → Hour
 hourFrom t = pick (t .on) (pick (eqb (t .doses) 0) Idle (Measured (figuresFrom t))) Missing
@@ -82,7 +95,7 @@ saysShown S.Missing = missing
 -- the sum is a whole number that an f64 holds exactly
 pub record Summed (t : Tally) : Type 0 where
   pub whole : ℕ
-  pub exact : t .sum ≡ inFloat whole
+  pub exact : t .sum ≡ asF64 whole
   pub small : whole ≤ 2 ^ 53
 
 -- what is printed of an hour by its answer and its tally

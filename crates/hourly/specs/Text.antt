@@ -1,11 +1,10 @@
 -- The hour program's text (document 01, "Journal and hours"). Assumes nothing.
 use mathlib.Core.Path.{_≡_, refl}
-use mathlib.Core.Bool.{Bool, true, false}
 use mathlib.Core.List.{List, [], _∷_, _++_, map}
 use Prim.Native.Nat.{ℕ, zero, suc, _+_, _-_}
 use lib.IntN.{pos}
 use lib.ListN.{length}
-use lib.Ieee.{Float, binary64, toBits, div, ofInt}
+use lib.Ieee.{binary64, toBits, div, ofInt}
 use Rattle.laws.specs.Pick.{pick}
 use Rattle.laws.specs.Decimal.{decimal, digitsOf, glyph, hexOf}
 use Rattle.paper.specs.Answer.{Answer, onDone, inRoom}
@@ -13,7 +12,7 @@ use Rattle.text.specs.Scan.{LF, TAB}
 use Rattle.journal.specs.Journal.{journalOf, firstHour, lastHour, hourIn, example}
 use Rattle.journal.specs.declared.Line.{Line}
 use Rattle.journal.specs.declared.Line.the-variants.{Dose, On}
-use Rattle.hourly.specs.Hours.{hourOf, measuredOrIdle, hasOn, isOn, amountsAt, doseAt, total, greatest, figuresOf, inFloat}
+use Rattle.hourly.specs.Hours.{hourOf, measuredOrIdle, hasOn, isOn, amountsAt, doseAt, total, greatest, figuresOf, asF64}
 use Rattle.hourly.specs.declared.Hour.{Hour}
 use Rattle.hourly.specs.declared.Hour.the-variants.{Measured, Idle, Missing}
 
@@ -82,7 +81,7 @@ printed h r = record { hour = h; row = r }
 
 -- document 01's example, and its first and last row as bytes
 pub example-rows : rowsOf example ≡ printed 10 (measured 2 998 0x407F300000000000) ∷ printed 11 idle ∷ printed 12 missing ∷ printed 13 idle ∷ []
-unfolding rowsOf spanOf hoursFrom firstHour lastHour hourIn rowOf rowFrom hourOf measuredOrIdle hasOn isOn amountsAt doseAt total greatest figuresOf inFloat toBits div ofInt pick
+unfolding rowsOf spanOf hoursFrom firstHour lastHour hourIn rowOf rowFrom hourOf measuredOrIdle hasOn isOn amountsAt doseAt total greatest figuresOf asF64 toBits div ofInt pick
 example-rows = refl
 
 pub row-bytes :
@@ -95,7 +94,7 @@ row-bytes = (refl, refl)
 -- a closing D without its H is missing; two D lines of an hour without an H too; hour 0; the mean of three amounts, rounded once
 pub closing-rows : rowsOf (On 0 ∷ Dose 2 1 1 1 ∷ Dose 2 2 1 1 ∷ Dose 2 3 0 1 ∷ On 2 ∷ Dose 3 4 9 1 ∷ Dose 3 5 9 1 ∷ [])
     ≡ printed 0 idle ∷ printed 1 missing ∷ printed 2 (measured 3 2 0x3FE5555555555555) ∷ printed 3 missing ∷ []
-unfolding rowsOf spanOf hoursFrom firstHour lastHour hourIn rowOf rowFrom hourOf measuredOrIdle hasOn isOn amountsAt doseAt total greatest figuresOf inFloat toBits div ofInt pick
+unfolding rowsOf spanOf hoursFrom firstHour lastHour hourIn rowOf rowFrom hourOf measuredOrIdle hasOn isOn amountsAt doseAt total greatest figuresOf asF64 toBits div ofInt pick
 closing-rows = refl
 
 -- the sum, the largest amount and the mean of the example's hour 10: 998, 500 and 499; an hour outside is missing
@@ -104,5 +103,5 @@ pub example-figures :
     × (figuresOf (498 ∷ 500 ∷ 2 ∷ []) .largest ≡ ofInt binary64 (pos 500))
     × (hourOf example 9 ≡ Missing)
     × (hourOf example 14 ≡ Missing)
-unfolding firstHour lastHour hourIn hourOf measuredOrIdle hasOn isOn amountsAt doseAt total greatest figuresOf inFloat div ofInt pick
+unfolding firstHour lastHour hourIn hourOf measuredOrIdle hasOn isOn amountsAt doseAt total greatest figuresOf asF64 div ofInt pick
 example-figures = (refl, refl, refl, refl)

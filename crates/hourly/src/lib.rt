@@ -2,20 +2,21 @@
 use journal::At;
 use journal::Judged;
 use journal::Line;
+use journal::Past;
 use journal::Refusal;
 use journal::Summary;
 ghost use mathlib.Core.Path.{_≡_};
 ghost use mathlib.Core.List.{[], _∷_};
-ghost use Prim.Native.Nat.{_+_, _-_, _≤_, _<_, max};
+ghost use Prim.Native.Nat.{_+_, _≤_, _<_, max};
 ghost use lib.ListN.{length, replicate};
 ghost use lib.Seq.{sets};
 ghost use Rattle.paper.specs.Answer.{done, told, inRoom, Fills};
-ghost use Rattle.journal.specs.Journal.{journalOf, summaryOf, hourIn};
+ghost use Rattle.journal.specs.Journal.{journalOf, summaryOf};
+ghost use Rattle.journal.specs.declared.Judged.the-variants.{Refused};
 ghost use Rattle.hourly.specs.Hours.{askOf, hourOf};
-ghost use Rattle.hourly.specs.Text.{measured, rowText, hoursText, printOf};
-ghost use Rattle.hourly.specs.Tally.{noTally, withDose, counted, linesOf, Tells, hourFrom, saysShown, Summed, shownOf, textBy, Printable, hoursIn};
+ghost use Rattle.hourly.specs.Text.{measured, rowText, printOf};
+ghost use Rattle.hourly.specs.Tally.{noTally, withDose, counted, linesOf, Counts, acceptedAfter, hourFrom, saysShown, Summed, shownOf, textBy, Printable, hoursIn};
 ghost use Rattle.hourly.specs.Rows.{tailText};
-ghost use Rattle.hourly.specs.Report.{refusalText, refusalOf, reportOf};
 ghost use Rattle.text.specs.Put.{Puts};
 ghost use Rattle.hourly.specs.Says.{saysAsked, saysPrinted};
 
@@ -49,6 +50,9 @@ pub enum Printed {
 // So many bytes hold what is printed of any journal.
 pub const ENOUGH: usize = 33480;
 
+// A journal has at most so many bytes.
+const ROOM: usize = 65536;
+
 // A journal has at most so many hours.
 const SPAN: usize = 744;
 
@@ -62,6 +66,12 @@ struct Tally {
     sum: f64,
     largest: u32,
     on: bool,
+}
+
+// What one pass over a journal finds: the answer of the journal's reader, and the tallies of the hours from the first on.
+struct Tallied {
+    judged: Judged,
+    table: [Tally; SPAN],
 }
 
 // What is printed of an hour: its doses, their sum and the mean's bits; or I; or X.
@@ -124,43 +134,63 @@ fn with_line(t: Tally, line: Line) -> Tally
     }
 }
 
-// How many hours a line is behind the first line.
-fn place(line: Line, first: u32) -> usize
-    requires { ⌜ first ≤ hourIn line ⌝ }
-    ensures { λ r. ⌜ r ≡ hourIn line - first ⌝ }
+// A journal that is refused, with the tallies so far.
+fn refused(refusal: Refusal, table: [Tally; SPAN]) -> Tallied
+    ensures { λ r. ⌜ r .judged ≡ Refused refusal ⌝ }
 {
-    match line {
-        Line::Dose {
-            hour,
-            count: _,
-            amount: _,
-            settled: _,
-        } => (hour - first) as usize,
-        Line::On { hour } => (hour - first) as usize,
+    Tallied {
+        judged: Judged::Refused(refusal),
+        table,
     }
 }
 
-// The tallies of the hours from the first on, in one pass over the lines of a journal that was accepted.
-fn tallies(bytes: &[u8], found: Summary) -> [Tally; SPAN]
-    requires { ⌜ told summaryOf (journalOf (now bytes)) ≡ done found ⌝ }
-    ensures { λ r. ⌜ Tells r (found .first) (linesOf (now (bytes .entry))) ⌝ }
+// A journal that is accepted after its last line, with all tallies.
+fn accepted(lines: usize, past: Past, table: [Tally; SPAN]) -> Tallied
+    ensures { λ r. ⌜ r ≡ acceptedAfter lines past table ⌝ }
 {
-    let lines = found.lines;
-    let first = found.first;
+    let found = Summary {
+        lines,
+        first: past.first,
+        last: past.last,
+    };
+    Tallied {
+        judged: Judged::Lines(found),
+        table,
+    }
+}
+
+// A whole journal in one pass: R13, then line by line R10, R11, R12; each line that is taken is counted at its hour.
+fn tallies(bytes: &[u8]) -> Tallied
+    ensures { λ r. ⌜ Counts (now (bytes .entry)) r ⌝ }
+{
+    let size = bytes.len();
     let mut table = no_tallies();
+    if size > ROOM {
+        return refused(Refusal::R13, table);
+    }
+    let mut past = journal::no_past();
     let mut at: usize = 0;
-    let mut n: usize = 0;
-    while n < lines {
+    let mut lines: usize = 0;
+    while at < size {
+        let number = lines + 1;
         let At::Line { line, next } = journal::line_at(bytes, at) else {
-            return table;
+            return refused(Refusal::R10(number), table);
         };
-        let k = place(line, first);
+        let hour = journal::hour_in(line);
+        if journal::out_of_order(past, hour) {
+            return refused(Refusal::R11(number), table);
+        }
+        if journal::too_far(past, hour) {
+            return refused(Refusal::R12(number), table);
+        }
+        past = journal::past_after(past, line);
+        let k = (hour - past.first) as usize;
         let tally = table[k];
         table[k] = with_line(tally, line);
         at = next;
-        n += 1;
+        lines = number;
     }
-    table
+    accepted(lines, past, table)
 }
 
 // ---- an hour's answer
@@ -193,7 +223,8 @@ fn hour_among(bytes: &[u8], found: Summary, hour: u32) -> Hour
     if found.last < hour {
         return Hour::Missing;
     }
-    let table = tallies(bytes, found);
+    let counted = tallies(bytes);
+    let table = counted.table;
     let k = (hour - found.first) as usize;
     let tally = table[k];
     hour_from(tally)
@@ -332,12 +363,12 @@ fn hours_in(found: Summary) -> usize
     (found.last - found.first) as usize + 1
 }
 
-// The text of an accepted journal, if it has room.
-fn print_lines(bytes: &[u8], found: Summary, out: &mut [u8]) -> Printed
-    requires { ⌜ told summaryOf (journalOf (now bytes)) ≡ done found ⌝ }
-    ensures { λ r. ⌜ Fills (saysPrinted r) (inRoom [] (length (now (out .entry))) (hoursText (linesOf (now (bytes .entry))))) (now (out .entry)) (now (out .exit)) ⌝ }
+// The text of an accepted journal's tallies, if it has room.
+fn print_table(table: [Tally; SPAN], found: Summary, out: &mut [u8]) -> Printed
+    requires printable { ⌜ Printable table (found .first) (hoursIn found) ⌝ }
+    requires order { ⌜ found .first ≤ found .last ⌝ }
+    ensures { λ r. ⌜ Fills (saysPrinted r) (inRoom [] (length (now (out .entry))) (textBy table (found .first) (hoursIn found))) (now (out .entry)) (now (out .exit)) ⌝ }
 {
-    let table = tallies(bytes, found);
     let first = found.first;
     let hours = hours_in(found);
     let n = text_len(table, first, hours);
@@ -352,63 +383,11 @@ fn print_lines(bytes: &[u8], found: Summary, out: &mut [u8]) -> Printed
 pub fn print(bytes: &[u8], out: &mut [u8]) -> Printed
     ensures { λ r. ⌜ Fills (saysPrinted r) (printOf (now (bytes .entry)) (length (now (out .entry)))) (now (out .entry)) (now (out .exit)) ⌝ }
 {
-    let judged = journal::read(bytes);
+    let counted = tallies(bytes);
+    let table = counted.table;
+    let judged = counted.judged;
     match judged {
-        Judged::Lines(found) => print_lines(bytes, found, out),
+        Judged::Lines(found) => print_table(table, found, out),
         Judged::Refused(refusal) => Printed::Refused(refusal),
-    }
-}
-
-// ---- the program
-
-// R, a refusal's number and its line, if they have room.
-fn put_refused(out: &mut [u8], number: u64, line: u64) -> usize
-    ensures { λ r. ⌜ Puts (now (out .entry)) 0 (refusalText number line) (now (out .exit)) r ⌝ }
-{
-    let size = text::decimal_len(number) + text::decimal_len(line) + 4;
-    if out.len() < size {
-        return 0;
-    }
-    let mut p = text::put_byte(out, 0, b'R');
-    p = text::put_byte(out, p, TAB);
-    p = text::put_decimal(out, p, number);
-    p = text::put_byte(out, p, TAB);
-    p = text::put_decimal(out, p, line);
-    text::put_byte(out, p, LF)
-}
-
-// The one line of a journal's refusal.
-fn put_refusal(out: &mut [u8], refusal: Refusal) -> usize
-    ensures { λ r. ⌜ Puts (now (out .entry)) 0 (refusalOf refusal) (now (out .exit)) r ⌝ }
-{
-    match refusal {
-        Refusal::R10(line) => put_refused(out, 10, line as u64),
-        Refusal::R11(line) => put_refused(out, 11, line as u64),
-        Refusal::R12(line) => put_refused(out, 12, line as u64),
-        Refusal::R13 => put_refused(out, 13, 0),
-    }
-}
-
-// The text of an accepted journal, if it has room, and its length.
-fn put_lines(out: &mut [u8], bytes: &[u8], found: Summary) -> usize
-    requires { ⌜ told summaryOf (journalOf (now bytes)) ≡ done found ⌝ }
-    ensures { λ r. ⌜ Puts (now (out .entry)) 0 (hoursText (linesOf (now (bytes .entry)))) (now (out .exit)) r ⌝ }
-{
-    let printed = print_lines(bytes, found, out);
-    match printed {
-        Printed::Text(size) => size,
-        Printed::Refused(_) => 0,
-        Printed::R8 => 0,
-    }
-}
-
-// What the hour program prints for a journal, if it has room: its text, or the line of its refusal.
-pub fn report(bytes: &[u8], out: &mut [u8]) -> usize
-    ensures { λ r. ⌜ Puts (now (out .entry)) 0 (reportOf (now (bytes .entry))) (now (out .exit)) r ⌝ }
-{
-    let judged = journal::read(bytes);
-    match judged {
-        Judged::Lines(found) => put_lines(out, bytes, found),
-        Judged::Refused(refusal) => put_refusal(out, refusal),
     }
 }

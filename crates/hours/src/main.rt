@@ -4,6 +4,6 @@ fn main() {
     let mut bytes = [0u8; 65537];
     let n = io::read_full(0, &mut bytes);
     let mut out = [0u8; hourly::ENOUGH];
-    let size = hourly::report(&bytes[..n], &mut out);
+    let size = report::report(&bytes[..n], &mut out);
     io::write_all(1, &out[..size]);
 }

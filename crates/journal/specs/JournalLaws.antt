@@ -5,16 +5,17 @@ use mathlib.Core.List.{List, [], _∷_, _++_}
 use Prim.Native.Nat.{ℕ, zero, suc, _+_, _-_, _*_, _≤_, _<_}
 use native.Mathlib.Nat.{le-refl}
 use native.Mathlib.Omega.{arith}
+use native.Mathlib.Numerals.{add-one}
 use native.Mathlib.Decide.{decLt}
-use lib.ListN.{length, drop, length-append, length-drop}
+use lib.ListN.{length, length-append}
 use borrow.Author.Tests.{lt-ltb, le-ltb}
-use Rattle.laws.specs.Pick.{pick, pick-t, pick-f, pick-true, pick-false}
+use Rattle.laws.specs.Pick.{pick, pick-t, pick-f, pick-true, pick-false, pick-map}
 use Rattle.laws.specs.Decimal.{Parsed, good, bad}
 use Rattle.paper.specs.Answer.{Answer, done, refused, fault, told}
 use Rattle.paper.specs.AnswerLaws.{refused-done, fault-done}
 use Rattle.paper.specs.Numbers.{R10, R11, R12, R13}
 use Rattle.journal.specs.Line.{textOf, inRange, lineOf}
-use Rattle.journal.specs.LineLaws.{text-only, text-least, line-shorter, dose-range, on-range, Stands, stands}
+use Rattle.journal.specs.LineLaws.{text-only, text-least, line-shorter, dose-range, on-range}
 use Rattle.journal.specs.Journal.{hourIn, outOfOrder, tooFar, noPast, pastAfter, ordered, onLine, readFrom, journalOf, summaryOf, journalText}
 use Rattle.journal.specs.declared.Line.{Line}
 use Rattle.journal.specs.declared.Line.the-variants.{Dose, On}
@@ -73,6 +74,62 @@ journal-lines s h = pick-f _ _ _ (le-ltb 65536 (length s) h)
 pub journal-long : (s : List ℕ) → 65536 < length s → journalOf s ≡ refused R13 []
 unfolding journalOf
 journal-long s h = pick-t _ _ _ (lt-ltb 65536 (length s) h)
+
+-- ---- what is told of the lines from line n on
+
+told-told : {A B C : Type 0} (f : B → C) (g : A → B) (a : Answer A) → told f (told g a) ≡ told (λ x. f (g x)) a
+unfolding told
+told-told f g (done x) = refl
+told-told f g (refused n vs) = refl
+told-told f g (fault n vs) = refl
+
+pub told-same : {A B : Type 0} (f g : A → B) (a : Answer A) → ((x : A) → f x ≡ g x) → told f a ≡ told g a
+unfolding told
+told-same f g (done x) h = ap (λ (y : _). done y) (h x)
+told-same f g (refused n vs) h = refl
+told-same f g (fault n vs) h = refl
+
+told-ordered : {A B : Type 0} (f : A → B) (p : Past) (l : Line) (n : ℕ) (a : Answer A) → told f (ordered p l n a) ≡ ordered p l n (told f a)
+unfolding ordered told
+told-ordered f p l n a =
+    let late = p .begun && outOfOrder (p .last) (p .closed) (hourIn l) in
+    let far = p .begun && tooFar (p .first) (hourIn l) in
+    pick-map (told f) late (refused R11 (n ∷ [])) (pick far (refused R12 (n ∷ [])) a)
+    ∙ ap (pick late (refused R11 (n ∷ []))) (pick-map (told f) far (refused R12 (n ∷ [])) a)
+
+pub told-none : {X : Type 0} (f : List Line → X) (p : Past) (n : ℕ) → told f (linesFrom p n []) ≡ done (f [])
+unfolding told
+told-none f p n = ap (told f) (lines-none p n)
+
+pub told-bad : {X : Type 0} (f : List Line → X) (p : Past) (n : ℕ) (l : List ℕ) → 0 < length l → lineOf l ≡ bad → told f (linesFrom p n l) ≡ refused R10 (n ∷ [])
+unfolding told
+told-bad f p n l h e = ap (told f) (lines-bad p n l h e)
+
+-- after a line, what f tells of it and the others is what g tells of the others
+pub told-good : {X : Type 0} (f g : List Line → X) (p : Past) (n : ℕ) (l : List ℕ) (x : Line) (rest : List ℕ) → lineOf l ≡ good x rest → ((ls : List Line) → f (x ∷ ls) ≡ g ls)
+    → told f (linesFrom p n l) ≡ ordered p x n (told g (linesFrom (pastAfter p x) (n + 1) rest))
+told-good f g p n l x rest e h =
+    let more = linesFrom (pastAfter p x) (suc n) rest in
+    ap (told f) (lines-good p n l x rest e)
+    ∙ told-ordered f p x n (told (λ (ls : List Line). x ∷ ls) more)
+    ∙ ap (ordered p x n) (told-told f (λ (ls : List Line). x ∷ ls) more
+    ∙ told-same (λ (ls : List Line). f (x ∷ ls)) g more h
+    ∙ ap (λ (m : ℕ). told g (linesFrom (pastAfter p x) m rest)) (sym (add-one n)))
+
+-- a line against those before it
+pub order-broken : {X : Type 0} (p : Past) (l : Line) (n : ℕ) (a : Answer X) → (p .begun && outOfOrder (p .last) (p .closed) (hourIn l)) ≡ true → ordered p l n a ≡ refused R11 (n ∷ [])
+unfolding ordered
+order-broken p l n a e = pick-t _ _ _ e
+
+pub order-far : {X : Type 0} (p : Past) (l : Line) (n : ℕ) (a : Answer X) → (p .begun && outOfOrder (p .last) (p .closed) (hourIn l)) ≡ false
+    → (p .begun && tooFar (p .first) (hourIn l)) ≡ true → ordered p l n a ≡ refused R12 (n ∷ [])
+unfolding ordered
+order-far p l n a e f = pick-f _ _ _ e ∙ pick-t _ _ _ f
+
+pub order-kept : {X : Type 0} (p : Past) (l : Line) (n : ℕ) (a : Answer X) → (p .begun && outOfOrder (p .last) (p .closed) (hourIn l)) ≡ false
+    → (p .begun && tooFar (p .first) (hourIn l)) ≡ false → ordered p l n a ≡ a
+unfolding ordered
+order-kept p l n a e f = pick-f _ _ _ e ∙ pick-f _ _ _ f
 
 -- the order of a line after those before it, and its distance from the first
 pub record Keeps (p : Past) (l : Line) : Type 0 where
@@ -137,37 +194,10 @@ journal-reads s ls e = lines-reads (length s) noPast 1 s ls (le-refl (length s))
 pub reads-journal : (s : List ℕ) (ls : List Line) → length s ≤ 65536 → Reads noPast s ls → journalOf s ≡ done ls
 reads-journal s ls h r = journal-lines s h ∙ reads-lines 1 r
 
--- from `at` on stand a line and then others
-pub record Next (p : Past) (s : List ℕ) (at : ℕ) (ls : List Line) : Type 0 where
-  pub line : Line
-  pub next : ℕ
-  pub others : List Line
-  pub all : ls ≡ line ∷ others
-  pub here : Stands s at line next
-  pub rest : Reads (pastAfter p line) (drop next s) others
-
-pub reads-next : (p : Past) (s : List ℕ) (at : ℕ) (ls : List Line) → at < length s → Reads p (drop at s) ls → Next p s at ls
-reads-next p s at ls h r = go (drop at s) ls refl r
-  where
-    go : (d : List ℕ) (ms : List Line) → drop at s ≡ d → Reads p d ms → Next p s at ms
-    go d ms q none = absurd (omega (arith, ap length q, length-drop at s))
-    go d ms q (more {rest = rest} {l = l} {ls = others} e k m) =
-        let w = stands s at l rest (ap lineOf q ∙ e) in
-        let o : rest ≡ drop (length s - length rest) s = cc (w .line) in
-        record { line = l; next = length s - length rest; others = others; all = refl; here = w; rest = subst (λ (t : List ℕ). Reads (pastAfter p l) t others) o m }
-
-pub reads-end : {p : Past} {s : List ℕ} {ls : List Line} → length s ≡ 0 → Reads p s ls → ls ≡ []
-reads-end h none = refl
-reads-end {p} {s} h (more {rest = rest} {l = l} e k r) = absurd (omega (arith, line-shorter s l rest e))
-
 -- a rule holds of each line
 abbrev pub Each : (Line → Type 0) → List Line → Type 0
 Each P [] = Unit
 Each P (l ∷ ls) = P l × Each P ls
-
-pub each-map : {P Q : Line → Type 0} (ls : List Line) → ((l : Line) → P l → Q l) → Each P ls → Each Q ls
-each-map [] f e = tt
-each-map (l ∷ ls) f e = (f l (e .0), each-map ls f (e .1))
 
 -- the bytes are the lines' text
 reads-text : {p : Past} {s : List ℕ} {ls : List Line} → Reads p s ls → s ≡ journalText ls
@@ -208,12 +238,3 @@ judged-lines s m e = go (journalOf s) refl e
     go (done ls) q h = (ls, q, cc)
     go (refused n vs) q h = refused-done (sym h)
     go (fault n vs) q h = fault-done (sym h)
-
-pub judged-refused : (s : List ℕ) (n : ℕ) (vs : List ℕ) → refused n vs ≡ told summaryOf (journalOf s) → journalOf s ≡ refused n vs
-unfolding told
-judged-refused s n vs e = go (journalOf s) refl e
-  where
-    go : (a : Answer (List Line)) → journalOf s ≡ a → refused n vs ≡ told summaryOf a → journalOf s ≡ refused n vs
-    go (done ls) q h = refused-done h
-    go (refused m ws) q h = q ∙ cc
-    go (fault m ws) q h = let z : _≡_ {A = ℕ} 0 1 = cc in let f : ⊥ = omega arith in absurd f

@@ -5,4 +5,3 @@ pub mod JournalLaws
 pub mod Order
 pub mod Says
 pub mod Fields
-pub mod Store

@@ -2,15 +2,12 @@
 use mathlib.Core.Path.{_≡_, refl, ap, sym}
 use mathlib.Core.List.{List, [], _∷_}
 use Prim.Native.Nat.{ℕ}
-use lib.ListN.{length}
-use Rattle.paper.specs.Answer.{Answer, done, refused, told, same, Fills, fills-one}
+use Rattle.paper.specs.Answer.{Answer, done, refused, told, same}
 use Rattle.paper.specs.AnswerLaws.{refused-done}
-use Rattle.paper.specs.Numbers.{R8, R10, R11, R12, R13}
-use Rattle.journal.specs.Line.{Placed, writeOf, oneLine, lineAt}
+use Rattle.paper.specs.Numbers.{R10, R11, R12, R13}
+use Rattle.journal.specs.Line.{Placed, oneLine, lineAt}
 use Rattle.journal.specs.Journal.{journalOf, summaryOf}
 use Rattle.journal.specs.declared.Line.{Line}
-use Rattle.journal.specs.declared.Wrote.{Wrote}
-use Rattle.journal.specs.declared.Wrote.the-variants as W
 use Rattle.journal.specs.declared.One.{One}
 use Rattle.journal.specs.declared.One.the-variants as O
 use Rattle.journal.specs.declared.At.{At}
@@ -20,12 +17,6 @@ use Rattle.journal.specs.declared.Refusal.{Refusal}
 use Rattle.journal.specs.declared.Refusal.the-variants as R
 use Rattle.journal.specs.declared.Judged.{Judged}
 use Rattle.journal.specs.declared.Judged.the-variants as J
-
--- a writer's R10 carries line 0
-abbrev pub saysWrote : Wrote → Answer ℕ
-saysWrote (W.Line n) = done n
-saysWrote W.R10 = refused R10 (0 ∷ [])
-saysWrote W.R8 = refused R8 []
 
 -- a reader of one line by itself answers R10 with line 1
 abbrev pub saysOne : One → Answer Line
@@ -48,17 +39,6 @@ saysJudged (J.Lines s) = done s
 saysJudged (J.Refused r) = saysRefusal r
 
 -- two answers that say the same are equal
-pub wrote-one : (a b : Wrote) → saysWrote a ≡ saysWrote b → a ≡ b
-wrote-one (W.Line n) (W.Line m) e = cc
-wrote-one (W.Line n) W.R10 e = cc
-wrote-one (W.Line n) W.R8 e = cc
-wrote-one W.R10 (W.Line m) e = cc
-wrote-one W.R10 W.R10 e = refl
-wrote-one W.R10 W.R8 e = cc
-wrote-one W.R8 (W.Line m) e = cc
-wrote-one W.R8 W.R10 e = cc
-wrote-one W.R8 W.R8 e = refl
-
 pub one-one : (a b : One) → saysOne a ≡ saysOne b → a ≡ b
 one-one (O.Line l) (O.Line m) e = cc
 one-one (O.Line l) O.R10 e = cc
@@ -93,17 +73,25 @@ refusal-one R.R13 (R.R11 m) e = cc
 refusal-one R.R13 (R.R12 m) e = cc
 refusal-one R.R13 R.R13 e = refl
 
--- no refusal is a summary
-done-refused : {X : Type 0} (s : Summary) (r : Refusal) → done s ≡ saysRefusal r → X
-done-refused s (R.R10 n) e = refused-done (sym e)
-done-refused s (R.R11 n) e = refused-done (sym e)
-done-refused s (R.R12 n) e = refused-done (sym e)
-done-refused s R.R13 e = refused-done (sym e)
+-- no refusal is done
+pub refusal-done : {X Q : Type 0} {x : X} (r : Refusal) → saysRefusal r ≡ done x → Q
+refusal-done (R.R10 n) e = refused-done e
+refusal-done (R.R11 n) e = refused-done e
+refusal-done (R.R12 n) e = refused-done e
+refusal-done R.R13 e = refused-done e
+
+-- a refusal is the same, whatever would have been told
+pub refusal-told : {X Y : Type 0} (f : X → Y) (r : Refusal) → saysRefusal r ≡ told f (saysRefusal r)
+unfolding told
+refusal-told f (R.R10 n) = refl
+refusal-told f (R.R11 n) = refl
+refusal-told f (R.R12 n) = refl
+refusal-told f R.R13 = refl
 
 pub judged-one : (a b : Judged) → saysJudged a ≡ saysJudged b → a ≡ b
 judged-one (J.Lines s) (J.Lines t) e = cc
-judged-one (J.Lines s) (J.Refused r) e = done-refused s r e
-judged-one (J.Refused q) (J.Lines t) e = done-refused t q (sym e)
+judged-one (J.Lines s) (J.Refused r) e = refusal-done r (sym e)
+judged-one (J.Refused q) (J.Lines t) e = refusal-done q e
 judged-one (J.Refused q) (J.Refused r) e = ap (λ (x : Refusal). J.Refused x) (refusal-one q r e)
 
 -- two results that both meet a call's contract are equal
@@ -115,7 +103,3 @@ read-line-determined s a b p q = one-one a b (same p q)
 
 pub read-determined : (s : List ℕ) (a b : Judged) → saysJudged a ≡ told summaryOf (journalOf s) → saysJudged b ≡ told summaryOf (journalOf s) → a ≡ b
 read-determined s a b p q = judged-one a b (same p q)
-
-pub write-determined : (l : Line) (old new new' : List ℕ) (a b : Wrote)
-    → Fills (saysWrote a) (writeOf l (length old)) old new → Fills (saysWrote b) (writeOf l (length old)) old new' → (a ≡ b) × (new ≡ new')
-write-determined l old new new' a b p q = (wrote-one a b (fills-one p q .0), fills-one p q .1)

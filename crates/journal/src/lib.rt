@@ -1,20 +1,17 @@
-// The journal: D and H lines, written and read, and the refusals of a whole journal.
+// The journal: D and H lines, their reader, and the refusals of a whole journal.
 use text::Num;
 ghost use mathlib.Core.Path.{_≡_};
 ghost use mathlib.Core.Bool.{_&&_};
-ghost use mathlib.Core.List.{[], _∷_};
-ghost use Prim.Native.Nat.{_+_, _≤_};
+ghost use mathlib.Core.List.{[]};
 ghost use lib.ListN.{length, drop};
 ghost use Rattle.laws.specs.Pick.{pick};
-ghost use Rattle.laws.specs.Decimal.{good, decimal};
-ghost use Rattle.paper.specs.Answer.{Fills, told};
-ghost use Rattle.text.specs.Scan.{TAB, LF, expect, onGood};
-ghost use Rattle.journal.specs.Line.{mostOfD, mostOfH, textOf, inRange, writeOf, fieldsAt, doseFrom, onFrom, placed, lineAt, oneLine};
+ghost use Rattle.laws.specs.Decimal.{good};
+ghost use Rattle.paper.specs.Answer.{told};
+ghost use Rattle.text.specs.Scan.{LF, expect, onGood};
+ghost use Rattle.journal.specs.Line.{mostOfD, mostOfH, fieldsAt, doseFrom, onFrom, placed, lineAt, oneLine};
 ghost use Rattle.journal.specs.Journal.{hourIn, closes, outOfOrder, tooFar, noPast, pastAfter, journalOf, summaryOf};
-ghost use Rattle.journal.specs.Says.{saysWrote, saysOne, saysAt, saysJudged};
+ghost use Rattle.journal.specs.Says.{saysOne, saysAt, saysJudged};
 ghost use Rattle.journal.specs.Fields.{fieldsAfter, lineFrom};
-ghost use Rattle.journal.specs.Store.{FieldLength, Stores};
-ghost use Rattle.journal.specs.declared.Line.the-variants.{Dose, On};
 
 // A line: a completed dose, or that the box was on for all of an hour.
 pub enum Line {
@@ -27,13 +24,6 @@ pub enum Line {
     On {
         hour: u32,
     },
-}
-
-// What the writer of a line answers: its length, or a refusal.
-pub enum Wrote {
-    Line(usize),
-    R10,
-    R8,
 }
 
 // What the reader of one line answers.
@@ -86,13 +76,13 @@ const D: u8 = 68;
 const H: u8 = 72;
 
 // The greatest values of a line's fields after its letter: hour, count, amount, settled.
-const HOUR_MOST: u32 = 9999999;
+pub const HOUR_MOST: u32 = 9999999;
 
-const COUNT_MOST: u32 = 999999;
+pub const COUNT_MOST: u32 = 999999;
 
-const AMOUNT_MOST: u32 = 1800000;
+pub const AMOUNT_MOST: u32 = 1800000;
 
-const SETTLED_MOST: u32 = 1;
+pub const SETTLED_MOST: u32 = 1;
 
 const MOST: [u32; 4] = [HOUR_MOST, COUNT_MOST, AMOUNT_MOST, SETTLED_MOST];
 
@@ -101,124 +91,6 @@ const ROOM: usize = 65536;
 
 // A line's hour is less than so many hours above the first line's.
 const SPAN: u64 = 744;
-
-// Each value is at most its field's greatest.
-fn in_range(line: Line) -> bool
-    ensures { λ r. ⌜ r ≡ inRange line ⌝ }
-{
-    match line {
-        Line::Dose {
-            hour,
-            count,
-            amount,
-            settled,
-        } => {
-            if hour > HOUR_MOST {
-                return false;
-            }
-            if count > COUNT_MOST {
-                return false;
-            }
-            if amount > AMOUNT_MOST {
-                return false;
-            }
-            settled <= SETTLED_MOST
-        }
-        Line::On { hour } => hour <= HOUR_MOST,
-    }
-}
-
-// How many bytes a tab and a number take.
-fn field_len(v: u32) -> usize
-    ensures { λ r. ⌜ FieldLength v r ⌝ }
-{
-    1 + text::decimal_len(v as u64)
-}
-
-// How many bytes a line takes: its letter, its fields and its LF.
-fn text_len(line: Line) -> usize
-    ensures { λ r. ⌜ r ≡ length (textOf line) ⌝ }
-{
-    match line {
-        Line::Dose {
-            hour,
-            count,
-            amount,
-            settled,
-        } => 2 + field_len(hour) + field_len(count) + field_len(amount) + field_len(settled),
-        Line::On { hour } => 2 + field_len(hour),
-    }
-}
-
-// A byte stored at a place that has room for it.
-fn store_byte(out: &mut [u8], at: usize, b: u8) -> usize
-    requires { ⌜ at + 1 ≤ length (now out) ⌝ }
-    ensures { λ r. ⌜ Stores (now (out .entry)) at (b ∷ []) (now (out .exit)) r ⌝ }
-{
-    text::put_byte(out, at, b)
-}
-
-// A tab and a number stored at a place that has room for them.
-fn store_field(out: &mut [u8], at: usize, v: u32) -> usize
-    requires { ⌜ at + (1 + length (decimal v)) ≤ length (now out) ⌝ }
-    ensures { λ r. ⌜ Stores (now (out .entry)) at (TAB ∷ decimal v) (now (out .exit)) r ⌝ }
-{
-    let after_tab = store_byte(out, at, TAB);
-    text::put_decimal(out, after_tab, v as u64)
-}
-
-// A D line stored from the start.
-fn store_dose(out: &mut [u8], hour: u32, count: u32, amount: u32, settled: u32) -> usize
-    requires { ⌜ length (textOf (Dose hour count amount settled)) ≤ length (now out) ⌝ }
-    ensures { λ r. ⌜ Stores (now (out .entry)) 0 (textOf (Dose hour count amount settled)) (now (out .exit)) r ⌝ }
-{
-    let after_letter = store_byte(out, 0, D);
-    let after_hour = store_field(out, after_letter, hour);
-    let after_count = store_field(out, after_hour, count);
-    let after_amount = store_field(out, after_count, amount);
-    let after_settled = store_field(out, after_amount, settled);
-    store_byte(out, after_settled, LF)
-}
-
-// An H line stored from the start.
-fn store_on(out: &mut [u8], hour: u32) -> usize
-    requires { ⌜ length (textOf (On hour)) ≤ length (now out) ⌝ }
-    ensures { λ r. ⌜ Stores (now (out .entry)) 0 (textOf (On hour)) (now (out .exit)) r ⌝ }
-{
-    let after_letter = store_byte(out, 0, H);
-    let after_hour = store_field(out, after_letter, hour);
-    store_byte(out, after_hour, LF)
-}
-
-// A line stored from the start of a buffer that has room for it; the place after it is its length.
-fn store_line(out: &mut [u8], line: Line) -> usize
-    requires { ⌜ length (textOf line) ≤ length (now out) ⌝ }
-    ensures { λ r. ⌜ Stores (now (out .entry)) 0 (textOf line) (now (out .exit)) r ⌝ }
-{
-    match line {
-        Line::Dose {
-            hour,
-            count,
-            amount,
-            settled,
-        } => store_dose(out, hour, count, amount, settled),
-        Line::On { hour } => store_on(out, hour),
-    }
-}
-
-// A line written into a lent buffer: R10, then R8.
-pub fn write(line: Line, out: &mut [u8]) -> Wrote
-    ensures { λ r. ⌜ Fills (saysWrote r) (writeOf line (length (now (out .entry)))) (now (out .entry)) (now (out .exit)) ⌝ }
-{
-    if !in_range(line) {
-        return Wrote::R10;
-    }
-    if out.len() < text_len(line) {
-        return Wrote::R8;
-    }
-    let written = store_line(out, line);
-    Wrote::Line(written)
-}
 
 // The line whose LF has to stand at a place.
 fn end_at(s: &[u8], at: usize, line: Line) -> At
@@ -328,7 +200,7 @@ fn line_from(n: usize, got: [u32; 4]) -> Line
 }
 
 // The hour of a line.
-fn hour_in(line: Line) -> u32
+pub fn hour_in(line: Line) -> u32
     ensures { λ r. ⌜ r ≡ hourIn line ⌝ }
 {
     match line {
@@ -358,7 +230,7 @@ fn closes_hour(line: Line) -> bool
 }
 
 // Before the first line.
-fn no_past() -> Past
+pub fn no_past() -> Past
     ensures { λ r. ⌜ r ≡ noPast ⌝ }
 {
     Past {
@@ -380,7 +252,7 @@ fn first_hour(past: Past, hour: u32) -> u32
 }
 
 // After one line more.
-fn past_after(past: Past, line: Line) -> Past
+pub fn past_after(past: Past, line: Line) -> Past
     ensures { λ r. ⌜ r ≡ pastAfter past line ⌝ }
 {
     let hour = hour_in(line);
@@ -393,7 +265,7 @@ fn past_after(past: Past, line: Line) -> Past
 }
 
 // R11: the hour goes back, or an H has closed it.
-fn out_of_order(past: Past, hour: u32) -> bool
+pub fn out_of_order(past: Past, hour: u32) -> bool
     ensures { λ r. ⌜ r ≡ (past .begun && outOfOrder (past .last) (past .closed) hour) ⌝ }
 {
     if past.begun {
@@ -406,7 +278,7 @@ fn out_of_order(past: Past, hour: u32) -> bool
 }
 
 // R12: the hour is 744 or more above the first line's.
-fn too_far(past: Past, hour: u32) -> bool
+pub fn too_far(past: Past, hour: u32) -> bool
     ensures { λ r. ⌜ r ≡ (past .begun && tooFar (past .first) hour) ⌝ }
 {
     if past.begun {

@@ -1,7 +1,7 @@
 // A journal line, written and read back.
+use entry::Wrote;
 use journal::Line;
 use journal::One;
-use journal::Wrote;
 ghost use mathlib.Core.Path.{_≡_};
 ghost use Rattle.roundtrip.specs.Lines.{echoOf, saysEchoed};
 
@@ -13,7 +13,7 @@ pub fn echo(line: Line) -> One
     ensures { λ r. ⌜ saysEchoed r ≡ echoOf line ⌝ }
 {
     let mut buffer = [0u8; LONGEST];
-    match journal::write(line, &mut buffer) {
+    match entry::write(line, &mut buffer) {
         Wrote::Line(len) => journal::read_line(&buffer[..len]),
         Wrote::R10 => One::R10,
         Wrote::R8 => One::R10,

@@ -10,6 +10,7 @@ use crate::WeightCall;
 use crate::hours;
 use crate::print;
 use crate::read;
+use entry::Wrote;
 use field::Field;
 use field::Got;
 use field::Weight;
@@ -18,7 +19,6 @@ use frame::Found;
 use frame::Wrote as Framed;
 use journal::Line;
 use journal::One;
-use journal::Wrote;
 use text::Num;
 ghost use mathlib.Core.Path.{_≡_};
 ghost use mathlib.Core.List.{[]};
@@ -292,7 +292,7 @@ fn show_line(line: Line, buffer: &mut [u8], out: &mut [u8]) -> usize
     requires room { ⌜ (length (now buffer) ≤ 2000) × (4096 ≤ length (now out)) ⌝ }
     ensures { λ r. ⌜ Prints 4096 (now (out .entry)) 0 (filledText [] (length (now (buffer .entry))) (lines.writeOf line (length (now (buffer .entry))))) (now (out .exit)) r ⌝ }
 {
-    match journal::write(line, buffer) {
+    match entry::write(line, buffer) {
         Wrote::Line(len) => print::put_shown(out, b'P', &[len as u64], buffer),
         Wrote::R10 => print::put_shown(out, b'R', &[10, 0], buffer),
         Wrote::R8 => print::put_shown(out, b'R', &[8], buffer),

@@ -1,7 +1,7 @@
 use mathlib.Core.List.{[], _∷_}
 use borrow.Author.Needs.{needs}
 use Rattle.text.specs.Scan.{LF}
-use Rattle.hourly.proofs.Printing.{put-then}
+use Rattle.text.specs.PutLaws.{put-then}
 use Rattle.hourly.proofs.put_letter.Statement.{statement}
 use Rattle.hourly.proofs.put_letter.Tie as tie
 

@@ -3,9 +3,9 @@ use Prim.Native.Nat.{ℕ}
 use borrow.Author.Needs.{needs}
 use Rattle.laws.specs.Decimal.{decimal, hexOf}
 use Rattle.text.specs.Scan.{LF, TAB}
+use Rattle.text.specs.PutLaws.{put-then}
 use Rattle.hourly.specs.Text.{letterM}
 use Rattle.hourly.specs.Rows.{tailText}
-use Rattle.hourly.proofs.Printing.{put-then}
 use Rattle.hourly.proofs.put_measured.Statement.{statement}
 use Rattle.hourly.proofs.put_measured.Tie as tie
 

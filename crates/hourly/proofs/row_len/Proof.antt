@@ -3,11 +3,11 @@ use Prim.Native.Nat.{_+_}
 use native.Mathlib.Omega.{arith}
 use borrow.Author.Needs.{needs}
 use lib.ListN.{length}
+use Rattle.text.specs.PutLaws.{digits-most}
 use Rattle.hourly.specs.Text.{rowText}
 use Rattle.hourly.specs.Tally.{saysShown}
 use Rattle.hourly.specs.declared.Shown.{Shown}
 use Rattle.hourly.specs.Bounds.{measured-length, idle-length, missing-length}
-use Rattle.hourly.proofs.Printing.{digits-most}
 use Rattle.hourly.proofs.row_len.Statement.{statement}
 use Rattle.hourly.proofs.row_len.Tie as tie
 

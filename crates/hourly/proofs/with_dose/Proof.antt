@@ -1,5 +1,5 @@
 use borrow.Author.Needs.{needs}
-use Rattle.hourly.specs.Hours.{inFloat}
+use Rattle.hourly.specs.Hours.{asF64}
 use Rattle.hourly.specs.Tally.{withDose}
 use Rattle.hourly.proofs.with_dose.Statement.{statement}
 use Rattle.hourly.proofs.with_dose.Tie as tie
@@ -14,7 +14,7 @@ larger-requires : tie.Need-larger-requires
 larger-requires c κs = search needs
 
 returns : tie.Need-returns
-unfolding withDose inFloat
+unfolding withDose asF64
 returns c = rw (c .larger .ensures)
 
 pub with-dose-spec : {M : Type 1} → statement M

@@ -1,7 +1,7 @@
 use mathlib.Core.Path.{sym}
 use borrow.Author.Needs.{needs}
 use lib.Seq.{length-take-le}
-use Rattle.hourly.specs.Report.{put-inside}
+use Rattle.report.specs.Report.{put-inside}
 use Rattle.hours.proofs.main.Statement.{statement}
 use Rattle.hours.proofs.main.Tie as tie
 

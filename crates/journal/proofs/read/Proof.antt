@@ -10,17 +10,17 @@ use borrow.Author.Needs.{needs}
 use Rattle.laws.specs.Decimal.{good, bad}
 use Rattle.paper.specs.Answer.{refused, told}
 use Rattle.paper.specs.Numbers.{R10}
-use Rattle.text.specs.Scan.{LF, placeAfter}
+use Rattle.text.specs.Scan.{placeAfter}
 use Rattle.text.specs.ScanLaws.{byte-inside}
 use Rattle.journal.specs.Line.{mostOfD, fieldsAt, lineOf}
 use Rattle.journal.specs.LineLaws.{line-shorter}
 use Rattle.journal.specs.Journal.{hourIn, outOfOrder, tooFar, pastAfter, ordered, journalOf, summaryOf}
-use Rattle.journal.specs.JournalLaws.{journal-long}
+use Rattle.journal.specs.JournalLaws.{journal-long, order-broken, order-far, order-kept}
 use Rattle.text.specs.declared.Num.{Num}
 use Rattle.journal.specs.declared.Line.{Line}
 use Rattle.journal.specs.declared.Past.{Past}
 use Rattle.journal.proofs.Fields.{few, asks, fields-turn, fields-stop, no-more, line-broken, line-torn, line-read}
-use Rattle.journal.proofs.Carried.{sumFrom, sum-all, sum-none, sum-bad, sum-good, order-broken, order-far, order-kept}
+use Rattle.journal.proofs.Carried.{sumFrom, sum-all, sum-none, sum-bad, sum-good}
 use Rattle.journal.proofs.read.Statement.{statement}
 use Rattle.journal.proofs.read.Tie as tie
 

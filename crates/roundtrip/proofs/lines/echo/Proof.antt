@@ -15,12 +15,13 @@ use Rattle.paper.specs.AnswerLaws.{refused-done}
 use Rattle.paper.specs.Numbers.{R8, R10}
 use Rattle.journal.specs.Line.{inRange, textOf, writeOf, oneLine}
 use Rattle.journal.specs.LineLaws.{text-most, write-range, write-fits, one-text}
-use Rattle.journal.specs.Says.{saysWrote, saysOne}
+use Rattle.journal.specs.Says.{saysOne}
+use Rattle.entry.specs.Says.{saysWrote}
 use Rattle.journal.specs.declared.Line.{Line}
 use Rattle.journal.specs.declared.One.{One}
 use Rattle.journal.specs.declared.One.the-variants as O
-use Rattle.journal.specs.declared.Wrote.{Wrote}
-use Rattle.journal.specs.declared.Wrote.the-variants as W
+use Rattle.entry.specs.declared.Wrote.{Wrote}
+use Rattle.entry.specs.declared.Wrote.the-variants as W
 use Rattle.roundtrip.specs.Lines.{echoOf, saysEchoed}
 use Rattle.roundtrip.proofs.lines.echo.Statement.{statement}
 use Rattle.roundtrip.proofs.lines.echo.Tie as tie

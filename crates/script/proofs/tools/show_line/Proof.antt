@@ -1,6 +1,6 @@
 use mathlib.Core.Path.{sym, ap, _∙_}
-use Rattle.journal.specs.declared.Wrote.{Wrote}
-use Rattle.journal.specs.Says.{saysWrote}
+use Rattle.entry.specs.declared.Wrote.{Wrote}
+use Rattle.entry.specs.Says.{saysWrote}
 use Rattle.script.specs.Answer.{valuesText}
 use Rattle.script.specs.Print.{prints-text}
 use Rattle.script.proofs.Shown.{shownText, shown}

@@ -1,0 +1,66 @@
+use mathlib.Core.Path.{sym, ap, _∙_}
+use mathlib.Core.List.{List}
+use Prim.Native.Nat.{ℕ, _≤_}
+use native.Mathlib.Nat.{zero-add}
+use native.Mathlib.Omega.{arith}
+use denote.Ref.{now}
+use lib.ListN.{length}
+use borrow.Author.Tests.{not-true, not-false}
+use Rattle.laws.specs.Pick.{so}
+use Rattle.laws.specs.Over.{sets-over}
+use Rattle.paper.specs.Answer.{Answer, done, told, leaves}
+use Rattle.journal.specs.Line.{textOf}
+use Rattle.journal.specs.LineLaws.{write-range, write-short, write-fits}
+use borrow.Author.Needs.{needs}
+use Rattle.entry.proofs.write.Statement.{statement}
+use Rattle.entry.proofs.write.Tie as tie
+
+in-range-requires : tie.Need-in-range-requires
+in-range-requires c κs = search needs
+
+returns : tie.Need-returns
+unfolding told leaves
+returns c =
+    let a = c .before .before .before .args in
+    let e = write-range (a .line) (length (now (a .out))) (so (c .before .in-range .ensures) (not-true _ (c .if1 .taken))) in
+    record { says = sym (ap (told length) e); left = sym (ap (λ (w : Answer (List ℕ)). leaves w (now (a .out))) e) }
+
+text-len-requires : tie.Need-text-len-requires
+text-len-requires c κs = search needs
+
+returns-2 : tie.Need-returns-2
+unfolding told leaves
+returns-2 c =
+    let a = c .before .before .before .before .before .args in
+    let e = write-short (a .line) (length (now (a .out))) (so (c .before .before .before .in-range .ensures) (not-false _ (c .before .before .if1 .left))) (omega (arith, c .before .text-len .ensures)) in
+    record { says = sym (ap (told length) e); left = sym (ap (λ (w : Answer (List ℕ)). leaves w (now (a .out))) e) }
+
+store-line-requires : tie.Need-store-line-requires
+store-line-requires c κs = search needs
+
+same-length : tie.Need-same-length
+same-length c = search needs
+
+returns-3 : tie.Need-returns-3
+unfolding told leaves
+returns-3 c =
+    let a = c .before .before .before .before .before .before .before .before .before .args in
+    let h : length (textOf (a .line)) ≤ length (now (a .out)) = omega (arith, c .before .before .before .before .before .text-len .ensures, c .before .before .before .before .if2 .left) in
+    let e = write-fits (a .line) (length (now (a .out))) (so (c .before .before .before .before .before .before .before .in-range .ensures) (not-false _ (c .before .before .before .before .before .before .if1 .left))) h in
+    let s = c .before .before .store-line .ensures in
+    record {
+      says = ap (λ (n : ℕ). done n) (s .next ∙ zero-add _) ∙ sym (ap (told length) e);
+      left = s .left ∙ sets-over (now (a .out)) (textOf (a .line)) h ∙ sym (ap (λ (w : Answer (List ℕ)). leaves w (now (a .out))) e);
+    }
+
+pub write-spec : {M : Type 1} → statement M
+write-spec =
+    tie.close
+    (tie.spec
+    in-range-requires
+    returns
+    text-len-requires
+    returns-2
+    store-line-requires
+    same-length
+    returns-3)

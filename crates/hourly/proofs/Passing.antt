@@ -1,0 +1,204 @@
+-- The pass over a journal's lines: those so far are judged and counted, and what is read from `at` on gives the rest of the answer. Assumes nothing.
+use mathlib.Core.Path.{_≡_, refl, sym, ap, _∙_, subst}
+use mathlib.Core.Bool.{Bool, true, false, _&&_}
+use mathlib.Core.List.{List, [], _∷_, _++_, append-assoc, append-nil}
+use Prim.Native.Nat.{ℕ, _+_, _-_, _*_, _≤_, _<_}
+use native.Mathlib.Omega.{arith}
+use lib.ListN.{length, getD, drop, set, length-append, length-drop, drop-of-length-le, replicate}
+use borrow.Author.Tests.{leb-false, ltb-false}
+use Rattle.laws.specs.Pick.{pick}
+use Rattle.laws.specs.Whole.{false-true}
+use Rattle.paper.specs.Answer.{Answer, done, refused, fault, told}
+use Rattle.paper.specs.Numbers.{R10, R11, R12}
+use Rattle.journal.specs.Line.{textOf, lineOf, lineAt}
+use Rattle.journal.specs.LineLaws.{Stands, placed-bad, text-only, text-least}
+use Rattle.journal.specs.Journal.{hourIn, outOfOrder, tooFar, noPast, pastAfter, ordered, journalOf, firstHour, lastHour, summaryOf}
+use Rattle.journal.specs.JournalLaws.{linesFrom, journal-lines, told-none, told-bad, told-good, order-broken, order-far, order-kept}
+use Rattle.journal.specs.declared.Line.{Line}
+use Rattle.journal.specs.declared.Past.{Past}
+use Rattle.journal.specs.declared.Refusal.{Refusal}
+use Rattle.journal.specs.declared.Judged.the-variants as J
+use Rattle.journal.specs.Says.{saysRefusal, saysJudged, refusal-done, refusal-told}
+use Rattle.hourly.specs.Accepted.{InRange, Ranged}
+use Rattle.hourly.specs.Tally.{outside, noTally, counted, Tells, Counts, acceptedAfter}
+use Rattle.hourly.specs.declared.Tally.{Tally}
+use Rattle.hourly.specs.declared.Tallied.{Tallied}
+use Rattle.hourly.proofs.Tallying.{tells-none, tells-start, tells-more, old-few}
+
+-- whether there is a line
+abbrev some : List Line → Bool
+some [] = false
+some (l ∷ ls) = true
+
+first-more : (ls : List Line) (l : Line) → firstHour (ls ++ l ∷ []) ≡ pick (some ls) (firstHour ls) (hourIn l)
+unfolding firstHour pick
+first-more [] l = refl
+first-more (m ∷ ls) l = refl
+
+last-more : (ls : List Line) (l : Line) → lastHour (ls ++ l ∷ []) ≡ hourIn l
+unfolding lastHour
+last-more [] l = refl
+last-more (m ∷ []) l = refl
+last-more (m ∷ k ∷ ls) l = last-more (k ∷ ls) l
+
+some-more : (ls : List Line) (l : Line) → some (ls ++ l ∷ []) ≡ true
+some-more [] l = refl
+some-more (m ∷ ls) l = refl
+
+ranged-more : (ls : List Line) (l : Line) → Ranged ls → InRange l → Ranged (ls ++ l ∷ [])
+ranged-more [] l r i = (i, tt)
+ranged-more (m ∷ ls) l r i = (r .0, ranged-more ls l (r .1) i)
+
+-- n lines are taken: what they say of the hours is past, table holds their tallies, and the journal is they and the lines from `at` on
+pub record Passed (s : List ℕ) (past : Past) (at n : ℕ) (table : List Tally) : Type 0 where
+  pub lines : List Line
+  pub number : length lines ≡ n
+  pub inside : at ≤ length s
+  pub few : 4 * n ≤ at
+  pub ranged : Ranged lines
+  pub left : journalOf s ≡ told (λ (ms : List Line). lines ++ ms) (linesFrom past (n + 1) (drop at s))
+  pub begun : past .begun ≡ some lines
+  pub first : past .first ≡ firstHour lines
+  pub last : past .last ≡ lastHour lines
+  pub order : past .first ≤ past .last
+  pub tells : Tells table (past .first) lines
+
+told-id : {A : Type 0} (a : Answer A) → told (λ x. x) a ≡ a
+unfolding told
+told-id (done x) = refl
+told-id (refused n vs) = refl
+told-id (fault n vs) = refl
+
+-- before the first line
+pub passed-none : (s : List ℕ) (past : Past) (table : List Tally) → length s ≤ 65536 → past ≡ noPast → table ≡ replicate 744 noTally → Passed s past 0 0 table
+unfolding noPast firstHour lastHour
+passed-none s past table h p e = subst (λ (q : Past). Passed s q 0 0 table) (sym p) start
+  where
+    start : Passed s noPast 0 0 table
+    start =
+        record {
+          lines = [];
+          number = refl;
+          inside = omega arith;
+          few = omega arith;
+          ranged = tt;
+          left = journal-lines s h ∙ sym (told-id (linesFrom noPast 1 s));
+          begun = refl;
+          first = refl;
+          last = refl;
+          order = omega arith;
+          tells = tells-start table 0 e;
+        }
+
+-- the line whose turn it is, of this hour, leaves after: it has a place in the table, and is counted in there
+pub record Turn (s : List ℕ) (after : Past) (n : ℕ) (table : List Tally) (l : Line) (hour next : ℕ) : Type 0 where
+  pub low : after .first ≤ hour
+  pub high : hour - after .first < 744
+  pub few : getD table (hour - after .first) outside .doses < 16384
+  pub again : Passed s after next (n + 1) (set table (hour - after .first) (counted (getD table (hour - after .first) outside) l))
+
+-- an hour in order is among the 744 from the first on
+near : (begun closed : Bool) (first last h : ℕ) → first ≤ last → (begun && outOfOrder last closed h) ≡ false → (begun && tooFar first h) ≡ false
+    → (pick begun first h ≤ h) × (h - pick begun first h < 744)
+unfolding outOfOrder tooFar pick
+near true true first last h o b f = (omega (arith, leb-false h last b), omega (arith, leb-false (first + 744) h f))
+near true false first last h o b f = (omega (arith, ltb-false h last b), omega (arith, leb-false (first + 744) h f))
+near false closed first last h o b f = (omega arith, omega arith)
+
+-- the first line's hour is the table's first
+tells-from : (table : List Tally) (begun : Bool) (first h : ℕ) (ls : List Line) → begun ≡ some ls → Tells table first ls → Tells table (pick begun first h) ls
+unfolding pick
+tells-from table true first h ls e t = t
+tells-from table false first h [] e t = tells-none table first h t
+tells-from table false first h (l ∷ ls) e t = false-true e
+
+-- ---- what the pass answers
+
+-- the journal's refusal
+pub counts-refused : (s : List ℕ) (t : Tallied) (r : Refusal) → t .judged ≡ J.Refused r → journalOf s ≡ saysRefusal r → Counts s t
+counts-refused s t r e j =
+    record {
+      judged = ap saysJudged e ∙ refusal-told summaryOf r ∙ ap (told summaryOf) (sym j);
+      tells = λ ls d. refusal-done r (sym j ∙ d);
+    }
+
+module _ {s : List ℕ} {past : Past} {at n : ℕ} {table : List Tally} (p : Passed s past at n table) where
+  -- the last line is taken
+  ended : length s ≤ at → journalOf s ≡ done (p .lines)
+  ended h =
+      p .left
+      ∙ ap (λ (d : List ℕ). told (λ (ms : List Line). p .lines ++ ms) (linesFrom past (n + 1) d)) (drop-of-length-le s {i = at} h)
+      ∙ told-none (λ (ms : List Line). p .lines ++ ms) past (n + 1)
+      ∙ ap done (append-nil (p .lines))
+
+  pub counts-all : length s ≤ at → Counts s (acceptedAfter n past table)
+  unfolding told summaryOf acceptedAfter
+  counts-all h =
+      let e = ended h in
+      record {
+        judged = rw (sym (p .number), p .first, p .last) refl ∙ sym (ap (told summaryOf) e);
+        tells = λ ls d. let q : p .lines ≡ ls = cc in subst (λ (ms : List Line). Tells table (firstHour ms) ms) q (subst (λ (f : ℕ). Tells table f (p .lines)) (p .first) (p .tells));
+      }
+
+  -- no line stands at `at`
+  pub malformed : at < length s → refused R10 [] ≡ lineAt s at → journalOf s ≡ refused R10 ((n + 1) ∷ [])
+  unfolding lineAt
+  malformed h e =
+      p .left ∙ told-bad (λ (ms : List Line). p .lines ++ ms) past (n + 1) (drop at s) (rw (length-drop at s) (omega arith)) (placed-bad (length s) (lineOf (drop at s)) e)
+
+  module _ (l : Line) (next : ℕ) (w : Stands s at l next) where
+    -- the tests of its order
+    abbrev back : Bool
+    back = past .begun && outOfOrder (past .last) (past .closed) (hourIn l)
+
+    abbrev far : Bool
+    far = past .begun && tooFar (past .first) (hourIn l)
+
+    -- a line stands there
+    judged : journalOf s ≡ ordered past l (n + 1) (told (λ (ms : List Line). (p .lines ++ l ∷ []) ++ ms) (linesFrom (pastAfter past l) (n + 1 + 1) (drop next s)))
+    judged =
+        p .left
+        ∙ told-good (λ (ms : List Line). p .lines ++ ms) (λ (ms : List Line). (p .lines ++ l ∷ []) ++ ms) past (n + 1) (drop at s) l (drop next s) (w .line) (λ ms. sym (append-assoc (p .lines) (l ∷ []) ms))
+
+    pub late : back ≡ true → journalOf s ≡ refused R11 ((n + 1) ∷ [])
+    late b = judged ∙ order-broken past l (n + 1) _ b
+
+    pub distant : back ≡ false → far ≡ true → journalOf s ≡ refused R12 ((n + 1) ∷ [])
+    distant b f = judged ∙ order-far past l (n + 1) _ b f
+
+    -- it takes at least 4 bytes
+    longer : at + 4 ≤ next
+    longer =
+        let o = text-only (drop at s) l (drop next s) (w .line) .text in
+        omega (arith, ap length o, length-append (textOf l) (drop next s), text-least l, length-drop at s, length-drop next s, w .inside)
+
+    -- it has a place in the table, and is counted in there
+    placed-in : length s ≤ 65536 → back ≡ false → far ≡ false → Turn s (pastAfter past l) n table l (hourIn l) next
+    unfolding pastAfter
+    placed-in h b f =
+        let q = near (past .begun) (past .closed) (past .first) (past .last) (hourIn l) (p .order) b f in
+        let t = tells-from table (past .begun) (past .first) (hourIn l) (p .lines) (p .begun) (p .tells) in
+        let o = text-only (drop at s) l (drop next s) (w .line) .range in
+        let first = pick (past .begun) (past .first) (hourIn l) in
+        record {
+          low = q .0;
+          high = q .1;
+          few = omega (arith, old-few (p .lines) first table l t (q .0) (q .1) (p .ranged), p .number, p .few, w .onward, w .inside);
+          again =
+              record {
+                lines = p .lines ++ l ∷ [];
+                number = omega (arith, length-append (p .lines) (l ∷ []), p .number);
+                inside = w .inside;
+                few = omega (arith, p .few, longer);
+                ranged = ranged-more (p .lines) l (p .ranged) o;
+                left = judged ∙ order-kept past l (n + 1) _ b f;
+                begun = sym (some-more (p .lines) l);
+                first = ap (λ (x : Bool). pick x (past .first) (hourIn l)) (p .begun) ∙ ap (λ (x : ℕ). pick (some (p .lines)) x (hourIn l)) (p .first) ∙ sym (first-more (p .lines) l);
+                last = sym (last-more (p .lines) l);
+                order = q .0;
+                tells = tells-more (p .lines) first table l t (q .0) (q .1) (p .ranged) o (omega (arith, p .number, p .few, w .onward, w .inside));
+              };
+        }
+
+    pub turn : (after : Past) (hour : ℕ) → after ≡ pastAfter past l → hour ≡ hourIn l → length s ≤ 65536 → back ≡ false → far ≡ false → Turn s after n table l hour next
+    turn after hour a e h b f = rw (a, e) (placed-in h b f)

@@ -1,0 +1,146 @@
+-- What the hour program prints (document 01, "Journal and hours"). Assumes nothing.
+use mathlib.Core.Path.{_≡_, refl, sym, ap, _∙_}
+use mathlib.Core.Bool.{Bool, true, false, _&&_}
+use mathlib.Core.List.{List, [], _∷_, _++_}
+use Prim.Native.Nat.{ℕ, zero, suc, _+_, _≤_, _<_}
+use native.Mathlib.Omega.{arith}
+use native.Mathlib.Decide.{decLt}
+use lib.Dec.{ltb}
+use lib.ListN.{length, getD, take, drop, length-append}
+use lib.Seq.{take-at}
+use borrow.Author.Tests.{ltb-false}
+use Rattle.laws.specs.Pick.{pick}
+use Rattle.laws.specs.Over.{over, sets-over}
+use Rattle.laws.specs.Decimal.{decimal, digitsOf, glyph, Parsed, good, bad}
+use Rattle.laws.specs.DecimalLaws.{decimal-length}
+use Rattle.paper.specs.Answer.{Answer, done, refused, fault, told}
+use Rattle.paper.specs.AnswerLaws.{refused-done}
+use Rattle.paper.specs.Numbers.{R10, R11, R12, R13}
+use Rattle.text.specs.Put.{Puts, puts-determined}
+use Rattle.text.specs.PutLaws.{room-is, room-not, puts-fit, puts-none, puts-length}
+use Rattle.text.specs.Scan.{LF, TAB}
+use Rattle.journal.specs.Line.{lineOf}
+use Rattle.journal.specs.Journal.{hourIn, outOfOrder, tooFar, pastAfter, noPast, ordered, onLine, readFrom, journalOf}
+use Rattle.journal.specs.declared.Line.{Line}
+use Rattle.journal.specs.declared.Past.{Past}
+use Rattle.journal.specs.declared.Refusal.{Refusal}
+use Rattle.journal.specs.declared.Refusal.the-variants as R
+use Rattle.hourly.specs.Text.{hoursText}
+use Rattle.hourly.specs.Accepted.{accepted}
+use Rattle.hourly.specs.Bounds.{text-short}
+
+abbrev pub letterR : ℕ
+letterR = 82
+
+-- On a refusal it prints one line only: R, number, line (1 is the first; 0 for R13)
+unfoldable pub refusalText : ℕ → ℕ → List ℕ
+refusalText number line = letterR ∷ TAB ∷ (decimal number ++ TAB ∷ (decimal line ++ LF ∷ []))
+
+-- the line of a journal's refusal
+abbrev pub refusalOf : Refusal → List ℕ
+refusalOf (R.R10 n) = refusalText R10 n
+refusalOf (R.R11 n) = refusalText R11 n
+refusalOf (R.R12 n) = refusalText R12 n
+refusalOf R.R13 = refusalText R13 0
+
+-- every hour from first to last, or that line
+unfoldable pub reportFrom : Answer (List Line) → List ℕ
+reportFrom (done ls) = hoursText ls
+reportFrom (refused n vs) = refusalText n (getD vs 0 0)
+reportFrom (fault n vs) = []
+
+unfoldable pub reportOf : List ℕ → List ℕ
+reportOf s = reportFrom (journalOf s)
+
+pub cases :
+    (reportFrom (refused R11 (2 ∷ [])) ≡ 82 ∷ 9 ∷ 49 ∷ 49 ∷ 9 ∷ 50 ∷ 10 ∷ [])
+    × (reportFrom (refused R13 []) ≡ 82 ∷ 9 ∷ 49 ∷ 51 ∷ 9 ∷ 48 ∷ 10 ∷ [])
+unfolding reportFrom refusalText decimal digitsOf glyph pick
+cases = (refl, refl)
+
+-- ---- its length
+
+-- a journal's refusal is one of R10 to R13, and names a line
+pub record Named (n k : ℕ) (vs : List ℕ) : Type 0 where
+  pub least : R10 ≤ k
+  pub number : k ≤ R13
+  pub line : getD vs 0 0 ≤ n
+
+named : (m r : ℕ) (ws : List ℕ) (k : ℕ) (vs : List ℕ) → R10 ≤ r → r ≤ R13 → getD ws 0 0 ≤ m → _≡_ {A = Answer (List Line)} (refused r ws) (refused k vs) → Named m k vs
+named m r ws k vs o h l e =
+    let p : r ≡ k = cc in
+    let q : ws ≡ vs = cc in
+    record { least = omega arith; number = omega arith; line = omega (arith, ap (λ (x : List ℕ). getD x 0 0) q) }
+
+told-refused : {A B : Type 0} (g : A → B) (a : Answer A) (n : ℕ) (vs : List ℕ) → told g a ≡ refused n vs → a ≡ refused n vs
+unfolding told
+told-refused g (done x) n vs e = refused-done (sym e)
+told-refused g (refused m ws) n vs e = let p : m ≡ n = cc in let q : ws ≡ vs = cc in cc
+told-refused g (fault m ws) n vs e = let z : _≡_ {A = ℕ} 0 1 = cc in absurd (omega arith)
+
+read-named : (f : ℕ) (p : Past) (n : ℕ) (s : List ℕ) (k : ℕ) (vs : List ℕ) → readFrom f p n s ≡ refused k vs → Named (n + f) k vs
+unfolding readFrom onLine ordered pick
+read-named zero p n s k vs e = refused-done (sym e)
+read-named (suc f) p n [] k vs e = refused-done (sym e)
+read-named (suc f) p n (b ∷ bs) k vs e = go (lineOf (b ∷ bs)) (λ l rest. read-named f (pastAfter p l) (suc n) rest k vs) e
+  where
+    judged : (l : Line) (u v : Bool) (a : Answer (List Line)) → (a ≡ refused k vs → Named (suc n + f) k vs)
+        → pick u (refused R11 (n ∷ [])) (pick v (refused R12 (n ∷ [])) (told (λ (ls : List Line). l ∷ ls) a)) ≡ refused k vs → Named (n + suc f) k vs
+    judged l true v a rest e = named (n + suc f) R11 (n ∷ []) k vs (omega arith) (omega arith) (omega arith) e
+    judged l false true a rest e = named (n + suc f) R12 (n ∷ []) k vs (omega arith) (omega arith) (omega arith) e
+    judged l false false a rest e = let r = rest (told-refused (λ (ls : List Line). l ∷ ls) a k vs e) in record { least = r .least; number = r .number; line = omega (arith, r .line) }
+
+    go : (r : Parsed Line) → ((l : Line) (rest : List ℕ) → readFrom f (pastAfter p l) (suc n) rest ≡ refused k vs → Named (suc n + f) k vs)
+        → onLine n r (λ l rest. ordered p l n (told (λ (ls : List Line). l ∷ ls) (readFrom f (pastAfter p l) (suc n) rest))) ≡ refused k vs → Named (n + suc f) k vs
+    go (good l rest) behind e =
+        judged l (p .begun && outOfOrder (p .last) (p .closed) (hourIn l)) (p .begun && tooFar (p .first) (hourIn l)) (readFrom f (pastAfter p l) (suc n) rest)
+        (behind l rest) e
+    go bad behind e = named (n + suc f) R10 (n ∷ []) k vs (omega arith) (omega arith) (omega arith) e
+
+pub refusal-length : (number line : ℕ) → length (refusalText number line) ≡ length (decimal number) + length (decimal line) + 4
+unfolding refusalText
+refusal-length number line = omega (arith, length-append (decimal number) (TAB ∷ (decimal line ++ LF ∷ [])), length-append (decimal line) (LF ∷ []))
+
+refusal-short : (number line : ℕ) → number ≤ 13 → line ≤ 65537 → length (refusalText number line) ≤ 33480
+refusal-short number line h l = omega (arith, refusal-length number line, decimal-length 2 number (omega arith) (omega arith), decimal-length 5 line (omega arith) (omega arith))
+
+pub journal-named : (s : List ℕ) (k : ℕ) (vs : List ℕ) → journalOf s ≡ refused k vs → Named 65537 k vs
+unfolding journalOf pick
+journal-named s k vs e = go (ltb 65536 (length s)) refl e
+  where
+    go : (b : Bool) → ltb 65536 (length s) ≡ b → pick b (refused R13 []) (readFrom (length s) noPast 1 s) ≡ refused k vs → Named 65537 k vs
+    go true p e = named 65537 R13 [] k vs (omega arith) (omega arith) (omega arith) e
+    go false p e = let r = read-named (length s) noPast 1 s k vs e in record { least = r .least; number = r .number; line = omega (arith, r .line, ltb-false 65536 (length s) p) }
+
+-- 33,480 bytes hold every report
+pub report-short : (s : List ℕ) → length (reportOf s) ≤ 33480
+unfolding reportOf reportFrom
+report-short s = go (journalOf s) refl
+  where
+    go : (a : Answer (List Line)) → journalOf s ≡ a → length (reportFrom a) ≤ 33480
+    go (done ls) p = text-short ls (accepted s ls p)
+    go (refused k vs) p = let r = journal-named s k vs p in refusal-short k (getD vs 0 0) (r .number) (r .line)
+    go (fault k vs) p = omega arith
+
+-- ---- what stands in the buffer
+
+-- what was put stands inside the buffer
+pub put-inside : {old text new : List ℕ} {r : ℕ} → Puts old 0 text new r → r ≤ length new
+put-inside {old} {text} {new} {r} p = go (decLt (length old) (length text))
+  where
+    go : Dec (length old < length text) → r ≤ length new
+    go (yes h) = omega (arith, puts-none (room-not old 0 text (omega arith)) p .1)
+    go (no h) = omega (arith, puts-fit (room-is old 0 text (omega arith)) p .1, puts-length p)
+
+-- with 33,480 bytes the report stands there whole
+pub report-whole : (s : List ℕ) {old new : List ℕ} {r : ℕ} → 33480 ≤ length old → Puts old 0 (reportOf s) new r → (r ≡ length (reportOf s)) × (take r new ≡ reportOf s)
+unfolding over
+report-whole s {old} {new} {r} h p =
+    let b : length (reportOf s) ≤ length old = omega (arith, report-short s) in
+    let f = puts-fit (room-is old 0 (reportOf s) (omega arith)) p in
+    let n : r ≡ length (reportOf s) = f .1 ∙ omega arith in
+    (n, ap (take r) (f .0 ∙ sets-over old (reportOf s) b) ∙ take-at (reportOf s) (drop (length (reportOf s)) old) r (sym n))
+
+-- two results that both meet the contract are equal
+pub report-determined : (s old : List ℕ) {new new' : List ℕ} {r r' : ℕ} → Puts old 0 (reportOf s) new r → Puts old 0 (reportOf s) new' r' → (new ≡ new') × (r ≡ r')
+report-determined s old p q = puts-determined p q
