@@ -22,8 +22,8 @@ ghost use Rattle.laws.specs.Pick.{pick};
 ghost use Rattle.paper.specs.Answer.{refused};
 ghost use Rattle.paper.specs.Numbers.{R3};
 ghost use Rattle.settings.specs.Says.{says};
-ghost use Rattle.controller.specs.State.{noRuns, restarted};
-ghost use Rattle.controller.specs.Calls.{storedBad, freshOf, noController, taken, linkOf};
+ghost use Rattle.controller.specs.State.{restarted};
+ghost use Rattle.controller.specs.Calls.{freshOf, noController, taken, linkOf};
 ghost use Rattle.controller.specs.Sound.{Sound};
 ghost use Rattle.controller.specs.Says.{saysSet, Sets, Resets, Restarts};
 ghost use Rattle.controller.specs.Made.{Made};
@@ -52,7 +52,7 @@ impl Controller {
                 answer: RestartAnswer::R2(row),
             };
         }
-        if stored_bad(count, total) {
+        if (Controller::COUNT_MOST < count) | (Controller::TOTAL_MOST < total) {
             return Restarted {
                 next: no_controller(),
                 answer: RestartAnswer::R15,
@@ -134,16 +134,6 @@ fn in_ready(ready: bool, answer: SetAnswer) -> SetAnswer
     if ready { answer } else { SetAnswer::R3 }
 }
 
-// R15: the stored count or total is too great.
-fn stored_bad(count: u32, total: u32) -> bool
-    ensures { λ r. ⌜ r ≡ storedBad count total ⌝ }
-{
-    if Controller::COUNT_MOST < count {
-        return true;
-    }
-    Controller::TOTAL_MOST < total
-}
-
 // A controller in Ready with an empty filter, Z at 0, no fault, no link start and all outputs closed.
 fn restarted(set: Settings, count: u32, total: u32) -> Controller
     ensures { λ r. ⌜ r ≡ restarted set count total ⌝ }
@@ -154,7 +144,11 @@ fn restarted(set: Settings, count: u32, total: u32) -> Controller
         z: Units { v: 0 },
         f: Units { v: 0 },
         s: 0,
-        runs: no_runs(),
+        runs: Runs {
+            one: 0,
+            two: 0,
+            three: 0,
+        },
         phase: Phase::Ready,
         gates: Gates {
             one: false,
@@ -204,7 +198,11 @@ fn taken(set: Settings, mut c: Controller) -> Controller
 {
     let zero = Units { v: 0 };
     let emptied = Window::new();
-    let runs = no_runs();
+    let runs = Runs {
+        one: 0,
+        two: 0,
+        three: 0,
+    };
     c.set = set;
     c.window = emptied;
     c.z = zero;
@@ -212,15 +210,4 @@ fn taken(set: Settings, mut c: Controller) -> Controller
     c.s = 0;
     c.runs = runs;
     c
-}
-
-// No mismatch yet.
-fn no_runs() -> Runs
-    ensures { λ r. ⌜ r ≡ noRuns ⌝ }
-{
-    Runs {
-        one: 0,
-        two: 0,
-        three: 0,
-    }
 }

@@ -148,10 +148,10 @@ fn is_ready(c: Controller) -> bool
         return false;
     };
     let phase = c.phase;
-    let Phase::Ready = phase else {
-        return false;
-    };
-    true
+    match phase {
+        Phase::Ready => true,
+        _ => false,
+    }
 }
 
 // The mean of the last n samples.

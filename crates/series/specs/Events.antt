@@ -1,5 +1,4 @@
 -- A series of calls, what it makes of a controller, and what is seen of it from outside. Assumes nothing.
-use mathlib.Core.Path.{_≡_}
 use mathlib.Core.Bool.{Bool}
 use mathlib.Core.List.{List, [], _∷_, _++_}
 use Prim.Native.Nat.{ℕ}

@@ -1,7 +1,7 @@
 -- Demand 3, in full: what holds over any series of calls from a fresh controller. Assumes nothing.
 use mathlib.Core.Path.{_≡_}
 use mathlib.Core.Bool.{Bool, true, false, _&&_}
-use mathlib.Core.List.{List, [], _∷_}
+use mathlib.Core.List.{List}
 use Prim.Native.Nat.{ℕ, _+_, _%_}
 use lib.IntN.{ℤ}
 use lib.ListN.{length}
