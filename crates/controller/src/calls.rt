@@ -80,7 +80,7 @@ impl Controller {
     }
 
     // Puts count and total to 0 in Ready (R3).
-    pub fn reset(self) -> ResetTo
+    pub fn reset(mut self) -> ResetTo
         requires { ⌜ Sound self ⌝ }
         ensures { λ r. ⌜ Resets self r ⌝ }
     {
@@ -91,10 +91,9 @@ impl Controller {
             };
         }
         let none = Counters { count: 0, total: 0 };
-        let mut next = self;
-        next.counters = none;
+        self.counters = none;
         ResetTo {
-            next,
+            next: self,
             answer: ResetAnswer::Done,
         }
     }
@@ -107,13 +106,12 @@ impl Controller {
     }
 
     // Sets or clears the link start, at any time.
-    pub fn link(self, on: bool) -> Controller
+    pub fn link(mut self, on: bool) -> Controller
         requires { ⌜ Sound self ⌝ }
         ensures { λ r. ⌜ Made (linkOf self on) r ⌝ }
     {
-        let mut next = self;
-        next.link = on;
-        next
+        self.link = on;
+        self
     }
 }
 

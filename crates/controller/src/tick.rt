@@ -166,12 +166,11 @@ fn step7(c: Controller, start: bool) -> Ticked
     requires { ⌜ Weighs c (c .z) ⌝ }
     ensures { λ r. ⌜ Gives (step7 c start) r ⌝ }
 {
-    let set = c.set;
     let f = c.f;
     let z = c.z;
     let phase = c.phase;
     let w = weight(f, z);
-    let stable = stable_of(set, c.s);
+    let stable = stable_of(c.set, c.s);
     let seen = Seen {
         f,
         z,
@@ -179,7 +178,7 @@ fn step7(c: Controller, start: bool) -> Ticked
         start,
         stable,
     };
-    step8(c, dosing::step(set, phase, seen))
+    step8(c, dosing::step(c.set, phase, seen))
 }
 
 // The byte's bit of that worth is on.

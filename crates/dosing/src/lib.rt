@@ -1,7 +1,7 @@
 // The phase rules of AL0 to AL3 as one step: no samples, no counters.
 use settings::Settings;
 ghost use mathlib.Core.Path.{_≡_};
-ghost use mathlib.Core.Bool.{true, false, not, _&&_};
+ghost use mathlib.Core.Bool.{true, false};
 ghost use Prim.Native.Nat.{_+_, _-_};
 ghost use lib.Dec.{eqb};
 ghost use lib.IntN.{pos, negℤ, _-ℤ_};
