@@ -29,9 +29,9 @@ ghost use Rattle.controller.specs.Says.{saysSet, Sets, Resets, Restarts}
 ghost use Rattle.controller.specs.Made.{Made};
 
 impl Controller {
-    // The greatest stored count and total.
+    // The greatest stored count.
     pub const COUNT_MOST: u32 = 999999;
-
+    // The greatest stored total.
     pub const TOTAL_MOST: u32 = 999999999;
 
     // A restart with both at 0 and the default set.

@@ -35,9 +35,9 @@ impl Controller {
     pub const SAMPLE_MOST: i32 = 900000;
     // Output 4 is on where w is above C and this.
     pub const OVER_CAPACITY: u32 = 9;
-    // The count and the total begin again at 0 here.
+    // The count begins again at 0 here.
     pub const COUNT_WRAP: u32 = 1000000;
-
+    // The total begins again at 0 here.
     pub const TOTAL_WRAP: u32 = 1000000000;
     // The cap of the calm run S.
     pub const CALM_MOST: u32 = 4032;
