@@ -1,6 +1,6 @@
 -- Laws that the proofs of the code cite. Assumes nothing.
 use mathlib.Core.Path.{_≡_, refl, sym}
-use mathlib.Core.Bool.{Bool, true, false, not, xor}
+use mathlib.Core.Bool.{Bool, true, false, not, xor, Bool·beq, _&&_, _||_}
 use mathlib.Core.List.{List, [], _∷_}
 use Prim.Native.Nat.{ℕ, zero, suc, _+_, _^_, _≤_, _<_}
 use native.Mathlib.Omega.{arith}
@@ -12,22 +12,37 @@ use mir.Syntax.{w32}
 use mir.Val.{toZ, ofZ, SFits}
 use mir.Facts.{toZ-ofZ, toZ-pos}
 use borrow.Author.Tests.{ne-eqb}
-use Rattle.laws.specs.Pick.{pick-all}
+use Rattle.laws.specs.Pick.{pick, pick-all}
 use Rattle.laws.specs.Whole.{abs-sub, fits32}
 use Rattle.settings.specs.declared.Settings.{Settings}
 use Rattle.settings.specs.Ranges.{Ranges}
-use Rattle.controller.specs.Tick.{worth, overCapacity, equalZ, outside, none}
+use Rattle.controller.specs.Tick.{worth, overCapacity, expected, equalZ, outside, none}
 
--- a difference of two tests, by the first
-pub xor-t : (b : Bool) → not b ≡ xor true b
-unfolding xor
-xor-t true = refl
-xor-t false = refl
+-- the expected input is whether level 1 and the output are alike
+alike : (b output : Bool) → pick b output (not output) ≡ Bool·beq b output
+unfolding pick
+alike true true = refl
+alike true false = refl
+alike false true = refl
+alike false false = refl
 
-pub xor-f : (b : Bool) → b ≡ xor false b
-unfolding xor
-xor-f true = refl
-xor-f false = refl
+pub mismatch : (level : ℕ) (output on : Bool) → xor on (expected level output) ≡ not (Bool·beq on (Bool·beq (eqb level 1) output))
+unfolding xor expected
+mismatch level output on = rw (alike (eqb level 1) output)
+
+-- C0 alone is asked more
+pub asked-more : {A : Type 0} (b r : Bool) (x y : A) → pick b (pick r x y) x ≡ pick (not b || r) x y
+unfolding pick
+asked-more true true x y = refl
+asked-more true false x y = refl
+asked-more false r x y = refl
+
+-- S begins again at the first sample and where F is another
+pub calm-again : (first same : Bool) (n : ℕ) → pick first 0 (pick same n 0) ≡ pick (first || not same) 0 n
+unfolding pick
+calm-again true same n = refl
+calm-again false true n = refl
+calm-again false false n = refl
 
 -- an output is worth at most its bit
 pub worth-most : (on : Bool) (n : ℕ) → worth on n ≤ n
@@ -58,24 +73,14 @@ unfolding overCapacity
 over-is set r f = rw (toZ-ofZ f, pos-is (set .capacity + 9) (omega arith))
 
 -- two i32 compared both ways
-module _ {a b : ℤ} (fa : SFits w32 a) (fb : SFits w32 b) where
-  pub equal-then : leZ (toZ w32 (ofZ w32 a)) (toZ w32 (ofZ w32 b)) ≡ true → leZ (toZ w32 (ofZ w32 b)) (toZ w32 (ofZ w32 a)) ≡ equalZ a b
-  unfolding equalZ
-  equal-then h = let k = rw (toZ-ofZ fa, toZ-ofZ fb) at h in rw (toZ-ofZ fa, toZ-ofZ fb, k)
-
-  pub equal-else : leZ (toZ w32 (ofZ w32 a)) (toZ w32 (ofZ w32 b)) ≡ false → false ≡ equalZ a b
-  unfolding equalZ
-  equal-else h = let k = rw (toZ-ofZ fa, toZ-ofZ fb) at h in rw k
+pub equal-is : {a b : ℤ} → SFits w32 a → SFits w32 b → (leZ (toZ w32 (ofZ w32 a)) (toZ w32 (ofZ w32 b)) && leZ (toZ w32 (ofZ w32 b)) (toZ w32 (ofZ w32 a))) ≡ equalZ a b
+unfolding equalZ
+equal-is fa fb = rw (toZ-ofZ fa, toZ-ofZ fb)
 
 -- a sample's two limits
-module _ {x : ℤ} (fx : SFits w32 x) where
-  pub outside-then : ltZ (toZ w32 (ofZ w32 x)) (negsuc 899999) ≡ true → true ≡ outside x
-  unfolding outside
-  outside-then h = let k = rw (toZ-ofZ fx) at h in rw k
-
-  pub outside-else : ltZ (toZ w32 (ofZ w32 x)) (negsuc 899999) ≡ false → ltZ (pos 900000) (toZ w32 (ofZ w32 x)) ≡ outside x
-  unfolding outside
-  outside-else h = let k = rw (toZ-ofZ fx) at h in rw (toZ-ofZ fx, k)
+pub outside-is : {x : ℤ} → SFits w32 x → outside x ≡ (ltZ (toZ w32 (ofZ w32 x)) (negsuc 899999) || ltZ (pos 900000) (toZ w32 (ofZ w32 x)))
+unfolding outside
+outside-is fx = rw (toZ-ofZ fx)
 
 -- no sample is held
 pub none-held : (n : ℕ) (xs : List ℤ) → 0 < length xs → none (take n xs) ≡ eqb n 0

@@ -1,6 +1,6 @@
 -- A line request, put together from what its stages give. Assumes nothing.
 use mathlib.Core.Path.{_≡_, refl, sym, ap, subst, _∙_}
-use mathlib.Core.Bool.{Bool, true, false, _&&_}
+use mathlib.Core.Bool.{Bool, true, false, not, _&&_}
 use mathlib.Core.List.{List, [], _∷_, _++_}
 use Prim.Native.Nat.{ℕ, _+_, _-_, _≤_}
 use native.Mathlib.Omega.{arith}
@@ -41,7 +41,7 @@ use Rattle.message.specs.declared.Split.{Split}
 use Rattle.message.specs.declared.Split.the-variants as S
 use Rattle.message.specs.declared.Built.{Built}
 use Rattle.message.specs.declared.Built.the-variants as B
-use Rattle.dosing.specs.Rules.{units}
+use Rattle.dosing.specs.Rules.{units, nearZero}
 use Rattle.dosing.specs.declared.Units.{Units}
 use Rattle.controller.specs.Tick.{Result, still, none, stableOf, overCapacity}
 use Rattle.controller.specs.Calls.{isReady}
@@ -66,6 +66,13 @@ use Rattle.controller.proofs.Laws.{none-held}
 pub held-none : (w : Window) → length (w .samples) ≡ 128 → none (samplesOf w) ≡ eqb (w .held) 0
 unfolding samplesOf
 held-none w l = none-held (w .held) (w .samples) (omega arith)
+
+-- C0's test, by the samples held and F
+pub zeroable-by : (c : Controller) {near : Bool} {f : Units} → length (c .window .samples) ≡ 128
+    → f ≡ units (meanOf (take (c .set .p8) (samplesOf (c .window)))) → near ≡ nearZero (c .set) (f .v)
+    → zeroable c ≡ (leb (c .set .algorithm) 1 && not (eqb (c .window .held) 0) && near)
+unfolding zeroable filtered
+zeroable-by c l m h = rw (held-none (c .window) l, h, m)
 
 module _ (c : Controller) (n : ℕ) (s : Sound c) where
   -- while no sample is held

@@ -1,23 +1,19 @@
 -- Sizes of samples, means and weights, and what a Ready controller is. Assumes nothing.
 use mathlib.Core.Path.{_≡_, refl}
-use mathlib.Core.Bool.{Bool, true, false, _&&_, _||_}
+use mathlib.Core.Bool.{true, false}
 use mathlib.Core.List.{List, [], _∷_}
-use Prim.Native.Nat.{ℕ, zero, suc, _≤_, _<_}
+use Prim.Native.Nat.{ℕ, zero, suc, _≤_}
 use native.Mathlib.Omega.{arith}
-use lib.Dec.{leb}
-use lib.IntN.{ℤ, pos, negsuc, negℤ, natAbs, _-ℤ_}
+use lib.IntN.{ℤ, pos, negsuc, natAbs, _-ℤ_}
 use lib.ListN.{getD, take}
 use lib.Signed.{ltZ}
-use borrow.Author.Tests.{ltb-true, ltb-false, leb-true}
-use Rattle.laws.specs.Whole.{true-false, false-true, abs-sub}
+use borrow.Author.Tests.{ltb-false}
+use Rattle.laws.specs.Whole.{false-true, abs-sub}
+use Rattle.laws.specs.Bools.{or-left, or-right}
 use Rattle.window.specs.Mean.{meanOf}
 use Rattle.window.specs.Window.{samplesOf, pushOf}
 use Rattle.window.specs.Range.{Within}
 use Rattle.window.specs.Laws.{samples-push, within-cons, within-take, mean-within}
-use Rattle.settings.specs.declared.Settings.{Settings}
-use Rattle.settings.specs.Ranges.{Ranges}
-use Rattle.settings.specs.Good.{filling-level}
-use Rattle.dosing.specs.Rules.{nearZero}
 use Rattle.dosing.specs.declared.Phase.{Phase}
 use Rattle.dosing.specs.declared.Phase.the-variants.{Ready, Coarse, Fine, Hold, Settle, Discharge, Load, Calm, DoseCoarse, DoseFine, DoseSettle}
 use Rattle.controller.specs.Tick.{outside}
@@ -28,24 +24,6 @@ use Rattle.controller.specs.declared.Controller.{Controller}
 use Rattle.controller.specs.declared.Fault.{Fault}
 use Rattle.controller.specs.declared.Condition.{Condition}
 use Rattle.controller.specs.declared.Condition.the-variants.{Clear, Faulted}
-
--- ---- tests
-
-pub and-left : (a b : Bool) → (a && b) ≡ true → a ≡ true
-and-left true b h = refl
-and-left false b h = h
-
-pub and-right : (a b : Bool) → (a && b) ≡ true → b ≡ true
-and-right true b h = h
-and-right false b h = false-true h
-
-pub or-left : (a b : Bool) → (a || b) ≡ false → a ≡ false
-or-left true b h = h
-or-left false b h = refl
-
-pub or-right : (a b : Bool) → (a || b) ≡ false → b ≡ false
-or-right true b h = true-false h
-or-right false b h = h
 
 -- ---- samples and means
 
@@ -89,25 +67,6 @@ module _ (c : Controller) (s : Sound c) where
   -- weights stay within 924,998
   pub weight-within : (n : ℕ) → natAbs (filtered c n -ℤ c .z .v) ≤ 924998
   weight-within n = omega (arith, abs-sub (filtered c n) (c .z .v), filtered-within n, s .zero)
-
--- ---- a zero
-
-near-by-sign : (m : ℕ) (f : ℤ) → ltZ (negℤ (pos m)) f ≡ true → ltZ f (pos m) ≡ true → natAbs f < m
-near-by-sign m (pos n) a b = ltb-true n m b
-near-by-sign zero (negsuc n) a b = false-true a
-near-by-sign (suc m) (negsuc n) a b = omega (arith, ltb-true n m a)
-
--- -M < F < M
-pub near-below : (set : Settings) (f : ℤ) → nearZero set f ≡ true → natAbs f < set .level
-unfolding nearZero
-near-below set f h =
-    let low = ltZ (negℤ (pos (set .level))) f in
-    near-by-sign (set .level) f (and-left low _ h) (and-right low _ h)
-
--- M is at most 24,999 in AL0 and AL1
-pub near-most : (set : Settings) (f : ℤ) → Ranges set → leb (set .algorithm) 1 ≡ true → nearZero set f ≡ true → natAbs f ≤ 24998
-near-most set f r a h =
-    omega (arith, near-below set f h, filling-level set r (leb-true (set .algorithm) 1 a), r .capacity)
 
 -- ---- Ready
 

@@ -1,7 +1,6 @@
 -- Restart, settings, counter reset, counters and link start (document 01, "Settings and their ranges"). Assumes nothing.
-use mathlib.Core.Path.{_≡_, refl}
 use mathlib.Core.Bool.{Bool, true, false, _||_}
-use mathlib.Core.List.{List, [], _∷_}
+use mathlib.Core.List.{[]}
 use Prim.Native.Nat.{ℕ}
 use lib.Dec.{ltb}
 use lib.IntN.{pos}
@@ -15,7 +14,7 @@ use Rattle.dosing.specs.Rules.{units}
 use Rattle.dosing.specs.declared.Phase.{Phase}
 use Rattle.dosing.specs.declared.Phase.the-variants.{Ready, Coarse, Fine, Hold, Settle, Discharge, Load, Calm, DoseCoarse, DoseFine, DoseSettle}
 use Rattle.controller.specs.State.{counters, noRuns, restarted, withSet, withWindow, withZ, withF, withS, withRuns, withLink, withCounters}
-use Rattle.controller.specs.Tick.{Result, still}
+use Rattle.controller.specs.Tick.{Result}
 use Rattle.controller.specs.declared.Controller.{Controller}
 use Rattle.controller.specs.declared.Condition.{Condition}
 use Rattle.controller.specs.declared.Condition.the-variants.{Clear, Faulted}

@@ -8,8 +8,9 @@ use lib.Dec.{leb, ltb, eqb}
 use lib.IntN.{ℤ, pos, natAbs, _-ℤ_}
 use borrow.Author.Needs.{needs}
 use borrow.Author.Tests.{ltb-false}
-use Rattle.laws.specs.Pick.{pick, pick-all}
+use Rattle.laws.specs.Pick.{pick, pick-all, pick-if}
 use Rattle.laws.specs.Whole.{false-true}
+use Rattle.laws.specs.Bools.{and-left, and-right, or-left, or-right}
 use Rattle.paper.specs.Answer.{Answer, done, refused, fault}
 use Rattle.paper.specs.Numbers.{R3, R4, R15}
 use Rattle.settings.specs.declared.Settings.{Settings}
@@ -20,8 +21,7 @@ use Rattle.window.specs.Range.{Within}
 use Rattle.window.specs.Laws.{samples-empty, empty-length, within-nil}
 use Rattle.dosing.specs.Rules.{units, stepOf}
 use Rattle.dosing.specs.Gates.{gatesOf, belongs, Kept}
-use Rattle.dosing.specs.Ways.{pick-if}
-use Rattle.dosing.specs.Laws.{step-gates, step-belongs, step-zero, step-kept}
+use Rattle.dosing.specs.Laws.{near-most, step-gates, step-belongs, step-zero, step-kept}
 use Rattle.dosing.specs.declared.Phase.{Phase}
 use Rattle.dosing.specs.declared.Dose.{Dose}
 use Rattle.dosing.specs.declared.Dose.the-variants.{Nothing, Complete}
@@ -36,7 +36,7 @@ use Rattle.controller.specs.Sound.{Sound, Abandoned}
 use Rattle.controller.specs.Setters.{zero-sound, counters-sound}
 use Rattle.controller.specs.Ways.{tick-ways, clear-watched}
 use Rattle.paper.specs.AnswerLaws.{refused-done, on-done, passed, failed}
-use Rattle.controller.specs.Bounds.{and-left, and-right, or-left, or-right, within-at, near-most, clear-faulted, ready-is}
+use Rattle.controller.specs.Bounds.{within-at, clear-faulted, ready-is}
 use Rattle.controller.specs.declared.Controller.{Controller}
 use Rattle.controller.specs.declared.Counters.{Counters}
 use Rattle.controller.specs.declared.Condition.{Condition}

@@ -1,9 +1,8 @@
 -- Requests on the line (document 01, "On the line", R9, R6, R5, R7, R3, R4, R8). Assumes nothing.
-use mathlib.Core.Path.{_≡_, refl}
 use mathlib.Core.Bool.{Bool, true, false, not, _&&_, _||_}
 use mathlib.Core.List.{List, [], _∷_}
-use Prim.Native.Nat.{ℕ, _+_}
-use lib.Dec.{leb, ltb, eqb}
+use Prim.Native.Nat.{ℕ}
+use lib.Dec.{leb, eqb}
 use lib.IntN.{ℤ, pos, _-ℤ_}
 use lib.ListN.{length, take}
 use Rattle.laws.specs.Pick.{pick}
@@ -16,7 +15,7 @@ use Rattle.field.specs.declared.Weight.{Weight}
 use Rattle.field.specs.declared.Field.{Field}
 use Rattle.field.specs.Field.{fieldOf}
 use Rattle.frame.specs.Frame.{frame}
-use Rattle.frame.specs.Read.{Finished, readOf}
+use Rattle.frame.specs.Read.{readOf}
 use Rattle.message.specs.declared.Form.{Form}
 use Rattle.message.specs.declared.Form.the-variants.{Address, Serial}
 use Rattle.message.specs.declared.Parts.{Parts}

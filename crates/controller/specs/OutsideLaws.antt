@@ -1,6 +1,6 @@
 -- One tick seen from outside: what the phases keep is what was noted, and the doses that are counted and told of are the doses seen. Assumes nothing.
 use mathlib.Core.Path.{_≡_, refl, sym, ap, subst, _∙_}
-use mathlib.Core.Bool.{Bool, true, false, not, _&&_}
+use mathlib.Core.Bool.{Bool, true, false, not, _&&_, and-false, and-not-self, not-and-self}
 use mathlib.Core.List.{List, [], _∷_}
 use Prim.Native.Nat.{ℕ, _+_, _≤_}
 use native.Mathlib.Omega.{arith}
@@ -8,7 +8,7 @@ use lib.Dec.{leb, ltb, eqb}
 use lib.IntN.{ℤ, _-ℤ_, +ℤ-invr}
 use lib.ListN.{take}
 use borrow.Author.Tests.{eqb-true, lt-leb, ltb-true}
-use Rattle.laws.specs.Pick.{pick, pick-t, pick-f, pick-all}
+use Rattle.laws.specs.Pick.{pick, pick-t, pick-f, pick-all, pick-if}
 use Rattle.laws.specs.Whole.{false-true}
 use Rattle.paper.specs.Answer.{Answer, done, refused, fault}
 use Rattle.window.specs.Mean.{meanOf}
@@ -17,7 +17,7 @@ use Rattle.window.specs.Laws.{samples-push}
 use Rattle.settings.specs.declared.Settings.{Settings}
 use Rattle.dosing.specs.Rules.{complete, nearZero, zeroed, notBelowZero, amountOf, coarseStage, fineStage, dischargeOpens, doseCoarse, doseFine, stepOf}
 use Rattle.dosing.specs.Gates.{gatesOf, belongs}
-use Rattle.dosing.specs.Ways.{pick-if, on, coarse-ways, fine-ways, fill-ways, hold-ways, settle-ways, discharge-ways, load-ways, calm-ways, dose-coarse-ways, dose-fine-ways, dose-settle-ways, ready-ways}
+use Rattle.dosing.specs.Ways.{on, coarse-ways, fine-ways, fill-ways, hold-ways, settle-ways, discharge-ways, load-ways, calm-ways, dose-coarse-ways, dose-fine-ways, dose-settle-ways, ready-ways}
 use Rattle.dosing.specs.declared.Units.{Units}
 use Rattle.dosing.specs.declared.Phase.{Phase}
 use Rattle.dosing.specs.declared.Phase.the-variants.{Ready, Coarse, Fine, Hold, Settle, Discharge, Load, Calm, DoseCoarse, DoseFine, DoseSettle}
@@ -68,18 +68,6 @@ record Shown (c : Controller) (x : ℤ) (i : ℕ) (m : Noted) (r : Result Told) 
   weight : i ≤ 15 → clear (r .next .condition) ≡ true → wAt c x (r .next) ≡ r .next .f .v -ℤ r .next .z .v
 
 -- ---- tests
-
-and-false : (b : Bool) → (b && false) ≡ false
-and-false true = refl
-and-false false = refl
-
-and-not : (b : Bool) → (b && not b) ≡ false
-and-not true = refl
-and-not false = refl
-
-not-and : (b : Bool) → (not b && b) ≡ false
-not-and true = refl
-not-and false = refl
 
 one-low : (al : ℕ) → eqb al 1 ≡ true → leb 2 al ≡ false
 one-low al h = lt-leb 2 al (omega (arith, eqb-true al 1 h))
@@ -254,12 +242,12 @@ module _ (c : Controller) (x : ℤ) (i : ℕ) (m : Noted) where
   unfolding dosesSeen completes leavesSettle shuts3
   still-seen =
       pick-f _ _ _
-      (ap (λ (b : Bool). clear (c .condition) && b) (quiet (c .set .algorithm) _ _ (settles-not-ready (c .phase)) (and-not (c .gates .three)))
+      (ap (λ (b : Bool). clear (c .condition) && b) (quiet (c .set .algorithm) _ _ (settles-not-ready (c .phase)) (and-not-self (c .gates .three)))
       ∙ and-false (clear (c .condition)))
 
   still-noted : noted c c (wAt c x c) m ≡ m
   unfolding noted begins opens3 pick
-  still-noted = rw (and-not (atReady (c .phase)), not-and (c .gates .three))
+  still-noted = rw (and-not-self (atReady (c .phase)), not-and-self (c .gates .three))
 
   still-shown : (r : Answer Told) → Agrees (c .phase) m → Answers (c .counters) [] r → (i ≤ 15 → clear (c .condition) ≡ true → ⊥) → Shown c x i m (still c r)
   unfolding countedIn

@@ -7,8 +7,7 @@ use native.Mathlib.Omega.{arith}
 use lib.Dec.{leb, ltb, eqb}
 use lib.IntN.{ℤ, natAbs, _-ℤ_}
 use lib.ListN.{length}
-use borrow.Author.Tests.{le-leb}
-use Rattle.laws.specs.Pick.{pick, pick-all}
+use Rattle.laws.specs.Pick.{pick, pick-all, pick-if}
 use Rattle.laws.specs.Whole.{true-false}
 use Rattle.paper.specs.Answer.{Answer, done, refused, fault, onDone}
 use Rattle.paper.specs.Numbers.{R3, R15}
@@ -17,11 +16,10 @@ use Rattle.settings.specs.Table.{firstBad, defaultSet, default-good}
 use Rattle.settings.specs.Good.{good-ranges}
 use Rattle.window.specs.Window.{samplesOf}
 use Rattle.field.specs.Field.{writable}
-use Rattle.field.specs.declared.Weight.{Weight}
+use Rattle.field.specs.RoundTrip.{small-writable}
 use Rattle.dosing.specs.Rules.{shut, stepOf}
 use Rattle.dosing.specs.Gates.{gatesOf, fillingOpen, emptyingOpen}
-use Rattle.dosing.specs.Ways.{pick-if}
-use Rattle.dosing.specs.Laws.{ready-shut, never-both, over-unfilled, step-amount}
+use Rattle.dosing.specs.Laws.{ready-shut, shut-fills, never-both, over-unfilled, step-amount}
 use Rattle.dosing.specs.declared.Units.{Units}
 use Rattle.dosing.specs.declared.Phase.the-variants.{Ready}
 use Rattle.dosing.specs.declared.Dose.{Dose}
@@ -94,14 +92,10 @@ tick-recordable c x i t s =
 
 -- ---- weights
 
-writable-small : (v : Weight) → natAbs (v .value) ≤ 999999 → v .point ≤ 7 → writable v ≡ true
-unfolding writable
-writable-small v a b = rw (le-leb (natAbs (v .value)) 999999 a, le-leb (v .point) 7 b)
-
 weight-from : (c : Controller) (w : ℤ) (empty : Bool) → Sound c → natAbs w ≤ 924998 → writable (weightFrom empty c w) ≡ true
 unfolding weightFrom
-weight-from c w true s h = writable-small (weightFrom true c w) (omega arith) (omega (arith, good-ranges (c .set) (s .set) .point))
-weight-from c w false s h = writable-small (weightFrom false c w) (omega arith) (omega (arith, good-ranges (c .set) (s .set) .point))
+weight-from c w true s h = small-writable (weightFrom true c w) (omega arith) (omega (arith, good-ranges (c .set) (s .set) .point))
+weight-from c w false s h = small-writable (weightFrom false c w) (omega arith) (omega (arith, good-ranges (c .set) (s .set) .point))
 
 -- a reply's weight field is never refused
 pub weight-writable : (c : Controller) (n : ℕ) → Sound c → writable (weightBy c n) ≡ true
@@ -128,13 +122,9 @@ module _ (c : Controller) (s : Sound c) where
   pub never-together : (fillingOpen (c .set) (c .gates) && emptyingOpen (c .set) (c .gates)) ≡ false
   never-together = rw (s .gates) (never-both (c .set) (c .phase) (s .phase))
 
-shut-unfilled : (set : Settings) → fillingOpen set shut ≡ false
-unfolding fillingOpen
-shut-unfilled set = pick-all (λ (b : Bool). b ≡ false) _ refl refl
-
 -- in a fault no filling gate is open
 pub fault-unfilled : (c : Controller) (why : Fault) → Sound c → c .condition ≡ Faulted why → fillingOpen (c .set) (c .gates) ≡ false
-fault-unfilled c why s e = rw (fault-gates c s why e .0) (shut-unfilled (c .set))
+fault-unfilled c why s e = rw (fault-gates c s why e .0) (shut-fills (c .set))
 
 abbrev pub OverUnfilled : Controller → Type 0
 OverUnfilled c = overCapacity (c .set) (c .f .v -ℤ c .z .v) ≡ true → fillingOpen (c .set) (c .gates) ≡ false
@@ -148,7 +138,7 @@ pub tick-unfilled : (c : Controller) (x : ℤ) (i : ℕ) → Sound c → i ≤ 1
 unfolding faulted
 tick-unfilled c x i s h =
     tick-ways (λ (r : Result Told). OverUnfilled (r .next))
-    (λ why d sound e. shut-unfilled (d .set))
+    (λ why d sound e. shut-fills (d .set))
     c x i s
     (λ a. absurd (omega arith))
     (λ why k e. fault-unfilled c why s k)

@@ -1,21 +1,18 @@
 -- What the controller's answers say in the paper's words, and the contract of each call. Assumes nothing.
-use mathlib.Core.Path.{_≡_, refl, ap, ap₂}
-use mathlib.Core.Bool.{Bool, true, false}
+use mathlib.Core.Path.{_≡_}
 use mathlib.Core.List.{List, [], _∷_}
 use Prim.Native.Nat.{ℕ}
 use lib.IntN.{ℤ}
 use lib.ListN.{length}
-use Rattle.paper.specs.Answer.{Answer, done, refused, fault, told, leaves, same}
+use Rattle.paper.specs.Answer.{Answer, done, refused, told, leaves}
 use Rattle.paper.specs.Numbers.{R1, R2, R3, R4, R5, R6, R7, R8, R9, R15}
 use Rattle.settings.specs.declared.Settings.{Settings}
-use Rattle.controller.specs.Tick.{Result, Told, saysFault, tickOf}
+use Rattle.controller.specs.Tick.{Told, saysFault, tickOf}
 use Rattle.controller.specs.Calls.{restartOf, controllerIn, settingsOf, resetOf}
 use Rattle.controller.specs.Line.{Replied, requestOf}
 use Rattle.controller.specs.Sound.{Sound}
 use Rattle.controller.specs.declared.Controller.{Controller}
-use Rattle.controller.specs.declared.Record.{Record}
 use Rattle.controller.specs.declared.Fault.{Fault}
-use Rattle.controller.specs.declared.Fault.the-variants as F
 use Rattle.controller.specs.declared.TickAnswer.{TickAnswer}
 use Rattle.controller.specs.declared.TickAnswer.the-variants as T
 use Rattle.controller.specs.declared.Ticked.{Ticked}

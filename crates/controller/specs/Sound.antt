@@ -1,17 +1,15 @@
 -- What every controller from an accepted restart or an earlier call satisfies. Assumes nothing.
 use mathlib.Core.Path.{_≡_}
-use mathlib.Core.Bool.{Bool, true, false}
+use mathlib.Core.Bool.{Bool, true}
 use Prim.Native.Nat.{ℕ, _≤_}
-use lib.IntN.{ℤ, pos, natAbs}
+use lib.IntN.{pos, natAbs}
 use lib.ListN.{length, getD}
 use Rattle.paper.specs.Answer.{done}
 use Rattle.settings.specs.Table.{firstBad}
 use Rattle.window.specs.Window.{samplesOf}
-use Rattle.dosing.specs.Rules.{shut}
 use Rattle.dosing.specs.Gates.{gatesOf, belongs, Kept}
 use Rattle.dosing.specs.declared.Phase.{Phase}
 use Rattle.dosing.specs.declared.Phase.the-variants.{Ready}
-use Rattle.dosing.specs.declared.Gates.{Gates}
 use Rattle.controller.specs.declared.Controller.{Controller}
 use Rattle.controller.specs.declared.Runs.{Runs}
 use Rattle.controller.specs.declared.Condition.{Condition}

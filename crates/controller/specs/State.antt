@@ -1,6 +1,5 @@
 -- The controller's state: one setter a field, and the state of a restart. Assumes nothing.
-use mathlib.Core.Path.{_≡_, refl}
-use mathlib.Core.Bool.{Bool, true, false}
+use mathlib.Core.Bool.{Bool, false}
 use Prim.Native.Nat.{ℕ}
 use lib.IntN.{pos}
 use Rattle.settings.specs.declared.Settings.{Settings}
@@ -15,7 +14,7 @@ use Rattle.controller.specs.declared.Controller.{Controller}
 use Rattle.controller.specs.declared.Runs.{Runs}
 use Rattle.controller.specs.declared.Counters.{Counters}
 use Rattle.controller.specs.declared.Condition.{Condition}
-use Rattle.controller.specs.declared.Condition.the-variants.{Clear, Faulted}
+use Rattle.controller.specs.declared.Condition.the-variants.{Clear}
 
 abbrev pub counters : ℕ → ℕ → Counters
 counters count total = record { count = count; total = total }

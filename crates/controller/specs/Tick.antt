@@ -1,5 +1,4 @@
 -- One tick (document 01, "One tick"), step by step. Assumes nothing.
-use mathlib.Core.Path.{_≡_, refl}
 use mathlib.Core.Bool.{Bool, true, false, not, xor, _&&_, _||_}
 use mathlib.Core.List.{List, [], _∷_}
 use Prim.Native.Nat.{ℕ, _+_, _-_, _*_, _/_, _%_, _^_}
@@ -14,7 +13,6 @@ use Rattle.settings.specs.declared.Settings.{Settings}
 use Rattle.window.specs.Mean.{meanOf}
 use Rattle.window.specs.Window.{samplesOf, pushOf}
 use Rattle.dosing.specs.Rules.{units, shut, stepOf}
-use Rattle.dosing.specs.declared.Units.{Units}
 use Rattle.dosing.specs.declared.Gates.{Gates}
 use Rattle.dosing.specs.declared.Phase.the-variants.{Ready}
 use Rattle.dosing.specs.declared.Seen.{Seen}

@@ -8,7 +8,7 @@ use lib.Dec.{leb, ltb, eqb}
 use lib.IntN.{ℤ, natAbs}
 use lib.ListN.{take}
 use borrow.Author.Tests.{leb-false, ltb-true, ltb-false}
-use Rattle.laws.specs.Pick.{pick-all}
+use Rattle.laws.specs.Pick.{pick-all, pick-if}
 use Rattle.paper.specs.Answer.{refused}
 use Rattle.paper.specs.Numbers.{R1}
 use Rattle.window.specs.declared.Window.{Window}
@@ -16,7 +16,6 @@ use Rattle.window.specs.Mean.{meanOf}
 use Rattle.window.specs.Window.{samplesOf, pushOf}
 use Rattle.window.specs.Laws.{push-length}
 use Rattle.dosing.specs.Rules.{units}
-use Rattle.dosing.specs.Ways.{pick-if}
 use Rattle.controller.specs.State.{counters, withWindow, withF, withS, withRuns, withInputs}
 use Rattle.controller.specs.Tick.{Result, Told, still, faulted, saysFault, step7, runAfter, runsAfter, mismatched, steps6to8, filterOf, calmRun, startOf, steps4and5, outside, step3, step2, tickOf}
 use Rattle.controller.specs.Sound.{Sound, Watched}

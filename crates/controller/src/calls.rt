@@ -22,16 +22,16 @@ ghost use Rattle.laws.specs.Pick.{pick};
 ghost use Rattle.paper.specs.Answer.{refused};
 ghost use Rattle.paper.specs.Numbers.{R3};
 ghost use Rattle.settings.specs.Says.{says};
-ghost use Rattle.controller.specs.State.{noRuns, restarted};
-ghost use Rattle.controller.specs.Calls.{storedBad, freshOf, noController, taken, linkOf};
+ghost use Rattle.controller.specs.State.{restarted};
+ghost use Rattle.controller.specs.Calls.{freshOf, noController, taken, linkOf};
 ghost use Rattle.controller.specs.Sound.{Sound};
 ghost use Rattle.controller.specs.Says.{saysSet, Sets, Resets, Restarts};
 ghost use Rattle.controller.specs.Made.{Made};
 
 impl Controller {
-    // The greatest stored count and total.
+    // The greatest stored count.
     pub const COUNT_MOST: u32 = 999999;
-
+    // The greatest stored total.
     pub const TOTAL_MOST: u32 = 999999999;
 
     // A restart with both at 0 and the default set.
@@ -52,7 +52,7 @@ impl Controller {
                 answer: RestartAnswer::R2(row),
             };
         }
-        if stored_bad(count, total) {
+        if (Controller::COUNT_MOST < count) | (Controller::TOTAL_MOST < total) {
             return Restarted {
                 next: no_controller(),
                 answer: RestartAnswer::R15,
@@ -80,7 +80,7 @@ impl Controller {
     }
 
     // Puts count and total to 0 in Ready (R3).
-    pub fn reset(self) -> ResetTo
+    pub fn reset(mut self) -> ResetTo
         requires { ⌜ Sound self ⌝ }
         ensures { λ r. ⌜ Resets self r ⌝ }
     {
@@ -91,10 +91,9 @@ impl Controller {
             };
         }
         let none = Counters { count: 0, total: 0 };
-        let mut next = self;
-        next.counters = none;
+        self.counters = none;
         ResetTo {
-            next,
+            next: self,
             answer: ResetAnswer::Done,
         }
     }
@@ -107,13 +106,12 @@ impl Controller {
     }
 
     // Sets or clears the link start, at any time.
-    pub fn link(self, on: bool) -> Controller
+    pub fn link(mut self, on: bool) -> Controller
         requires { ⌜ Sound self ⌝ }
         ensures { λ r. ⌜ Made (linkOf self on) r ⌝ }
     {
-        let mut next = self;
-        next.link = on;
-        next
+        self.link = on;
+        self
     }
 }
 
@@ -134,16 +132,6 @@ fn in_ready(ready: bool, answer: SetAnswer) -> SetAnswer
     if ready { answer } else { SetAnswer::R3 }
 }
 
-// R15: the stored count or total is too great.
-fn stored_bad(count: u32, total: u32) -> bool
-    ensures { λ r. ⌜ r ≡ storedBad count total ⌝ }
-{
-    if Controller::COUNT_MOST < count {
-        return true;
-    }
-    Controller::TOTAL_MOST < total
-}
-
 // A controller in Ready with an empty filter, Z at 0, no fault, no link start and all outputs closed.
 fn restarted(set: Settings, count: u32, total: u32) -> Controller
     ensures { λ r. ⌜ r ≡ restarted set count total ⌝ }
@@ -154,7 +142,11 @@ fn restarted(set: Settings, count: u32, total: u32) -> Controller
         z: Units { v: 0 },
         f: Units { v: 0 },
         s: 0,
-        runs: no_runs(),
+        runs: Runs {
+            one: 0,
+            two: 0,
+            three: 0,
+        },
         phase: Phase::Ready,
         gates: Gates {
             one: false,
@@ -204,7 +196,11 @@ fn taken(set: Settings, mut c: Controller) -> Controller
 {
     let zero = Units { v: 0 };
     let emptied = Window::new();
-    let runs = no_runs();
+    let runs = Runs {
+        one: 0,
+        two: 0,
+        three: 0,
+    };
     c.set = set;
     c.window = emptied;
     c.z = zero;
@@ -212,15 +208,4 @@ fn taken(set: Settings, mut c: Controller) -> Controller
     c.s = 0;
     c.runs = runs;
     c
-}
-
-// No mismatch yet.
-fn no_runs() -> Runs
-    ensures { λ r. ⌜ r ≡ noRuns ⌝ }
-{
-    Runs {
-        one: 0,
-        two: 0,
-        three: 0,
-    }
 }

@@ -25,6 +25,7 @@ pub enum Fault {
     F21,
 }
 
+// No fault, or the fault that lasts until restart.
 pub enum Condition {
     Clear,
     Faulted(Fault),
@@ -37,11 +38,13 @@ pub struct Runs {
     pub three: u32,
 }
 
+// The number of doses, and the sum of their amounts.
 pub struct Counters {
     pub count: u32,
     pub total: u32,
 }
 
+// The box between two calls.
 pub struct Controller {
     pub set: Settings,
     // The samples held.
@@ -81,6 +84,7 @@ pub enum TickAnswer {
     R1,
 }
 
+// The controller after a tick, and the answer.
 pub struct Ticked {
     pub next: Controller,
     pub answer: TickAnswer,
@@ -93,6 +97,7 @@ pub enum SetAnswer {
     R2(u32),
 }
 
+// The controller after new settings, and the answer.
 pub struct SetTo {
     pub next: Controller,
     pub answer: SetAnswer,
@@ -104,6 +109,7 @@ pub enum ResetAnswer {
     R3,
 }
 
+// The controller after a counter reset, and the answer.
 pub struct ResetTo {
     pub next: Controller,
     pub answer: ResetAnswer,
@@ -134,6 +140,7 @@ pub enum RequestAnswer {
     R8(usize),
 }
 
+// The controller after a line request, and the answer.
 pub struct Requested {
     pub next: Controller,
     pub answer: RequestAnswer,
@@ -148,10 +155,10 @@ fn is_ready(c: Controller) -> bool
         return false;
     };
     let phase = c.phase;
-    let Phase::Ready = phase else {
-        return false;
-    };
-    true
+    match phase {
+        Phase::Ready => true,
+        _ => false,
+    }
 }
 
 // The mean of the last n samples.

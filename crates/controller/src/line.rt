@@ -26,7 +26,7 @@ ghost use Rattle.field.specs.Field.{writable, fieldOf};
 ghost use Rattle.frame.specs.Frame.{frame};
 ghost use Rattle.frame.specs.Says.{saysWrote};
 ghost use Rattle.message.specs.Message.{bodyOf};
-ghost use Rattle.controller.specs.Line.{ours, known, zeroable, weightBy, fieldBytes, replyData, zeroedBy};
+ghost use Rattle.controller.specs.Line.{ours, weightBy, fieldBytes, replyData, zeroedBy};
 ghost use Rattle.controller.specs.Sound.{Sound};
 ghost use Rattle.controller.specs.Says.{Replies};
 ghost use Rattle.controller.specs.Stages.{unreadOf, addressedBy, codedBy, timedBy, zeroingBy, Holds, Answers};
@@ -141,60 +141,29 @@ fn address_stage(set: Settings, parts: Parts) -> Addressed
     }
 }
 
-// C0, C2, C3, C4, C5.
-fn is_known(operation: u8) -> bool
-    ensures { λ r. ⌜ r ≡ known operation ⌝ }
-{
-    if operation == 0xC0 {
-        return true;
-    }
-    if operation < 0xC2 {
-        return false;
-    }
-    operation <= 0xC5
-}
-
-// R7: other operation code, or data present.
+// R7: other operation code than C0, C2, C3, C4, C5, or data present.
 fn code_stage(parts: Parts) -> Coded
     ensures { λ r. ⌜ r ≡ codedBy parts ⌝ }
 {
-    if !is_known(parts.operation) {
-        return Coded::R7;
+    let op = parts.operation;
+    let known = (op == 0xC0) | ((0xC2 <= op) & (op <= 0xC5));
+    if known & (parts.to <= parts.from) {
+        return Coded::Known;
     }
-    if parts.from < parts.to {
-        return Coded::R7;
-    }
-    Coded::Known
+    Coded::R7
 }
 
 // R3: C0 when not in Ready.
 fn ready_stage(c: Controller, operation: u8) -> Timed
     ensures { λ r. ⌜ r ≡ timedBy c operation ⌝ }
 {
-    if operation != 0xC0 {
-        return Timed::Allowed;
-    }
-    if is_ready(c) {
+    if (operation != 0xC0) | is_ready(c) {
         return Timed::Allowed;
     }
     Timed::R3
 }
 
-// C0 in AL0 or AL1, with a sample, and -M < F < M.
-fn zeroable(c: Controller) -> bool
-    requires { ⌜ Sound c ⌝ }
-    ensures { λ r. ⌜ r ≡ zeroable c ⌝ }
-{
-    if 1 < c.set.algorithm {
-        return false;
-    }
-    if c.window.held == 0 {
-        return false;
-    }
-    dosing::near_zero(c.set, mean_of(c.window, c.set.p8))
-}
-
-// R4: C0 where the zero cannot be taken.
+// R4: C0 in AL2 or AL3, with no sample, or without -M < F < M.
 fn zero_stage(c: Controller, operation: u8) -> Zeroing
     requires { ⌜ Sound c ⌝ }
     ensures { λ r. ⌜ r ≡ zeroingBy c operation ⌝ }
@@ -202,7 +171,8 @@ fn zero_stage(c: Controller, operation: u8) -> Zeroing
     if operation != 0xC0 {
         return Zeroing::Allowed;
     }
-    if zeroable(c) {
+    let near = dosing::near_zero(c.set, mean_of(c.window, c.set.p8));
+    if (c.set.algorithm <= 1) & (c.window.held != 0) & near {
         return Zeroing::Allowed;
     }
     Zeroing::R4

@@ -19,16 +19,13 @@ use dosing::Phase;
 use dosing::Seen;
 use dosing::Units;
 use settings::Settings;
-use window::Window;
 ghost use mathlib.Core.Path.{_≡_};
-ghost use mathlib.Core.Bool.{xor};
 ghost use Prim.Native.Nat.{_+_, _/_, _%_, _≤_, _<_};
 ghost use lib.Dec.{eqb};
 ghost use Rattle.laws.specs.Pick.{pick};
 ghost use Rattle.paper.specs.Answer.{done};
-ghost use Rattle.window.specs.Window.{pushOf};
 ghost use Rattle.controller.specs.State.{withInputs};
-ghost use Rattle.controller.specs.Tick.{faulted, changed, countersAfter, recordsOf, step8, step7, expected, runAfter, steps6to8, equalZ, steps4and5, outside, step3};
+ghost use Rattle.controller.specs.Tick.{faulted, changed, countersAfter, recordsOf, step8, step7, runAfter, steps6to8, steps4and5, step3};
 ghost use Rattle.controller.specs.Sound.{Sound};
 ghost use Rattle.controller.specs.Says.{Ticks, saysTick};
 ghost use Rattle.controller.specs.Parts.{Gives, Short, Weighs, Takes, runsBy, filterBy, startBy, calmBy};
@@ -38,9 +35,9 @@ impl Controller {
     pub const SAMPLE_MOST: i32 = 900000;
     // Output 4 is on where w is above C and this.
     pub const OVER_CAPACITY: u32 = 9;
-    // The count and the total begin again at 0 here.
+    // The count begins again at 0 here.
     pub const COUNT_WRAP: u32 = 1000000;
-
+    // The total begins again at 0 here.
     pub const TOTAL_WRAP: u32 = 1000000000;
     // The cap of the calm run S.
     pub const CALM_MOST: u32 = 4032;
@@ -91,31 +88,12 @@ fn faulted(why: Fault, c: Controller) -> Ticked
     }
 }
 
-// One of the two is on, and not the other.
-fn differ(a: bool, b: bool) -> bool
-    ensures { λ r. ⌜ r ≡ xor a b ⌝ }
-{
-    if a { !b } else { b }
-}
-
-// An output 1 to 3 changed.
-fn changed(a: Gates, b: Gates) -> bool
-    ensures { λ r. ⌜ r ≡ changed a b ⌝ }
-{
-    if differ(a.one, b.one) {
-        return true;
-    }
-    if differ(a.two, b.two) {
-        return true;
-    }
-    differ(a.three, b.three)
-}
-
 // If an output 1 to 3 changed, S becomes 0.
 fn calm_after(old: Gates, new: Gates, s: u32) -> u32
     ensures { λ r. ⌜ r ≡ pick (changed old new) 0 s ⌝ }
 {
-    if changed(old, new) { 0 } else { s }
+    let changed = (old.one != new.one) | (old.two != new.two) | (old.three != new.three);
+    if changed { 0 } else { s }
 }
 
 // n and more, beginning again at 0 where it reaches wrap.
@@ -188,12 +166,11 @@ fn step7(c: Controller, start: bool) -> Ticked
     requires { ⌜ Weighs c (c .z) ⌝ }
     ensures { λ r. ⌜ Gives (step7 c start) r ⌝ }
 {
-    let set = c.set;
     let f = c.f;
     let z = c.z;
     let phase = c.phase;
     let w = weight(f, z);
-    let stable = stable_of(set, c.s);
+    let stable = stable_of(c.set, c.s);
     let seen = Seen {
         f,
         z,
@@ -201,7 +178,7 @@ fn step7(c: Controller, start: bool) -> Ticked
         start,
         stable,
     };
-    step8(c, dosing::step(set, phase, seen))
+    step8(c, dosing::step(c.set, phase, seen))
 }
 
 // The byte's bit of that worth is on.
@@ -212,23 +189,13 @@ fn bit(byte: u8, worth: u8) -> bool
     byte / worth % 2 == 1
 }
 
-// The expected input equals the output at level 1 and its opposite at level 0.
-fn expected(level: u32, output: bool) -> bool
-    ensures { λ r. ⌜ r ≡ expected level output ⌝ }
-{
-    if level == 1 { output } else { !output }
-}
-
-// A mismatch adds 1 to the channel's run, a match puts it to 0.
+// A mismatch adds 1 to the channel's run, a match puts it to 0; expected is the output at level 1, its opposite at level 0.
 fn run_after(level: u32, output: bool, on: bool, run: u32) -> u32
     requires { ⌜ run ≤ 63 ⌝ }
     ensures { λ r. ⌜ r ≡ runAfter level output on run ⌝ }
 {
-    if differ(on, expected(level, output)) {
-        run + 1
-    } else {
-        0
-    }
+    let expected = (level == 1) == output;
+    if on != expected { run + 1 } else { 0 }
 }
 
 // The runs of channels 1 to 3, which move in AL1 to AL3.
@@ -272,23 +239,13 @@ fn filter_of(set: Settings, g: Gates) -> u32
     if g.one { set.p7 } else { set.p8 }
 }
 
-// The two weights are the same.
-fn equal(a: Units, b: Units) -> bool
-    ensures { λ r. ⌜ r ≡ equalZ (a .v) (b .v) ⌝ }
-{
-    let x = a.v;
-    let y = b.v;
-    if x <= y { y <= x } else { false }
-}
-
 // S grows by 1 up to its cap if F equals the previous F, else becomes 0; at the first sample it is 0.
 fn calm_run(first: bool, f: Units, previous: Units, s: u32) -> u32
     ensures { λ r. ⌜ r ≡ calmBy first f previous s ⌝ }
 {
-    if first {
-        return 0;
-    }
-    if !equal(f, previous) {
+    let now = f.v;
+    let before = previous.v;
+    if first | !((now <= before) & (before <= now)) {
         return 0;
     }
     if s < Controller::CALM_MOST {
@@ -301,21 +258,7 @@ fn calm_run(first: bool, f: Units, previous: Units, s: u32) -> u32
 fn start_of(set: Settings, link: bool, inputs: u8) -> bool
     ensures { λ r. ⌜ r ≡ startBy set link inputs ⌝ }
 {
-    if link {
-        return true;
-    }
-    if 3 <= set.algorithm {
-        return false;
-    }
-    bit(inputs, 8)
-}
-
-// The sample is kept.
-fn kept(window: Window, x: Units) -> Window
-    ensures { λ r. ⌜ r ≡ pushOf window (x .v) ⌝ }
-{
-    let v = x.v;
-    window.push(v)
+    link | (!(3 <= set.algorithm) & bit(inputs, 8))
 }
 
 // Steps 4 and 5, and those after: the sample and the inputs are kept, F, start and S.
@@ -323,7 +266,8 @@ fn steps4and5(mut c: Controller, x: Units, inputs: u8) -> Ticked
     requires { ⌜ Takes c x ⌝ }
     ensures { λ r. ⌜ Gives (steps4and5 (withInputs inputs c) (x .v)) r ⌝ }
 {
-    let window = kept(c.window, x);
+    let sample = x.v;
+    let window = c.window.push(sample);
     let f = mean_of(window, filter_of(c.set, c.gates));
     let s = calm_run(c.window.held == 0, f, c.f, c.s);
     let start = start_of(c.set, c.link, inputs);
@@ -333,24 +277,13 @@ fn steps4and5(mut c: Controller, x: Units, inputs: u8) -> Ticked
     steps6to8(c, start, s)
 }
 
-// The sample is outside -900,000..900,000.
-fn outside(x: Units) -> bool
-    ensures { λ r. ⌜ r ≡ outside (x .v) ⌝ }
-{
-    let v = x.v;
-    if v < 0 - Controller::SAMPLE_MOST {
-        true
-    } else {
-        Controller::SAMPLE_MOST < v
-    }
-}
-
-// Step 3, and those after: the inputs are kept; a sample outside is F21 and is not kept.
+// Step 3, and those after: the inputs are kept; a sample outside -900,000..900,000 is F21 and is not kept.
 fn step3(mut c: Controller, x: Units, inputs: u8) -> Ticked
     requires { ⌜ Sound c × (c .condition ≡ Condition.Clear) ⌝ }
     ensures { λ r. ⌜ Gives (step3 c (x .v) inputs) r ⌝ }
 {
-    if outside(x) {
+    let v = x.v;
+    if (v < 0 - Controller::SAMPLE_MOST) | (Controller::SAMPLE_MOST < v) {
         c.inputs = inputs;
         return faulted(Fault::F21, c);
     }

@@ -1,6 +1,6 @@
 -- Which gates fill and which empty, the outputs of each phase, and the phases of each algorithm (document 01, "One tick"). Assumes nothing.
 use mathlib.Core.Bool.{Bool, true, false, _||_}
-use Prim.Native.Nat.{ℕ, suc, _≤_}
+use Prim.Native.Nat.{ℕ, _≤_}
 use lib.Dec.{leb, eqb}
 use lib.IntN.{ℤ, _+ℤ_, natAbs}
 use Rattle.laws.specs.Pick.{pick}

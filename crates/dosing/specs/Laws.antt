@@ -1,20 +1,22 @@
 -- What every step keeps, which the controller and the series rest on: the gates follow the phase, the phase is one of the algorithm's, no filling gate is open with an emptying one or above the capacity, and every weight kept is one of the scale's. Assumes nothing.
 use mathlib.Core.Path.{_≡_, refl, sym, ap, _∙_}
-use mathlib.Core.Bool.{Bool, true, false, _&&_, _||_}
-use Prim.Native.Nat.{ℕ, zero, suc, _+_, _*_, _/_, _≤_, _<_}
+use mathlib.Core.Bool.{Bool, true, false, _&&_, _||_, and-false}
+use Prim.Native.Nat.{ℕ, zero, suc, _+_, _*_, _≤_, _<_}
 use native.Mathlib.Omega.{arith}
 use lib.Dec.{leb, ltb, eqb}
 use lib.IntN.{ℤ, pos, negsuc, negℤ, natAbs, _+ℤ_, _-ℤ_, +ℤ-idl, +ℤ-invr, +ℤ-assoc, +ℤ-comm, negℤ-+ℤ, -ℤ-+ℤ-cancel}
 use lib.Signed.{ltZ, leZ}
 use borrow.Author.Tests.{leb-true, leb-false, ltb-true, eqb-true, eqb-false, le-leb, lt-leb, eq-eqb}
-use Rattle.laws.specs.Pick.{pick, pick-t, pick-f, pick-all, pick-same}
-use Rattle.laws.specs.Whole.{abs-sub, true-false, false-true}
+use Rattle.laws.specs.Pick.{pick, pick-t, pick-f, pick-all, pick-if, pick-same}
+use Rattle.laws.specs.Bools.{and-left, and-right, or-right}
+use Rattle.laws.specs.Whole.{abs-sub, false-true}
 use Rattle.settings.specs.declared.Settings.{Settings}
 use Rattle.settings.specs.Table.{Wf, mostLevel}
 use Rattle.settings.specs.Ranges.{Ranges}
+use Rattle.settings.specs.Good.{filling-level}
 use Rattle.dosing.specs.Rules.{shut, complete, reachedWf, notBelowZero, nearZero, zeroed, coarseStage, doseCoarse, settleEnds, dischargeOpens, amountOf, stepOf}
 use Rattle.dosing.specs.Gates.{fillingOpen, emptyingOpen, gatesOf, belongs, Scaled, Kept}
-use Rattle.dosing.specs.Ways.{pick-if, on, coarse-ways, fine-ways, fill-ways, hold-ways, settle-ways, discharge-ways, load-ways, calm-ways, dose-coarse-ways, dose-fine-ways, dose-settle-ways, ready-ways}
+use Rattle.dosing.specs.Ways.{on, coarse-ways, fine-ways, fill-ways, hold-ways, settle-ways, discharge-ways, load-ways, calm-ways, dose-coarse-ways, dose-fine-ways, dose-settle-ways, ready-ways}
 use Rattle.dosing.specs.declared.Units.{Units}
 use Rattle.dosing.specs.declared.Gates.{Gates}
 use Rattle.dosing.specs.declared.Phase.{Phase}
@@ -119,32 +121,22 @@ zero-ways Q set (DoseSettle wH n) t h k = dose-settle-ways (λ m. Q (m .z)) set 
 pub zero-stays : (set : Settings) (p : Phase) (t : Seen) → (p ≡ Ready → ⊥) → stepOf set p t .z ≡ t .z
 zero-stays set p t h = zero-ways (λ (z : Units). z ≡ t .z) set p t refl (λ e low. absurd (h e))
 
-and-left : (a b : Bool) → (a && b) ≡ true → a ≡ true
-and-left true b h = refl
-and-left false b h = h
-
-and-then : (a b : Bool) → (a && b) ≡ true → b ≡ true
-and-then true b h = h
-and-then false b h = false-true h
-
--- -M < F < M
 near-size : (m : ℕ) (f : ℤ) → (ltZ (negℤ (pos m)) f && ltZ f (pos m)) ≡ true → natAbs f < m
-near-size m (pos n) h = ltb-true n m (and-then (ltZ (negℤ (pos m)) (pos n)) (ltb n m) h)
+near-size m (pos n) h = ltb-true n m (and-right (ltZ (negℤ (pos m)) (pos n)) (ltb n m) h)
 near-size zero (negsuc n) h = false-true h
 near-size (suc m) (negsuc n) h = omega (arith, ltb-true n m (and-left (ltb n m) true h))
 
--- AL0 and AL1: M is at most C/4, which is at most 24,999
-low-level : (set : Settings) → Ranges set → leb (set .algorithm) 1 ≡ true → set .level ≤ 24999
-unfolding mostLevel
-low-level set r low =
-    let most : mostLevel set ≡ set .capacity / 4 = pick-t _ _ _ low in
-    omega (arith, r .level .1, r .capacity .1)
+-- where -M < F < M in AL0 and AL1, F is within 24,998: M is at most C/4
+pub near-most : (set : Settings) (f : ℤ) → Ranges set → leb (set .algorithm) 1 ≡ true → nearZero set f ≡ true → natAbs f ≤ 24998
+unfolding nearZero
+near-most set f r low h =
+    omega (arith, near-size (set .level) f h, filling-level set r (leb-true (set .algorithm) 1 low), r .capacity)
 
 zeroed-size : (set : Settings) (t : Seen) → Ranges set → leb (set .algorithm) 1 ≡ true → natAbs (t .z .v) ≤ 24998 → natAbs (zeroed set t .z .v) ≤ 24998
-unfolding zeroed nearZero
+unfolding zeroed
 zeroed-size set t r low h =
     pick-if (λ (u : Seen). natAbs (u .z .v) ≤ 24998) (nearZero set (t .f .v))
-    (λ e. omega (arith, near-size (set .level) (t .f .v) e, low-level set r low)) (λ e. h)
+    (λ e. near-most set (t .f .v) r low e) (λ e. h)
 
 -- a zero within 24,998 stays so
 pub step-zero : (set : Settings) (p : Phase) (t : Seen) → Ranges set → natAbs (t .z .v) ≤ 24998 → natAbs (stepOf set p t .z .v) ≤ 24998
@@ -233,10 +225,6 @@ no-dose set p t e h = step-stays set p t h .dose e
 
 -- filling and emptying
 
-and-right : (a : Bool) → (a && false) ≡ false
-and-right true = refl
-and-right false = refl
-
 module _ (set : Settings) (g : Gates) where
   fill-low : leb (set .algorithm) 1 ≡ true → fillingOpen set g ≡ (g .one || g .two)
   unfolding fillingOpen
@@ -258,9 +246,9 @@ module _ (set : Settings) (g : Gates) where
   unfilled e = ap (λ (b : Bool). b && emptyingOpen set g) e
 
   unemptied : emptyingOpen set g ≡ false → (fillingOpen set g && emptyingOpen set g) ≡ false
-  unemptied e = ap (λ (b : Bool). fillingOpen set g && b) e ∙ and-right (fillingOpen set g)
+  unemptied e = ap (λ (b : Bool). fillingOpen set g && b) e ∙ and-false (fillingOpen set g)
 
-shut-fills : (set : Settings) → fillingOpen set shut ≡ false
+pub shut-fills : (set : Settings) → fillingOpen set shut ≡ false
 unfolding fillingOpen
 shut-fills set = pick-same _ false
 
@@ -382,10 +370,6 @@ over-unfilled set p t r b net over = decide (fillingOpen set (stepOf set p t .ga
     decide false h = refl
 
 -- what a phase keeps, and the amount
-
-or-right : (a b : Bool) → (a || b) ≡ false → b ≡ false
-or-right true b h = true-false h
-or-right false b h = h
 
 -- where Settle goes on, the tick's number is below 256*p9
 pub settle-later : (set : Settings) (n : ℕ) (stable : Bool) → settleEnds set n stable ≡ false → n < 256 * set .p9

@@ -1,11 +1,11 @@
 -- The ways a rule can go: what each outcome has, the rule has. Assumes nothing.
-use mathlib.Core.Path.{_≡_, refl}
+use mathlib.Core.Path.{_≡_}
 use mathlib.Core.Bool.{Bool, true, false}
 use Prim.Native.Nat.{ℕ}
 use lib.Dec.{leb, eqb}
 use lib.IntN.{pos, _-ℤ_}
 use lib.Signed.{ltZ, leZ}
-use Rattle.laws.specs.Pick.{pick, pick-all}
+use Rattle.laws.specs.Pick.{pick-all, pick-if}
 use Rattle.settings.specs.declared.Settings.{Settings}
 use Rattle.dosing.specs.Rules.{shut, to, complete, reachedWf, notBelowZero, zeroed, full, coarseStage, fineStage, fillBegins, readyToFill, fill, hold, settleEnds, dischargeOpens, settle, amountOf, discharge, load, calm, doseCoarse, doseFine, doseSettle, readyToDose, ready}
 use Rattle.dosing.specs.Gates.{gatesOf}
@@ -14,12 +14,6 @@ use Rattle.dosing.specs.declared.Phase.{Phase}
 use Rattle.dosing.specs.declared.Phase.the-variants.{Ready, Coarse, Fine, Hold, Settle, Discharge, Load, Calm, DoseCoarse, DoseFine, DoseSettle}
 use Rattle.dosing.specs.declared.Seen.{Seen}
 use Rattle.dosing.specs.declared.Moved.{Moved}
-
--- what each has where the test picks it, the one picked has
-pub pick-if : {A : Type 0} (P : A → Type 0) (b : Bool) {x y : A} → (b ≡ true → P x) → (b ≡ false → P y) → P (pick b x y)
-unfolding pick
-pick-if P true p q = p refl
-pick-if P false p q = q refl
 
 -- a phase follows, with its outputs and no dose
 abbrev pub on : Settings → Phase → Seen → Moved

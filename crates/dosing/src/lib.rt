@@ -1,12 +1,12 @@
 // The phase rules of AL0 to AL3 as one step: no samples, no counters.
 use settings::Settings;
 ghost use mathlib.Core.Path.{_≡_};
-ghost use mathlib.Core.Bool.{true, false, not, _&&_};
+ghost use mathlib.Core.Bool.{true, false};
 ghost use Prim.Native.Nat.{_+_, _-_};
 ghost use lib.Dec.{eqb};
 ghost use lib.IntN.{pos, negℤ, _-ℤ_};
 ghost use lib.Signed.{ltZ, leZ};
-ghost use Rattle.dosing.specs.Rules.{gates, shut, to, complete, reachedWf, reachedWc, notBelowZero, nearZero, zeroed, full, coarseStage, fineStage, fillBegins, readyToFill, fill, hold, settleEnds, dischargeOpens, settle, amountOf, discharge, load, calm, doseCoarse, doseFine, doseSettle, readyToDose, waits, ready, stepOf};
+ghost use Rattle.dosing.specs.Rules.{gates, shut, to, complete, reachedWf, reachedWc, notBelowZero, nearZero, zeroed, full, coarseStage, fineStage, readyToFill, fill, hold, settleEnds, dischargeOpens, settle, amountOf, discharge, load, calm, doseCoarse, doseFine, doseSettle, readyToDose, ready, stepOf};
 ghost use Rattle.dosing.specs.declared.Phase.the-variants.{Coarse, Fine, Load, DoseCoarse, DoseFine};
 
 // A weight in display units.
@@ -149,10 +149,7 @@ pub fn near_zero(set: Settings, f: Units) -> bool
     ensures { λ r. ⌜ r ≡ nearZero set (f .v) ⌝ }
 {
     let x = widened(f);
-    if above_minus(x, set.level) {
-        return below(x, set.level);
-    }
-    false
+    above_minus(x, set.level) & below(x, set.level)
 }
 
 // Outputs 1, 2 and 3: open or shut.
@@ -296,35 +293,22 @@ fn fine_stage(set: Settings, w0: Units, t: Seen) -> Moved
     fine_filling(w0, t)
 }
 
-// w0 = w; go on at once as Fill, coarse stage.
-fn fill_begins(set: Settings, t: Seen) -> Moved
-    ensures { λ r. ⌜ r ≡ fillBegins set t ⌝ }
-{
-    coarse_stage(set, t.w, t)
-}
-
-// AL0 and AL1, Ready: on start the zero, w0, Fill.
+// AL0 and AL1, Ready: on start the zero, w0 = w; go on at once as Fill, coarse stage.
 fn ready_to_fill(set: Settings, t: Seen) -> Moved
     ensures { λ r. ⌜ r ≡ readyToFill set t ⌝ }
 {
     if t.start {
-        return fill_begins(set, zeroed(set, t));
+        let begun = zeroed(set, t);
+        return coarse_stage(set, begun.w, begun);
     }
     rests(Phase::Ready, t)
-}
-
-// AL0: start is off.
-fn fill_stops(set: Settings, t: Seen) -> bool
-    ensures { λ r. ⌜ r ≡ (eqb (set .algorithm) 0 && not (t .start)) ⌝ }
-{
-    if set.algorithm == 0 { !t.start } else { false }
 }
 
 // AL0: start off during Fill closes both, Ready; this is looked at before the weight.
 fn fill(set: Settings, t: Seen, stage: Moved) -> Moved
     ensures { λ r. ⌜ r ≡ fill set t stage ⌝ }
 {
-    if fill_stops(set, t) {
+    if (set.algorithm == 0) & !t.start {
         return rests(Phase::Ready, t);
     }
     stage
@@ -345,11 +329,8 @@ fn settle_ends(set: Settings, n: u64, stable: bool) -> bool
     ensures { λ r. ⌜ r ≡ settleEnds set (n + 1) stable ⌝ }
 {
     let last = 256 * (set.p9 as u64);
-    if stable {
-        return true;
-    }
     if n < last {
-        return last <= n + 1;
+        return stable | (last <= n + 1);
     }
     true
 }
@@ -471,21 +452,14 @@ fn ready_to_dose(set: Settings, t: Seen) -> Moved
     rests(Phase::Ready, t)
 }
 
-// AL3: in Ready nothing happens without start.
-fn waits(set: Settings, t: Seen) -> bool
-    ensures { λ r. ⌜ r ≡ waits set t ⌝ }
-{
-    if 3 <= set.algorithm { !t.start } else { false }
-}
-
-// Ready, in each algorithm.
+// Ready, in each algorithm; in AL3 nothing happens without start.
 fn ready(set: Settings, t: Seen) -> Moved
     ensures { λ r. ⌜ r ≡ ready set t ⌝ }
 {
     if set.algorithm <= 1 {
         return ready_to_fill(set, t);
     }
-    if waits(set, t) {
+    if (3 <= set.algorithm) & !t.start {
         return rests(Phase::Ready, t);
     }
     ready_to_dose(set, t)

@@ -10,10 +10,10 @@ use lib.ListN.{length, getD, take, drop, set, drop-of-length-le}
 use lib.Seq.{drop-cons, take-suc-set, getD-drop}
 use borrow.Author.Tests.{eq-eqb, ne-eqb, leb-true}
 use Rattle.laws.specs.Pick.{pick-t, pick-f}
+use Rattle.laws.specs.Bools.{and-left, and-right}
 use Rattle.laws.specs.Whole.{false-true}
 use Rattle.laws.specs.Decimal.{Parsed, good, bad, isDigit}
 use Rattle.text.specs.Scan.{TAB, onGood}
-use Rattle.controller.specs.Bounds.{and-left, and-right}
 use Rattle.script.specs.Call.{isHex, hexValue, bytesAt}
 use Rattle.script.specs.Reading.{on-on, on-same, on-id}
 

@@ -6,10 +6,10 @@ use Prim.Native.Nat.{ℕ, _≤_}
 use lib.Dec.{ltb}
 use lib.IntN.{ℤ}
 use borrow.Author.Tests.{ltb-false}
+use Rattle.laws.specs.Pick.{pick-if}
 use Rattle.laws.specs.Whole.{true-false, false-true}
 use Rattle.settings.specs.declared.Settings.{Settings}
 use Rattle.dosing.specs.Gates.{fillingOpen}
-use Rattle.dosing.specs.Ways.{pick-if}
 use Rattle.controller.specs.declared.Controller.{Controller}
 use Rattle.controller.specs.declared.Condition.{Condition}
 use Rattle.controller.specs.declared.Condition.the-variants.{Clear, Faulted}

@@ -1,14 +1,11 @@
 use borrow.Author.Needs.{needs}
-use Rattle.laws.specs.Pick.{picks, so}
-use Rattle.dosing.specs.Rules.{ready}
+use Rattle.laws.specs.Pick.{picks}
+use Rattle.dosing.specs.Rules.{waits, ready}
 use Rattle.dosing.proofs.ready.Tie as tie
 use Rattle.dosing.proofs.ready.Statement.{statement}
 
 ready-to-fill-requires : tie.Need-ready-to-fill-requires
 ready-to-fill-requires c κs = search needs
-
-waits-requires : tie.Need-waits-requires
-waits-requires c κs = search needs
 
 rests-requires : tie.Need-rests-requires
 rests-requires c κs = search needs
@@ -21,14 +18,12 @@ unfolding ready
 returns c = search (picks, c .ready-to-fill .ensures)
 
 returns-2 : tie.Need-returns-2
-unfolding ready
-returns-2 c = search (picks, c .rests .ensures, so (c .before .before .waits .ensures) (c .before .if2 .taken))
+unfolding ready waits
+returns-2 c = search (picks, c .rests .ensures)
 
 returns-3 : tie.Need-returns-3
-unfolding ready
-returns-3 c = search (picks, c .ready-to-dose .ensures, so (c .before .before .waits .ensures) (c .before .if2 .left))
+unfolding ready waits
+returns-3 c = search (picks, c .ready-to-dose .ensures)
 
 pub ready-spec : {M : Type 1} → statement M
-ready-spec =
-    tie.close
-    (tie.spec ready-to-fill-requires returns waits-requires rests-requires returns-2 ready-to-dose-requires returns-3)
+ready-spec = tie.close (tie.spec ready-to-fill-requires returns rests-requires returns-2 ready-to-dose-requires returns-3)

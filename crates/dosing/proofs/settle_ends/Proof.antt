@@ -1,3 +1,5 @@
+use mathlib.Core.Path.{refl, sym}
+use mathlib.Core.Bool.{or-true}
 use Prim.Native.Nat.{_+_, _*_}
 use native.Mathlib.Omega.{arith}
 use borrow.Author.Tests.{le-leb}
@@ -17,15 +19,13 @@ add-result c = search needs
 
 returns : tie.Need-returns
 unfolding settleEnds
-returns c = simp (c .if1 .taken)
+returns c = refl
 
 returns-2 : tie.Need-returns-2
 unfolding settleEnds
-returns-2 c = simp (c .before .if1 .left)
-
-returns-3 : tie.Need-returns-3
-unfolding settleEnds
-returns-3 c = let a = c .before .before .before .args in simp (c .before .if1 .left, le-leb (256 * a .set .p9) (a .n + 1) (omega arith))
+returns-2 c =
+    let a = c .before .before .args in
+    rw (le-leb (256 * a .set .p9) (a .n + 1) (omega arith)) (sym (or-true (a .stable)))
 
 pub settle-ends-spec : {M : Type 1} → statement M
-settle-ends-spec = tie.close (tie.spec cast-last mul-last returns add-result returns-2 returns-3)
+settle-ends-spec = tie.close (tie.spec cast-last mul-last add-result returns returns-2)

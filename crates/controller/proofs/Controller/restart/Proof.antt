@@ -1,9 +1,9 @@
 use mathlib.Core.Path.{sym, ap, _∙_}
 use borrow.Author.Needs.{needs}
-use Rattle.laws.specs.Pick.{pick, so}
+use Rattle.laws.specs.Pick.{pick}
 use Rattle.paper.specs.Answer.{onDone, told}
 use Rattle.settings.specs.Says.{says}
-use Rattle.controller.specs.Calls.{restartOf, controllerIn}
+use Rattle.controller.specs.Calls.{storedBad, restartOf, controllerIn}
 use Rattle.controller.proofs.Contracts.{restarts}
 use Rattle.controller.proofs.Controller.restart.Statement.{statement}
 use Rattle.controller.proofs.Controller.restart.Tie as tie
@@ -28,31 +28,28 @@ returns c =
 enum-told : tie.Need-enum-told
 enum-told c = search needs
 
-stored-bad-requires : tie.Need-stored-bad-requires
-stored-bad-requires c κs = search needs
-
 no-controller-requires-2 : tie.Need-no-controller-requires-2
 no-controller-requires-2 c κs = search needs
 
 returns-2 : tie.Need-returns-2
-unfolding restartOf onDone told controllerIn pick
+unfolding restartOf storedBad onDone told controllerIn pick
 returns-2 c =
-    let k = c .before .before .before .before .before in
+    let k = c .before .before .before .before in
     let a = k .before .args in
-    let good = sym (k .check .ensures) ∙ ap says (c .before .before .before .enum-told .given .1) in
-    let bad = so (c .before .before .stored-bad .ensures) (c .before .if1 .taken) in
+    let good = sym (k .check .ensures) ∙ ap says (c .before .before .enum-told .given .1) in
+    let bad = c .before .if1 .taken in
     restarts (a .set) (a .count) (a .total) (rw (good, bad) (c .no-controller2 .ensures)) (rw (good, bad))
 
 restarted-requires : tie.Need-restarted-requires
 restarted-requires c κs = search needs
 
 returns-3 : tie.Need-returns-3
-unfolding restartOf onDone told controllerIn pick
+unfolding restartOf storedBad onDone told controllerIn pick
 returns-3 c =
-    let k = c .before .before .before .before .before in
+    let k = c .before .before .before .before in
     let a = k .before .args in
-    let good = sym (k .check .ensures) ∙ ap says (c .before .before .before .enum-told .given .1) in
-    let kept = so (c .before .before .stored-bad .ensures) (c .before .if1 .left) in
+    let good = sym (k .check .ensures) ∙ ap says (c .before .before .enum-told .given .1) in
+    let kept = c .before .if1 .left in
     restarts (a .set) (a .count) (a .total) (rw (good, kept) (c .restarted .ensures)) (rw (good, kept))
 
 pub restart-spec : {M : Type 1} → statement M
@@ -64,7 +61,6 @@ restart-spec =
     no-controller-requires
     returns
     enum-told
-    stored-bad-requires
     no-controller-requires-2
     returns-2
     restarted-requires

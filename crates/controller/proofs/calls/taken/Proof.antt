@@ -6,12 +6,9 @@ use Rattle.controller.proofs.calls.taken.Tie as tie
 new-requires : tie.Need-new-requires
 new-requires c κs = search needs
 
-no-runs-requires : tie.Need-no-runs-requires
-no-runs-requires c κs = search needs
-
 returns : tie.Need-returns
 unfolding taken
-returns c = simp (c .before .new .ensures, c .no-runs .ensures)
+returns c = simp (c .new .ensures)
 
 pub taken-spec : {M : Type 1} → statement M
-taken-spec = tie.close (tie.spec new-requires no-runs-requires returns)
+taken-spec = tie.close (tie.spec new-requires returns)

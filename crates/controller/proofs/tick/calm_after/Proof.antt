@@ -1,16 +1,16 @@
-use borrow.Author.Needs.{needs}
-use Rattle.laws.specs.Pick.{picks, so}
+use mathlib.Core.Bool.{xor}
+use Rattle.laws.specs.Pick.{picks}
+use Rattle.controller.specs.Tick.{changed}
 use Rattle.controller.proofs.tick.calm_after.Statement.{statement}
 use Rattle.controller.proofs.tick.calm_after.Tie as tie
 
-changed-requires : tie.Need-changed-requires
-changed-requires c κs = search needs
-
 returns : tie.Need-returns
-returns c = search (picks, so (c .before .changed .ensures) (c .if1 .taken))
+unfolding changed xor
+returns c = search picks
 
 returns-2 : tie.Need-returns-2
-returns-2 c = search (picks, so (c .before .changed .ensures) (c .if1 .left))
+unfolding changed xor
+returns-2 c = search picks
 
 pub calm-after-spec : {M : Type 1} → statement M
-calm-after-spec = tie.close (tie.spec changed-requires returns returns-2)
+calm-after-spec = tie.close (tie.spec returns returns-2)

@@ -1,31 +1,43 @@
-use borrow.Author.Tests.{not-true, not-false}
+use mathlib.Core.Path.{sym, _∙_}
+use native.Mathlib.Omega.{arith}
+use mir.Syntax.{w32}
+use mir.Val.{SFits}
 use borrow.Author.Needs.{needs}
-use Rattle.laws.specs.Pick.{picks, so}
+use borrow.Author.Tests.{lt-ltb, le-ltb}
+use Rattle.laws.specs.Pick.{pick-t, pick-f}
 use Rattle.controller.specs.Parts.{calmBy}
+use Rattle.controller.proofs.Laws.{equal-is, calm-again}
 use Rattle.controller.proofs.tick.calm_run.Statement.{statement}
 use Rattle.controller.proofs.tick.calm_run.Tie as tie
 
-equal-requires : tie.Need-equal-requires
-equal-requires c κs = search needs
+told-f : (c : tie.After-struct-told) → SFits w32 (c .before .args .f .v)
+told-f c = search needs
+
+told-previous : (c : tie.After-struct-told2) → SFits w32 (c .before .before .args .previous .v)
+told-previous c = search needs
 
 add-result : tie.Need-add-result
 add-result c = search needs
 
 returns : tie.Need-returns
 unfolding calmBy
-returns c = search picks
+returns c =
+    let t = c .before in
+    sym (calm-again _ _ _ ∙ pick-t _ _ _ (rw (equal-is (told-f (t .before)) (told-previous t)) at (c .if1 .taken)))
 
 returns-2 : tie.Need-returns-2
 unfolding calmBy
-returns-2 c = search (picks, so (c .before .equal .ensures) (not-true _ (c .if2 .taken)))
+returns-2 c =
+    let t = c .before .before in
+    let e = rw (equal-is (told-f (t .before)) (told-previous t)) at (c .before .if1 .left) in
+    sym (calm-again _ _ _ ∙ pick-f _ _ _ e ∙ pick-t _ _ _ (lt-ltb (t .before .before .args .s) 4032 (omega arith)))
 
 returns-3 : tie.Need-returns-3
 unfolding calmBy
-returns-3 c = search (picks, so (c .before .before .equal .ensures) (not-false _ (c .before .if2 .left)))
-
-returns-4 : tie.Need-returns-4
-unfolding calmBy
-returns-4 c = search (picks, so (c .before .before .equal .ensures) (not-false _ (c .before .if2 .left)))
+returns-3 c =
+    let t = c .before .before in
+    let e = rw (equal-is (told-f (t .before)) (told-previous t)) at (c .before .if1 .left) in
+    sym (calm-again _ _ _ ∙ pick-f _ _ _ e ∙ pick-f _ _ _ (le-ltb (t .before .before .args .s) 4032 (omega arith)))
 
 pub calm-run-spec : {M : Type 1} → statement M
-calm-run-spec = tie.close (tie.spec returns equal-requires returns-2 add-result returns-3 returns-4)
+calm-run-spec = tie.close (tie.spec returns add-result returns-2 returns-3)

@@ -15,7 +15,7 @@ step-requires c κs = search needs
 
 step8-requires : tie.Need-step8-requires
 step8-requires c κs =
-    let p = c .before .before .before .before .before .before .pre in
+    let p = c .before .before .before .before .before .pre in
     record {
       set = p .set;
       small = record { mean = p .small .mean; zero = rw (c .step .ensures) (step-zero _ _ _ (p .set) (p .small .zero)) };
