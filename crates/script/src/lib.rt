@@ -1,5 +1,4 @@
 // One call to a line: what a line of a script asks, and the line that answers it.
-mod blocks;
 mod calls;
 mod hours;
 mod print;
@@ -7,14 +6,13 @@ mod read;
 mod request;
 mod tools;
 
-pub use blocks::Fed;
-pub use blocks::Replay;
-pub use blocks::carry;
-pub use blocks::feed;
+pub use calls::put_tick;
 use controller::Controller;
 use field::Field;
 use field::Weight;
 use journal::Line;
+use lines::LONGEST;
+pub use read::signed_at;
 use settings::Settings;
 ghost use Prim.Native.Nat.{_≤_};
 ghost use lib.ListN.{length};
@@ -31,7 +29,7 @@ pub struct Answered {
 }
 
 // A number that may be below 0, read at a place: its value and the place after it, or none.
-enum Signed {
+pub enum Signed {
     Good(i32, usize),
     Bad,
 }
@@ -62,12 +60,6 @@ enum Set {
 enum TickCall {
     Tick(i32, u8),
     Unknown,
-}
-
-// A line of a block that is a tick, and the place of its LF.
-enum TickLine {
-    Tick(i32, u8, usize),
-    Other,
 }
 
 enum LinkCall {
@@ -113,9 +105,6 @@ enum LineCall {
 
 // So many bytes hold every answer.
 pub const ENOUGH: usize = 4096;
-
-// A line has at most so many bytes, its LF left out.
-pub const LONGEST: usize = 4095;
 
 // A line that is no call is answered ? and calls nothing.
 fn unknown(c: Controller, out: &mut [u8]) -> Answered

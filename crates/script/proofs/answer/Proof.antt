@@ -11,9 +11,7 @@ use Rattle.laws.specs.Decimal.{bad}
 use Rattle.controller.specs.declared.Controller.{Controller}
 use Rattle.script.specs.Call.{callOf}
 use Rattle.script.specs.Answer.{Step, onCall, answerTo}
-use Rattle.script.specs.Input.{too-long, by-call}
-use Rattle.script.specs.Steps.{Answers, answerIn}
-use Rattle.script.specs.Feeding.{in-enough}
+use Rattle.script.specs.Steps.{Answers, answerIn, in-enough, too-long, by-call}
 use Rattle.script.specs.declared.Answered.{Answered}
 use borrow.Author.Needs.{needs}
 use Rattle.script.proofs.answer.Statement.{statement}
