@@ -3,6 +3,7 @@ pub mod Answer
 pub mod Print
 pub mod Reading
 pub mod Steps
+pub mod Letters
 pub mod Reply
 pub mod Cases
 pub mod Input
