@@ -19,8 +19,7 @@ use Rattle.lines.specs.Places.{LineAt, from-byte}
 use Rattle.script.specs.Call.{Call, tick, minus, plus, signedAt, tickAt, callBy, atEnd, callOf}
 use Rattle.script.specs.Answer.{onCall, asked, asksTick}
 use Rattle.script.specs.Reading.{signedFieldAt, on-good, on-bad, tick-direct}
-use Rattle.script.specs.Steps.{by-call}
-use Rattle.script.specs.Letters.{other-letter}
+use Rattle.script.specs.Letters.{other-letter, by-call}
 use Rattle.replayer.specs.Ticks.{TickStands, NoTick}
 
 plain-append : (a b : List ℕ) → Plain a → Plain b → Plain (a ++ b)

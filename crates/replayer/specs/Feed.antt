@@ -3,21 +3,19 @@ use mathlib.Core.Path.{_≡_, refl, sym, ap, _∙_}
 use mathlib.Core.Bool.{Bool}
 use mathlib.Core.List.{List, [], _++_}
 use Prim.Native.Nat.{ℕ, _≤_}
-use native.Mathlib.Omega.{arith}
 use lib.ListN.{length, drop}
-use Rattle.laws.specs.Over.{over}
 use Rattle.paper.specs.Answer.{same}
 use Rattle.controller.specs.declared.Controller.{Controller}
 use Rattle.controller.specs.Calls.{freshOf}
 use Rattle.controller.specs.Sound.{Sound}
 use Rattle.lines.specs.Lines.{linesFrom, begunOf, Plain}
-use Rattle.lines.specs.Places.{over-fits}
 use Rattle.lines.specs.Blocks.{Carried, Gave, Blind, between, saidTo}
 use Rattle.lines.specs.Blocks as lines
 use Rattle.lines.specs.Going.{GaveFrom}
 use Rattle.lines.specs.Going as going
+use Rattle.lines.specs.Fed.{Puts, puts-determined, puts-inside, puts-leaves}
 use Rattle.script.specs.Answer.{Step, answerTo}
-use Rattle.script.specs.Steps.{too-long}
+use Rattle.script.specs.Letters.{too-long}
 use Rattle.replayer.specs.declared.Replay.{Replay}
 use Rattle.replayer.specs.declared.Fed.{Fed}
 
@@ -62,12 +60,8 @@ pub record Starts (r : Replay) : Type 0 where
   pub sound : Sound (r .controller)
 
 -- what is carried on, used and answered is what the block gives; the answers stand at the buffer's start, the rest of it is as it was
-pub record Feeds (r : Replay) (block old new : List ℕ) (f : Fed) : Type 0 where
-  pub next : carried (f .next) ≡ feedOf (length old) (carried r) block .next
-  pub used : f .used ≡ feedOf (length old) (carried r) block .used
-  pub len : f .len ≡ length (feedOf (length old) (carried r) block .text)
-  pub left : new ≡ over (feedOf (length old) (carried r) block .text) old
-  pub sound : Sound (f .next .controller)
+abbrev pub Feeds : Replay → List ℕ → List ℕ → List ℕ → Fed → Type 0
+Feeds r block old new f = Puts Sound nextOf textOf 4096 (carried r) block old new (carried (f .next)) (f .used) (f .len)
 
 -- two results that both meet the contract are equal
 abbrev replayFrom : Carried Controller → Replay
@@ -78,7 +72,7 @@ start-determined p q = ap replayFrom (same (p .is) (q .is))
 
 pub feed-determined : {r : Replay} {block old new new' : List ℕ} {a b : Fed}
     → Feeds r block old new a → Feeds r block old new' b → (a .next ≡ b .next) × (a .used ≡ b .used) × (a .len ≡ b .len) × (new ≡ new')
-feed-determined p q = (ap replayFrom (same (p .next) (q .next)), same (p .used) (q .used), same (p .len) (q .len), same (p .left) (q .left))
+feed-determined p q = let d = puts-determined Sound nextOf textOf 4096 p q in (ap replayFrom (d .0), d .1, d .2, d .3)
 
 -- ---- the contracts of its parts
 
@@ -119,9 +113,8 @@ rest-ended r block p = lines.rest-ended nextOf textOf r block p
 
 -- the answers lie in the buffer, the bytes that are done with in the block
 pub feed-inside : {r : Replay} {block old new : List ℕ} {f : Fed} → Feeds r block old new f → length new ≡ length old → (f .len ≤ length old) × (f .used ≤ length block)
-feed-inside {r} {block} {old} {new} {f} p k =
-    (omega (arith, p .len, over-fits (feedOf (length old) (carried r) block .text) old new (p .left) k), omega (arith, p .used, lines.feed-within nextOf textOf 4096 (length old) (carried r) block))
+feed-inside p k = puts-inside Sound nextOf textOf 4096 p k
 
 -- and where there is room, what is left as it is has no LF and at most 4,095 bytes
 pub feed-leaves : {r : Replay} {block old new : List ℕ} {f : Fed} → Feeds r block old new f → 4096 ≤ length old → f .used ≡ 0 → Plain block × (length block ≤ 4095)
-feed-leaves {r} {block} {old} p h e = lines.feed-progress nextOf textOf 4096 (length old) (carried r) block h (sym (p .used) ∙ e)
+feed-leaves p h e = puts-leaves Sound nextOf textOf 4096 p h e

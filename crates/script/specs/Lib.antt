@@ -3,5 +3,6 @@ pub mod Answer
 pub mod Print
 pub mod Reading
 pub mod Steps
+pub mod Letters
 pub mod Reply
 pub mod Cases

@@ -5,7 +5,7 @@ use mathlib.Core.List.{List, [], _∷_}
 use Prim.Native.Nat.{ℕ, _≤_, _<_}
 use lib.Dec.{leb, eqb}
 use lib.ListN.{length, take, drop, replicate}
-use borrow.Author.Tests.{lt-ltb, le-ltb, le-leb, lt-leb}
+use borrow.Author.Tests.{le-leb, lt-leb}
 use Rattle.laws.specs.Pick.{pick, pick-t, pick-f}
 use Rattle.laws.specs.Over.{over}
 use Rattle.laws.specs.Decimal.{Parsed, good, bad}
@@ -18,9 +18,8 @@ use Rattle.controller.specs.declared.RestartAnswer.the-variants as R
 use Rattle.controller.specs.declared.TickAnswer.{TickAnswer}
 use Rattle.controller.specs.Says.{saysTick}
 use Rattle.controller.specs.Sound.{Sound}
-use Rattle.lines.specs.Lines.{tooLong}
-use Rattle.script.specs.Call.{Call, tick, link, settings, restart, writeField, readField, writeLine, writeFrame, readFrame, readLine, hours, atEnd, roomAt, bytesCall, writeFieldAt, readFieldAt, doseAt, onAt, hourAt, callOf}
-use Rattle.script.specs.Answer.{Step, tickText, onCall, answerTo}
+use Rattle.script.specs.Call.{Call, tick, link, settings, restart, writeField, readField, writeLine, writeFrame, readFrame, readLine, hours, atEnd, roomAt, bytesCall, writeFieldAt, readFieldAt, doseAt, onAt, hourAt}
+use Rattle.script.specs.Answer.{Step, tickText, onCall, asked, asideBy}
 use Rattle.script.specs.Print.{Prints, prints-over}
 use Rattle.script.specs.declared.Answered.{Answered}
 use Rattle.script.specs.declared.TickCall.{TickCall}
@@ -146,15 +145,11 @@ inUse R.Done old new = new
 inUse (R.R2 row) old new = old
 inUse R.R15 old new = old
 
--- 4,096 bytes hold every answer; where there are fewer nothing is called
-unfoldable pub answerIn : ℕ → Controller → List ℕ → Step
-answerIn room c l = pick (leb 4096 room) (answerTo c l) (record { next = c; text = [] })
+-- the answer to a line that is no tick: 4,096 bytes hold every answer; where there are fewer nothing is called
+unfoldable pub asideIn : ℕ → Controller → List ℕ → Step
+asideIn room c l = pick (leb 4096 room) (asideBy c (asked l)) (record { next = c; text = [] })
 
-pub in-enough : (room : ℕ) (c : Controller) (l : List ℕ) → 4096 ≤ room → answerIn room c l ≡ answerTo c l
-unfolding answerIn
-in-enough room c l h = pick-t _ _ _ (le-leb _ _ h)
-
--- a tick's answer by itself: where there are fewer nothing is written
+-- the answer to a tick: where there are fewer nothing is written
 unfoldable pub tickIn : ℕ → TickAnswer → List ℕ
 tickIn room a = pick (leb 4096 room) (tickText (saysTick a)) []
 
@@ -166,21 +161,19 @@ pub tick-small : (room : ℕ) (a : TickAnswer) → room < 4096 → tickIn room a
 unfolding tickIn
 tick-small room a h = pick-f _ _ _ (lt-leb _ _ h)
 
--- a line that is too long is answered ? whatever it is
-pub too-long : (c : Controller) (l : List ℕ) → 4095 < length l → answerTo c l ≡ onCall c bad
-unfolding answerTo tooLong
-too-long c l h = pick-t _ _ _ (lt-ltb _ _ h)
-
--- any other is the call that it asks
-pub by-call : (c : Controller) (l : List ℕ) → length l ≤ 4095 → answerTo c l ≡ onCall c (callOf l)
-unfolding answerTo tooLong
-by-call c l h = pick-f _ _ _ (le-ltb _ _ h)
-
 pub made : {s : Step} {old new : List ℕ} {r : Answered} → r .next ≡ s .next → Sound (r .next) → 4096 ≤ length old → Prints 4096 old 0 (s .text) new (r .len) → Answers s old new r
 made e t h p = let o = prints-over h p in record { next = e; sound = t; left = o .0; len = o .1 }
 
+pub answers-step : {s t : Step} {old new : List ℕ} {r : Answered} → s ≡ t → Answers t old new r → Answers s old new r
+answers-step {s} {t} {old} {new} {r} e a = subst (λ (x : Step). Answers x old new r) (sym e) a
+
+-- nothing is called and nothing written
+pub answers-none : {c : Controller} {old : List ℕ} → Sound c → Answers (record { next = c; text = [] }) old old (record { next = c; len = 0 })
+unfolding over
+answers-none s = record { next = refl; sound = s; left = refl; len = refl }
+
 pub answers-as : (c : Controller) {p q : Parsed Call} {old new : List ℕ} {r : Answered} → p ≡ q → Answers (onCall c q) old new r → Answers (onCall c p) old new r
-answers-as c {p} {q} {old} {new} {r} e a = subst (λ (x : Parsed Call). Answers (onCall c x) old new r) (sym e) a
+answers-as c e a = answers-step (ap (onCall c) e) a
 
 pub tells-as : {p q : Parsed Call} {old new : List ℕ} {r : ℕ} → p ≡ q → Tells q old new r → Tells p old new r
 tells-as {p} {q} {old} {new} {r} e a = subst (λ (x : Parsed Call). Tells x old new r) (sym e) a

@@ -27,12 +27,12 @@ ghost use Rattle.controller.specs.Tick.{saysFault};
 ghost use Rattle.controller.specs.Says.{saysSet, saysReset, saysRestart};
 ghost use Rattle.script.specs.Call as calls;
 ghost use Rattle.script.specs.Call.{tickAt, linkAt, settingsAt, restartAt, atEnd};
-ghost use Rattle.script.specs.Answer.{tickText, doneText, onCall};
+ghost use Rattle.script.specs.Answer.{tickText, doneText, onCall, asideBy};
 ghost use Rattle.script.specs.Print.{Prints};
 ghost use Rattle.script.specs.Steps.{asTick, asLink, asSet, asRestart, inUse, tickIn, Answers};
 
 // T sample inputs
-fn read_tick(line: &[u8]) -> TickCall
+pub fn read_tick(line: &[u8]) -> TickCall
     ensures { λ r. ⌜ atEnd (tickAt (drop 1 (now (line .entry)))) ≡ asTick r ⌝ }
 {
     let Signed::Good(sample, after) = read::signed_at(line, 1) else {
@@ -85,18 +85,15 @@ pub fn put_tick(out: &mut [u8], answer: TickAnswer) -> usize
     }
 }
 
-pub(crate) fn tick(c: Controller, line: &[u8], out: &mut [u8]) -> Answered
+// A tick is left to the caller; any other line of its letter is no call.
+pub(crate) fn not_tick(c: Controller, line: &[u8], out: &mut [u8]) -> Answered
     requires { ⌜ Sound c × (4096 ≤ length (now out)) ⌝ }
-    ensures { λ r. ⌜ Answers (onCall c (atEnd (tickAt (drop 1 (now (line .entry)))))) (now (out .entry)) (now (out .exit)) r ⌝ }
+    ensures { λ r. ⌜ Answers (asideBy c (atEnd (tickAt (drop 1 (now (line .entry)))))) (now (out .entry)) (now (out .exit)) r ⌝ }
 {
-    let TickCall::Tick(sample, inputs) = read_tick(line) else {
+    let TickCall::Tick(_, _) = read_tick(line) else {
         return unknown(c, out);
     };
-    let ticked = c.tick(sample, inputs);
-    let answer = ticked.answer;
-    let next = ticked.next;
-    let len = put_tick(out, answer);
-    Answered { next, len }
+    Answered { next: c, len: 0 }
 }
 
 // L 0 or 1
@@ -199,7 +196,7 @@ pub(crate) fn counters(c: Controller, line: &[u8], out: &mut [u8]) -> Answered
 }
 
 // N SET count total
-fn read_restart(line: &[u8]) -> RestartCall
+pub fn read_restart(line: &[u8]) -> RestartCall
     ensures { λ r. ⌜ atEnd (restartAt (drop 1 (now (line .entry)))) ≡ asRestart r ⌝ }
 {
     let Set::Good(set, after_set) = read::set_at(line, 1) else {

@@ -170,10 +170,10 @@ returns : tie.Need-returns Inv-loop μ-loop
 returns c = leaves (c .before .before .before .before .before .before .before .loop .inv) (c .before .before .before .before .before .before .loop-test .taken) (ended (c .before .before)) (c .before .if1 .taken) (c .leave .ensures)
 
 sub-aside : tie.Need-sub-aside Inv-loop μ-loop
-sub-aside c = search needs
+sub-aside c = ended (c .before) .after
 
 part-aside-start : tie.Need-part-aside-start Inv-loop μ-loop
-part-aside-start c = search needs
+part-aside-start c = ended (c .before) .after
 
 part-aside-end : tie.Need-part-aside-end Inv-loop μ-loop
 part-aside-end c = search needs

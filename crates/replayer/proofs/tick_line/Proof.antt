@@ -61,7 +61,7 @@ returns-3 : tie.Need-returns-3
 returns-3 c =
     let a = c .before .before .before .before .before .before .before .before .before .before .args in
     let s = now (a .block) in
-    no-inputs s (a .at) _ (c .before .before .before .before .before .before .signed-at .ensures .reads ∙ ap (leadsSigned s) (c .before .before .before .before .sample .given .1)) (c .before .before .field-at .ensures .reads ∙ ap (leads s) (c .enum-told2 .given .1))
+    no-inputs s (a .at) (c .before .before .before .before .sample .given .0 .1 .0) (c .before .before .before .before .before .before .signed-at .ensures .reads ∙ ap (leadsSigned s) (c .before .before .before .before .sample .given .1)) (c .before .before .field-at .ensures .reads ∙ ap (leads s) (c .enum-told2 .given .1))
 
 byte-at-requires-2 : tie.Need-byte-at-requires-2
 byte-at-requires-2 c κs = search needs
@@ -70,7 +70,7 @@ returns-4 : tie.Need-returns-4
 returns-4 c =
     let a = c .before .before .before .before .before .before .before .before .before .before .before .before .before .args in
     let s = now (a .block) in
-    no-end s (a .at) _ (c .before .before .before .before .before .before .before .before .before .signed-at .ensures .reads ∙ ap (leadsSigned s) (c .before .before .before .before .before .before .before .sample .given .1)) _ (field (c .before .before)) (λ h. c .if2 .taken (c .before .byte-at2 .ensures ∙ h))
+    no-end s (a .at) (c .before .before .before .before .before .before .before .sample .given .0 .1 .0) (c .before .before .before .before .before .before .before .before .before .signed-at .ensures .reads ∙ ap (leadsSigned s) (c .before .before .before .before .before .before .before .sample .given .1)) _ (field (c .before .before)) (λ h. c .if2 .taken (c .before .byte-at2 .ensures ∙ h))
 
 cast-t7 : tie.Need-cast-t7
 cast-t7 c = omega (arith, field-most 255 _ (field (c .before .before)))
