@@ -1,6 +1,6 @@
 -- A line asks for the call of its letter; of those that are no tick the answer stands aside. Assumes nothing.
 use mathlib.Core.Path.{_≡_, refl, sym, ap, _∙_, subst}
-use mathlib.Core.Bool.{Bool, true, false}
+use mathlib.Core.Bool.{Bool, false}
 use mathlib.Core.List.{List, [], _∷_}
 use Prim.Native.Nat.{ℕ, zero, suc, _≤_, _<_}
 use lib.Dec.{eqb}
@@ -16,7 +16,7 @@ use Rattle.text.specs.Scan.{TAB, expect, onGood}
 use Rattle.controller.specs.declared.Controller.{Controller}
 use Rattle.lines.specs.Lines.{tooLong}
 use Rattle.script.specs.Call.{Call, letterOf, request, writeFrame, readFrame, readLine, hours, numberField, flagField, signedAt, signedField, bytesAt, bytesField, numbersField, setField, fieldFrom, tickAt, linkAt, settingsAt, restartAt, roomAt, bytesCall, writeFieldAt, readFieldAt, doseAt, onAt, hourAt, callBy, atEnd, callOf}
-use Rattle.script.specs.Answer.{Step, onCall, answerTo, asked, asksTick, asideBy}
+use Rattle.script.specs.Answer.{onCall, answerTo, asked, asksTick, asideBy}
 use Rattle.script.specs.Steps.{asideIn}
 
 -- ---- each letter asks for its own call

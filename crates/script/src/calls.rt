@@ -109,6 +109,7 @@ fn read_link(line: &[u8]) -> LinkCall
     LinkCall::Link(on)
 }
 
+// The link start set or cleared.
 pub(crate) fn link(c: Controller, line: &[u8], out: &mut [u8]) -> Answered
     requires { ⌜ Sound c × (4096 ≤ length (now out)) ⌝ }
     ensures { λ r. ⌜ Answers (onCall c (atEnd (linkAt (drop 1 (now (line .entry)))))) (now (out .entry)) (now (out .exit)) r ⌝ }
@@ -134,6 +135,7 @@ fn read_settings(line: &[u8]) -> SetCall
     SetCall::Set(set)
 }
 
+// A, R 3 or R 2 row.
 fn put_set(out: &mut [u8], answer: SetAnswer) -> usize
     requires { ⌜ 4096 ≤ length (now out) ⌝ }
     ensures { λ r. ⌜ Prints 4096 (now (out .entry)) 0 (doneText (saysSet answer)) (now (out .exit)) r ⌝ }
@@ -145,6 +147,7 @@ fn put_set(out: &mut [u8], answer: SetAnswer) -> usize
     }
 }
 
+// New settings.
 pub(crate) fn settings(c: Controller, line: &[u8], out: &mut [u8]) -> Answered
     requires { ⌜ Sound c × (4096 ≤ length (now out)) ⌝ }
     ensures { λ r. ⌜ Answers (onCall c (atEnd (settingsAt (drop 1 (now (line .entry)))))) (now (out .entry)) (now (out .exit)) r ⌝ }
@@ -159,6 +162,7 @@ pub(crate) fn settings(c: Controller, line: &[u8], out: &mut [u8]) -> Answered
     Answered { next, len }
 }
 
+// A or R 3.
 fn put_reset(out: &mut [u8], answer: ResetAnswer) -> usize
     requires { ⌜ 4096 ≤ length (now out) ⌝ }
     ensures { λ r. ⌜ Prints 4096 (now (out .entry)) 0 (doneText (saysReset answer)) (now (out .exit)) r ⌝ }
@@ -169,6 +173,7 @@ fn put_reset(out: &mut [u8], answer: ResetAnswer) -> usize
     }
 }
 
+// The counter reset.
 pub(crate) fn reset(c: Controller, line: &[u8], out: &mut [u8]) -> Answered
     requires { ⌜ Sound c × (4096 ≤ length (now out)) ⌝ }
     ensures { λ r. ⌜ Answers (onCall c (atEnd (good calls.reset (drop 1 (now (line .entry)))))) (now (out .entry)) (now (out .exit)) r ⌝ }
@@ -183,6 +188,7 @@ pub(crate) fn reset(c: Controller, line: &[u8], out: &mut [u8]) -> Answered
     Answered { next, len }
 }
 
+// Q, the count and the total.
 pub(crate) fn counters(c: Controller, line: &[u8], out: &mut [u8]) -> Answered
     requires { ⌜ Sound c × (4096 ≤ length (now out)) ⌝ }
     ensures { λ r. ⌜ Answers (onCall c (atEnd (good calls.counters (drop 1 (now (line .entry)))))) (now (out .entry)) (now (out .exit)) r ⌝ }
@@ -237,6 +243,7 @@ fn in_use(answer: RestartAnswer, old: Controller, new: Controller) -> Controller
     }
 }
 
+// A restart.
 pub(crate) fn restart(c: Controller, line: &[u8], out: &mut [u8]) -> Answered
     requires { ⌜ Sound c × (4096 ≤ length (now out)) ⌝ }
     ensures { λ r. ⌜ Answers (onCall c (atEnd (restartAt (drop 1 (now (line .entry)))))) (now (out .entry)) (now (out .exit)) r ⌝ }

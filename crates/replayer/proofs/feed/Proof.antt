@@ -1,4 +1,4 @@
-use mathlib.Core.Path.{_≡_, refl, sym, ap, _∙_, subst}
+use mathlib.Core.Path.{_≡_, refl, sym, _∙_, subst}
 use mathlib.Core.Bool.{Bool, true, false}
 use mathlib.Core.List.{List, [], _++_}
 use Prim.Native.Nat.{ℕ, _+_, _≤_}
@@ -11,7 +11,6 @@ use Rattle.controller.specs.declared.Controller.{Controller}
 use Rattle.controller.specs.Sound.{Sound}
 use Rattle.lines.specs.Lines.{begunOf, tooLong}
 use Rattle.lines.specs.Places.{EndsAt, LineAt, ends-at, ends-line, over-fits}
-use Rattle.lines.specs.Blocks.{Carried}
 use Rattle.lines.specs.Fed.{Puts, begun-long, puts-between, puts-stopped, puts-on, puts-after}
 use Rattle.script.specs.Call.{callOf}
 use Rattle.script.specs.Answer.{Step, answerTo, asked, asksTick}
