@@ -36,6 +36,7 @@ pub enum Signed {
     Bad,
 }
 
+// 0 or 1 read at a place, and the place after it, or none.
 enum Flag {
     Good(bool, usize),
     Bad,
@@ -54,6 +55,7 @@ struct Numbers {
     values: [u32; 17],
 }
 
+// A set of settings read at a place, and the place after it, or none.
 enum Set {
     Good(Settings, usize),
     Bad,
@@ -65,11 +67,13 @@ pub enum TickCall {
     Unknown,
 }
 
+// A line of the letter L: the link start, or no call.
 enum LinkCall {
     Link(bool),
     Unknown,
 }
 
+// A line of the letter S: new settings, or no call.
 enum SetCall {
     Set(Settings),
     Unknown,
@@ -81,11 +85,13 @@ pub enum RestartCall {
     Unknown,
 }
 
+// A line of the letter G: a weight to write, or no call.
 enum WeightCall {
     Weight(Weight),
     Unknown,
 }
 
+// A line of the letter K: a weight field to read, or no call.
 enum FieldCall {
     Field(Field),
     Unknown,
@@ -97,11 +103,13 @@ enum RoomCall {
     Unknown,
 }
 
+// A line of bytes alone: how many, or no call.
 enum BytesCall {
     Bytes(usize),
     Unknown,
 }
 
+// A line of the letter D or H: a line of a journal and a room, or no call.
 enum LineCall {
     Line(Line, usize),
     Unknown,
