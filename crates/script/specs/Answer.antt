@@ -1,8 +1,8 @@
 -- One answer to a line: what the box and its writers and readers answer, as text. Assumes nothing.
-use mathlib.Core.Bool.{Bool}
+use mathlib.Core.Bool.{Bool, false}
 use mathlib.Core.List.{List, [], _∷_, _++_}
 use Prim.Native.Nat.{ℕ, suc, _+_}
-use lib.Dec.{ltb}
+use lib.Dec.{ltb, eqb}
 use lib.IntN.{ℤ, pos, negsuc}
 use lib.ListN.{length, replicate}
 use lib.Ieee.{Float, binary64, toBits}
@@ -18,6 +18,7 @@ use Rattle.frame.specs.Read as frames-read
 use Rattle.journal.specs.declared.Line.{Line}
 use Rattle.journal.specs.declared.Line.the-variants.{Dose, On}
 use Rattle.text.specs.Scan.{TAB, LF}
+use Rattle.lines.specs.Lines.{tooLong}
 use Rattle.journal.specs.Line.{oneLine}
 use Rattle.journal.specs.Line as lines
 use Rattle.hourly.specs.declared.Hour.{Hour}
@@ -29,7 +30,7 @@ use Rattle.controller.specs.declared.Record.{Record}
 use Rattle.controller.specs.Tick.{Told, tickOf}
 use Rattle.controller.specs.Calls.{restartOf, settingsOf, resetOf, linkOf}
 use Rattle.controller.specs.Line.{Replied, requestOf}
-use Rattle.script.specs.Call.{Call, tick, link, settings, reset, counters, restart, request, writeFrame, readFrame, writeField, readField, writeLine, readLine, hour, hours, callOf}
+use Rattle.script.specs.Call.{Call, tick, link, settings, reset, counters, restart, request, writeFrame, readFrame, writeField, readField, writeLine, readLine, hour, hours, letterOf, callOf}
 
 -- ---- fields of an answer
 
@@ -184,10 +185,20 @@ unfoldable pub onCall : Controller → Parsed Call → Step
 onCall c (good call rest) = answered c call
 onCall c bad = step c (letter 63 [])
 
--- A line longer than 4,096 bytes, its LF counted, is answered ? once
-unfoldable pub tooLong : List ℕ → Bool
-tooLong l = ltb 4095 (length l)
-
--- the answer to a line, its LF left out
+-- the answer to a line, its LF left out; a line longer than 4,096 bytes, its LF counted, is answered ? once
 unfoldable pub answerTo : Controller → List ℕ → Step
 answerTo c l = pick (tooLong l) (onCall c bad) (onCall c (callOf l))
+
+-- ---- a line that is no tick
+
+-- what a line asks; one that is too long asks nothing
+unfoldable pub asked : List ℕ → Parsed Call
+asked l = pick (tooLong l) bad (callOf l)
+
+unfoldable pub asksTick : Parsed Call → Bool
+asksTick (good call rest) = eqb (letterOf call) 84
+asksTick bad = false
+
+-- the answer to a line that is no tick; for a tick nothing is called and nothing written
+unfoldable pub asideBy : Controller → Parsed Call → Step
+asideBy c p = pick (asksTick p) (step c []) (onCall c p)

@@ -3,9 +3,6 @@ pub mod Answer
 pub mod Print
 pub mod Reading
 pub mod Steps
+pub mod Letters
 pub mod Reply
 pub mod Cases
-pub mod Input
-pub mod Blocks
-pub mod Feeding
-pub mod BlockCases

@@ -9,6 +9,7 @@ use lib.ListN.{length, getD, drop, length-append, drop-of-length-le}
 use lib.Seq.{sets, length-sets, drop-cons}
 use Rattle.laws.specs.Decimal.{decimal, hexOf}
 use Rattle.laws.specs.Over.{over, sets-append, sets-over}
+use Rattle.paper.specs.Answer.{same}
 use Rattle.text.specs.Put.{Puts}
 use Rattle.text.specs.PutLaws.{room-is, puts-fit}
 use Rattle.text.specs.Scan.{TAB, LF}
@@ -20,6 +21,14 @@ pub record Prints (most : ℕ) (old : List ℕ) (at : ℕ) (text new : List ℕ)
   pub next : r ≡ at + length text
   pub long : length new ≡ length old
   pub short : length text ≤ most
+
+-- two results that both meet the contract are equal
+pub prints-determined : {most at r s : ℕ} {old text new new' : List ℕ} → Prints most old at text new r → Prints most old at text new' s → (r ≡ s) × (new ≡ new')
+prints-determined p q = (same (p .next) (q .next), same (p .left) (q .left))
+
+-- nothing is put
+pub prints-none : (most at : ℕ) (old : List ℕ) → Prints most old at [] old at
+prints-none most at old = record { left = refl; next = omega arith; long = refl; short = omega arith }
 
 -- a text for which there is room
 pub printed : {most at r : ℕ} {old text new : List ℕ} → length text ≤ most → at + most ≤ length old → Puts old at text new r → Prints most old at text new r

@@ -1,11 +1,11 @@
 -- What the parts of an answer say: the call that a line was read as, and the contract of each answer. Assumes nothing.
-use mathlib.Core.Path.{_≡_, refl, sym, ap, _∙_, subst}
-use mathlib.Core.Bool.{Bool, true, false}
+use mathlib.Core.Path.{_≡_, refl, sym, ap, subst}
 use mathlib.Core.List.{List, [], _∷_}
-use Prim.Native.Nat.{ℕ, _≤_}
+use Prim.Native.Nat.{ℕ, _≤_, _<_}
 use lib.Dec.{leb, eqb}
 use lib.ListN.{length, take, drop, replicate}
-use Rattle.laws.specs.Pick.{pick}
+use borrow.Author.Tests.{le-leb, lt-leb}
+use Rattle.laws.specs.Pick.{pick, pick-t, pick-f}
 use Rattle.laws.specs.Over.{over}
 use Rattle.laws.specs.Decimal.{Parsed, good, bad}
 use Rattle.paper.specs.Answer.{same}
@@ -14,9 +14,11 @@ use Rattle.journal.specs.declared.Refusal.the-variants as J
 use Rattle.controller.specs.declared.Controller.{Controller}
 use Rattle.controller.specs.declared.RestartAnswer.{RestartAnswer}
 use Rattle.controller.specs.declared.RestartAnswer.the-variants as R
+use Rattle.controller.specs.declared.TickAnswer.{TickAnswer}
+use Rattle.controller.specs.Says.{saysTick}
 use Rattle.controller.specs.Sound.{Sound}
 use Rattle.script.specs.Call.{Call, tick, link, settings, restart, writeField, readField, writeLine, writeFrame, readFrame, readLine, hours, atEnd, roomAt, bytesCall, writeFieldAt, readFieldAt, doseAt, onAt, hourAt}
-use Rattle.script.specs.Answer.{Step, onCall, answerTo}
+use Rattle.script.specs.Answer.{Step, tickText, onCall, asked, asideBy}
 use Rattle.script.specs.Print.{Prints, prints-over}
 use Rattle.script.specs.declared.Answered.{Answered}
 use Rattle.script.specs.declared.TickCall.{TickCall}
@@ -142,15 +144,35 @@ inUse R.Done old new = new
 inUse (R.R2 row) old new = old
 inUse R.R15 old new = old
 
--- 4,096 bytes hold every answer; where there are fewer nothing is called
-unfoldable pub answerIn : ℕ → Controller → List ℕ → Step
-answerIn room c l = pick (leb 4096 room) (answerTo c l) (record { next = c; text = [] })
+-- the answer to a line that is no tick: 4,096 bytes hold every answer; where there are fewer nothing is called
+unfoldable pub asideIn : ℕ → Controller → List ℕ → Step
+asideIn room c l = pick (leb 4096 room) (asideBy c (asked l)) (record { next = c; text = [] })
+
+-- the answer to a tick: where there are fewer nothing is written
+unfoldable pub tickIn : ℕ → TickAnswer → List ℕ
+tickIn room a = pick (leb 4096 room) (tickText (saysTick a)) []
+
+pub tick-enough : (room : ℕ) (a : TickAnswer) → 4096 ≤ room → tickIn room a ≡ tickText (saysTick a)
+unfolding tickIn
+tick-enough room a h = pick-t _ _ _ (le-leb _ _ h)
+
+pub tick-small : (room : ℕ) (a : TickAnswer) → room < 4096 → tickIn room a ≡ []
+unfolding tickIn
+tick-small room a h = pick-f _ _ _ (lt-leb _ _ h)
 
 pub made : {s : Step} {old new : List ℕ} {r : Answered} → r .next ≡ s .next → Sound (r .next) → 4096 ≤ length old → Prints 4096 old 0 (s .text) new (r .len) → Answers s old new r
 made e t h p = let o = prints-over h p in record { next = e; sound = t; left = o .0; len = o .1 }
 
+pub answers-step : {s t : Step} {old new : List ℕ} {r : Answered} → s ≡ t → Answers t old new r → Answers s old new r
+answers-step {s} {t} {old} {new} {r} e a = subst (λ (x : Step). Answers x old new r) (sym e) a
+
+-- nothing is called and nothing written
+pub answers-none : {c : Controller} {old : List ℕ} → Sound c → Answers (record { next = c; text = [] }) old old (record { next = c; len = 0 })
+unfolding over
+answers-none s = record { next = refl; sound = s; left = refl; len = refl }
+
 pub answers-as : (c : Controller) {p q : Parsed Call} {old new : List ℕ} {r : Answered} → p ≡ q → Answers (onCall c q) old new r → Answers (onCall c p) old new r
-answers-as c {p} {q} {old} {new} {r} e a = subst (λ (x : Parsed Call). Answers (onCall c x) old new r) (sym e) a
+answers-as c e a = answers-step (ap (onCall c) e) a
 
 pub tells-as : {p q : Parsed Call} {old new : List ℕ} {r : ℕ} → p ≡ q → Tells q old new r → Tells p old new r
 tells-as {p} {q} {old} {new} {r} e a = subst (λ (x : Parsed Call). Tells x old new r) (sym e) a

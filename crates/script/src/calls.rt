@@ -1,5 +1,6 @@
 // The calls of the box.
 use crate::Answered;
+use crate::ENOUGH;
 use crate::Flag;
 use crate::LinkCall;
 use crate::RestartCall;
@@ -23,15 +24,15 @@ ghost use lib.ListN.{length, drop};
 ghost use Rattle.laws.specs.Decimal.{good};
 ghost use Rattle.controller.specs.Sound.{Sound};
 ghost use Rattle.controller.specs.Tick.{saysFault};
-ghost use Rattle.controller.specs.Says.{saysTick, saysSet, saysReset, saysRestart};
+ghost use Rattle.controller.specs.Says.{saysSet, saysReset, saysRestart};
 ghost use Rattle.script.specs.Call as calls;
 ghost use Rattle.script.specs.Call.{tickAt, linkAt, settingsAt, restartAt, atEnd};
-ghost use Rattle.script.specs.Answer.{tickText, doneText, onCall};
+ghost use Rattle.script.specs.Answer.{tickText, doneText, onCall, asideBy};
 ghost use Rattle.script.specs.Print.{Prints};
-ghost use Rattle.script.specs.Steps.{asTick, asLink, asSet, asRestart, inUse, Answers};
+ghost use Rattle.script.specs.Steps.{asTick, asLink, asSet, asRestart, inUse, tickIn, Answers};
 
 // T sample inputs
-fn read_tick(line: &[u8]) -> TickCall
+pub fn read_tick(line: &[u8]) -> TickCall
     ensures { λ r. ⌜ atEnd (tickAt (drop 1 (now (line .entry)))) ≡ asTick r ⌝ }
 {
     let Signed::Good(sample, after) = read::signed_at(line, 1) else {
@@ -57,11 +58,13 @@ fn put_fault(out: &mut [u8], why: Fault) -> usize
     }
 }
 
-// O, D, F or R.
-pub(crate) fn put_tick(out: &mut [u8], answer: TickAnswer) -> usize
-    requires { ⌜ 4096 ≤ length (now out) ⌝ }
-    ensures { λ r. ⌜ Prints 4096 (now (out .entry)) 0 (tickText (saysTick answer)) (now (out .exit)) r ⌝ }
+// O, D, F or R; a buffer that is not enough is left as it was.
+pub fn put_tick(out: &mut [u8], answer: TickAnswer) -> usize
+    ensures { λ r. ⌜ Prints 4096 (now (out .entry)) 0 (tickIn (length (now (out .entry))) answer) (now (out .exit)) r ⌝ }
 {
+    if out.len() < ENOUGH {
+        return 0;
+    }
     match answer {
         TickAnswer::Outputs(outputs) => print::put_values(out, b'O', &[outputs as u64]),
         TickAnswer::Dose { outputs, record } => {
@@ -82,18 +85,15 @@ pub(crate) fn put_tick(out: &mut [u8], answer: TickAnswer) -> usize
     }
 }
 
-pub(crate) fn tick(c: Controller, line: &[u8], out: &mut [u8]) -> Answered
+// A tick is left to the caller; any other line of its letter is no call.
+pub(crate) fn not_tick(c: Controller, line: &[u8], out: &mut [u8]) -> Answered
     requires { ⌜ Sound c × (4096 ≤ length (now out)) ⌝ }
-    ensures { λ r. ⌜ Answers (onCall c (atEnd (tickAt (drop 1 (now (line .entry)))))) (now (out .entry)) (now (out .exit)) r ⌝ }
+    ensures { λ r. ⌜ Answers (asideBy c (atEnd (tickAt (drop 1 (now (line .entry)))))) (now (out .entry)) (now (out .exit)) r ⌝ }
 {
-    let TickCall::Tick(sample, inputs) = read_tick(line) else {
+    let TickCall::Tick(_, _) = read_tick(line) else {
         return unknown(c, out);
     };
-    let ticked = c.tick(sample, inputs);
-    let answer = ticked.answer;
-    let next = ticked.next;
-    let len = put_tick(out, answer);
-    Answered { next, len }
+    Answered { next: c, len: 0 }
 }
 
 // L 0 or 1
@@ -109,6 +109,7 @@ fn read_link(line: &[u8]) -> LinkCall
     LinkCall::Link(on)
 }
 
+// The link start set or cleared.
 pub(crate) fn link(c: Controller, line: &[u8], out: &mut [u8]) -> Answered
     requires { ⌜ Sound c × (4096 ≤ length (now out)) ⌝ }
     ensures { λ r. ⌜ Answers (onCall c (atEnd (linkAt (drop 1 (now (line .entry)))))) (now (out .entry)) (now (out .exit)) r ⌝ }
@@ -134,6 +135,7 @@ fn read_settings(line: &[u8]) -> SetCall
     SetCall::Set(set)
 }
 
+// A, R 3 or R 2 row.
 fn put_set(out: &mut [u8], answer: SetAnswer) -> usize
     requires { ⌜ 4096 ≤ length (now out) ⌝ }
     ensures { λ r. ⌜ Prints 4096 (now (out .entry)) 0 (doneText (saysSet answer)) (now (out .exit)) r ⌝ }
@@ -145,6 +147,7 @@ fn put_set(out: &mut [u8], answer: SetAnswer) -> usize
     }
 }
 
+// New settings.
 pub(crate) fn settings(c: Controller, line: &[u8], out: &mut [u8]) -> Answered
     requires { ⌜ Sound c × (4096 ≤ length (now out)) ⌝ }
     ensures { λ r. ⌜ Answers (onCall c (atEnd (settingsAt (drop 1 (now (line .entry)))))) (now (out .entry)) (now (out .exit)) r ⌝ }
@@ -159,6 +162,7 @@ pub(crate) fn settings(c: Controller, line: &[u8], out: &mut [u8]) -> Answered
     Answered { next, len }
 }
 
+// A or R 3.
 fn put_reset(out: &mut [u8], answer: ResetAnswer) -> usize
     requires { ⌜ 4096 ≤ length (now out) ⌝ }
     ensures { λ r. ⌜ Prints 4096 (now (out .entry)) 0 (doneText (saysReset answer)) (now (out .exit)) r ⌝ }
@@ -169,6 +173,7 @@ fn put_reset(out: &mut [u8], answer: ResetAnswer) -> usize
     }
 }
 
+// The counter reset.
 pub(crate) fn reset(c: Controller, line: &[u8], out: &mut [u8]) -> Answered
     requires { ⌜ Sound c × (4096 ≤ length (now out)) ⌝ }
     ensures { λ r. ⌜ Answers (onCall c (atEnd (good calls.reset (drop 1 (now (line .entry)))))) (now (out .entry)) (now (out .exit)) r ⌝ }
@@ -183,6 +188,7 @@ pub(crate) fn reset(c: Controller, line: &[u8], out: &mut [u8]) -> Answered
     Answered { next, len }
 }
 
+// Q, the count and the total.
 pub(crate) fn counters(c: Controller, line: &[u8], out: &mut [u8]) -> Answered
     requires { ⌜ Sound c × (4096 ≤ length (now out)) ⌝ }
     ensures { λ r. ⌜ Answers (onCall c (atEnd (good calls.counters (drop 1 (now (line .entry)))))) (now (out .entry)) (now (out .exit)) r ⌝ }
@@ -196,7 +202,7 @@ pub(crate) fn counters(c: Controller, line: &[u8], out: &mut [u8]) -> Answered
 }
 
 // N SET count total
-fn read_restart(line: &[u8]) -> RestartCall
+pub fn read_restart(line: &[u8]) -> RestartCall
     ensures { λ r. ⌜ atEnd (restartAt (drop 1 (now (line .entry)))) ≡ asRestart r ⌝ }
 {
     let Set::Good(set, after_set) = read::set_at(line, 1) else {
@@ -237,6 +243,7 @@ fn in_use(answer: RestartAnswer, old: Controller, new: Controller) -> Controller
     }
 }
 
+// A restart.
 pub(crate) fn restart(c: Controller, line: &[u8], out: &mut [u8]) -> Answered
     requires { ⌜ Sound c × (4096 ≤ length (now out)) ⌝ }
     ensures { λ r. ⌜ Answers (onCall c (atEnd (restartAt (drop 1 (now (line .entry)))))) (now (out .entry)) (now (out .exit)) r ⌝ }

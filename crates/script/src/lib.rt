@@ -1,5 +1,4 @@
 // One call to a line: what a line of a script asks, and the line that answers it.
-mod blocks;
 mod calls;
 mod hours;
 mod print;
@@ -7,22 +6,23 @@ mod read;
 mod request;
 mod tools;
 
-pub use blocks::Fed;
-pub use blocks::Replay;
-pub use blocks::carry;
-pub use blocks::feed;
+pub use calls::put_tick;
+pub use calls::read_restart;
+pub use calls::read_tick;
 use controller::Controller;
 use field::Field;
 use field::Weight;
 use journal::Line;
+use lines::LONGEST;
+pub use read::signed_at;
 use settings::Settings;
 ghost use Prim.Native.Nat.{_≤_};
 ghost use lib.ListN.{length};
 ghost use Rattle.laws.specs.Decimal.{bad};
 ghost use Rattle.controller.specs.Sound.{Sound};
 ghost use Rattle.script.specs.Call.{callOf};
-ghost use Rattle.script.specs.Answer.{onCall};
-ghost use Rattle.script.specs.Steps.{Answers, answerIn};
+ghost use Rattle.script.specs.Answer.{onCall, asideBy};
+ghost use Rattle.script.specs.Steps.{Answers, asideIn};
 
 // The next controller, and how many bytes the answer has.
 pub struct Answered {
@@ -31,11 +31,12 @@ pub struct Answered {
 }
 
 // A number that may be below 0, read at a place: its value and the place after it, or none.
-enum Signed {
+pub enum Signed {
     Good(i32, usize),
     Bad,
 }
 
+// 0 or 1 read at a place, and the place after it, or none.
 enum Flag {
     Good(bool, usize),
     Bad,
@@ -54,42 +55,43 @@ struct Numbers {
     values: [u32; 17],
 }
 
+// A set of settings read at a place, and the place after it, or none.
 enum Set {
     Good(Settings, usize),
     Bad,
 }
 
-enum TickCall {
+// T sample inputs, or something else.
+pub enum TickCall {
     Tick(i32, u8),
     Unknown,
 }
 
-// A line of a block that is a tick, and the place of its LF.
-enum TickLine {
-    Tick(i32, u8, usize),
-    Other,
-}
-
+// A line of the letter L: the link start, or no call.
 enum LinkCall {
     Link(bool),
     Unknown,
 }
 
+// A line of the letter S: new settings, or no call.
 enum SetCall {
     Set(Settings),
     Unknown,
 }
 
-enum RestartCall {
+// N SET count total, or something else.
+pub enum RestartCall {
     Restart(Settings, u32, u32),
     Unknown,
 }
 
+// A line of the letter G: a weight to write, or no call.
 enum WeightCall {
     Weight(Weight),
     Unknown,
 }
 
+// A line of the letter K: a weight field to read, or no call.
 enum FieldCall {
     Field(Field),
     Unknown,
@@ -101,11 +103,13 @@ enum RoomCall {
     Unknown,
 }
 
+// A line of bytes alone: how many, or no call.
 enum BytesCall {
     Bytes(usize),
     Unknown,
 }
 
+// A line of the letter D or H: a line of a journal and a room, or no call.
 enum LineCall {
     Line(Line, usize),
     Unknown,
@@ -113,9 +117,6 @@ enum LineCall {
 
 // So many bytes hold every answer.
 pub const ENOUGH: usize = 4096;
-
-// A line has at most so many bytes, its LF left out.
-pub const LONGEST: usize = 4095;
 
 // A line that is no call is answered ? and calls nothing.
 fn unknown(c: Controller, out: &mut [u8]) -> Answered
@@ -126,15 +127,15 @@ fn unknown(c: Controller, out: &mut [u8]) -> Answered
     Answered { next: c, len }
 }
 
-// The answer to a line that has a letter.
+// The answer to a line that has a letter and is no tick.
 fn by_letter(c: Controller, line: &[u8], out: &mut [u8]) -> Answered
     requires sound { ⌜ Sound c ⌝ }
     requires line { ⌜ (1 ≤ length (now line)) × (length (now line) ≤ 4095) ⌝ }
     requires room { ⌜ 4096 ≤ length (now out) ⌝ }
-    ensures { λ r. ⌜ Answers (onCall c (callOf (now (line .entry)))) (now (out .entry)) (now (out .exit)) r ⌝ }
+    ensures { λ r. ⌜ Answers (asideBy c (callOf (now (line .entry)))) (now (out .entry)) (now (out .exit)) r ⌝ }
 {
     match line[0] {
-        b'T' => calls::tick(c, line, out),
+        b'T' => calls::not_tick(c, line, out),
         b'L' => calls::link(c, line, out),
         b'S' => calls::settings(c, line, out),
         b'C' => calls::reset(c, line, out),
@@ -148,10 +149,10 @@ fn by_letter(c: Controller, line: &[u8], out: &mut [u8]) -> Answered
     }
 }
 
-// The answer to a line, its LF left out; a buffer that is not enough is left as it was, and nothing is called.
-pub fn answer(c: Controller, line: &[u8], out: &mut [u8]) -> Answered
+// The answer to a line that is no tick, its LF left out; a buffer that is not enough is left as it was, and nothing is called.
+pub fn aside(c: Controller, line: &[u8], out: &mut [u8]) -> Answered
     requires { ⌜ Sound c ⌝ }
-    ensures { λ r. ⌜ Answers (answerIn (length (now (out .entry))) c (now (line .entry))) (now (out .entry)) (now (out .exit)) r ⌝ }
+    ensures { λ r. ⌜ Answers (asideIn (length (now (out .entry))) c (now (line .entry))) (now (out .entry)) (now (out .exit)) r ⌝ }
 {
     if out.len() < ENOUGH {
         return Answered { next: c, len: 0 };

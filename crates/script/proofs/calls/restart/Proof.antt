@@ -1,5 +1,4 @@
-use mathlib.Core.Path.{_≡_, sym, ap, _∙_, subst}
-use Rattle.controller.specs.declared.Controller.{Controller}
+use mathlib.Core.Path.{sym, ap, _∙_, subst}
 use Rattle.controller.specs.Sound.{Sound}
 use Rattle.script.specs.Answer.{doneText, answered, onCall}
 use Rattle.script.specs.Print.{prints-text}

@@ -5,7 +5,7 @@ use mathlib.Core.List.{List, []}
 use Prim.Native.Nat.{ℕ, _+_, _*_, _-_, _≤_, _<_}
 use native.Mathlib.Omega.{arith}
 use denote.Ref.{now}
-use lib.ListN.{length, length-set, getD, set}
+use lib.ListN.{length, length-set, getD}
 use borrow.Author.Tests.{not-true, not-false}
 use Rattle.laws.specs.Pick.{so}
 use Rattle.script.specs.Call.{isHex, hexValue}

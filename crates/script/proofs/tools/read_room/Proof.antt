@@ -1,11 +1,10 @@
 use mathlib.Core.Path.{_≡_, ap, _∙_}
 use denote.Ref.{now}
-use lib.ListN.{drop, take}
+use lib.ListN.{drop}
 use Rattle.laws.specs.Decimal.{good}
 use Rattle.text.specs.Scan.{fieldAt, leads}
 use Rattle.script.specs.Call.{atEnd}
-use Rattle.script.specs.Reading.{on-good, on-bad}
-use Rattle.script.proofs.Figures.{field-most}
+use Rattle.script.specs.Reading.{on-good, on-bad, field-most}
 use Rattle.script.proofs.Lines.{at-end, past-end, room-direct, decoded-good, decoded-bad}
 use borrow.Author.Needs.{needs}
 use Rattle.script.proofs.tools.read_room.Statement.{statement}
