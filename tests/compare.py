@@ -125,6 +125,7 @@ def stored_journals():
 
 def stored_record():
     yield from stored('record', 'tests/cases/*.record')
+    yield from stored('record', 'crates/record/stdin')
     yield from stored('record', 'samples/*.record')
 
 

@@ -6,10 +6,10 @@ end are made for hours of 100 ticks; `record` itself sees only their doses.
 
 import os
 
-from make_cases import (AL0, AL1, AL2, AL3, CASES, CODES, START, Case, tank,
+from make_cases import (AL0, AL1, AL2, AL3, CODES, START, ROOT, Case, tank,
                         write)
 from second import journals
-from second.record import Record
+from second.record import Record, written
 from second.settings import Settings
 
 TICKS = 100
@@ -110,7 +110,10 @@ def doses_case():
     case.quick(77)
     case.ticks(66, 5)
     case.ticks(9, 5, START)
-    case.save(os.path.join(CASES, 'lines.record'), b'T\t5\t8')
+    folder = os.path.join(ROOT, 'crates', 'record')
+    case.save(os.path.join(folder, 'stdin'), b'T\t5\t8')
+    with open(os.path.join(folder, 'stdin'), 'rb') as data:
+        write(os.path.join(folder, 'stdout'), b''.join(written(data)))
 
 
 def hours_case():

@@ -2,7 +2,6 @@
 use mathlib.Core.Path.{_≡_, refl, ap}
 use mathlib.Core.List.{[], _∷_}
 use Prim.Native.Nat.{ℕ}
-use native.Mathlib.Omega.{arith}
 use Rattle.laws.specs.Pick.{pick}
 use Rattle.paper.specs.Answer.{Answer, done, refused, fault, told}
 use Rattle.controller.specs.declared.Controller.{Controller}
@@ -10,18 +9,14 @@ use Rattle.controller.specs.declared.Record.{Record}
 use Rattle.controller.specs.declared.TickAnswer.the-variants as T
 use Rattle.controller.specs.declared.RestartAnswer.{RestartAnswer}
 use Rattle.controller.specs.declared.RestartAnswer.the-variants as R
-use Rattle.controller.specs.Calls.{controllerIn}
 use Rattle.controller.specs.Says.{saysTick, saysRestart}
 use Rattle.controller.specs.Sound.{Sound}
-use Rattle.script.specs.Answer.{numberText, flagText, lineText, valuesText, recordText, tickText, doneText, kept}
-use Rattle.script.specs.Steps.{inUse}
+use Rattle.script.specs.Answer.{numberText, flagText, lineText, valuesText, recordText, tickText, doneText}
+use Rattle.script.specs.Steps.{inUse, noValue}
 
 pub dose-text : (o : ℕ) (r : Record) (f : ℕ) → f ≡ pick (r .settled) 1 0 → lineText (68 ∷ []) (valuesText (o ∷ r .count ∷ r .amount ∷ f ∷ [])) ≡ tickText (saysTick (T.Dose o r))
 unfolding tickText recordText valuesText flagText numberText
 dose-text o r f e = ap (λ (n : ℕ). lineText (68 ∷ []) (numberText o ∷ numberText (r .count) ∷ numberText (r .amount) ∷ numberText n ∷ [])) e
-
-abbrev noValue : Controller → Unit {0}
-noValue c = tt
 
 -- what is told of a restart says the same
 pub restart-text : (a : Answer Controller) → doneText (told noValue a) ≡ doneText a
@@ -29,18 +24,6 @@ unfolding told doneText
 restart-text (done c) = refl
 restart-text (refused n vs) = refl
 restart-text (fault n vs) = refl
-
-pub restart-kept : (c : Controller) (a : Answer Controller) (r : RestartAnswer) → saysRestart r ≡ told noValue a → inUse r c (controllerIn a) ≡ kept c a
-unfolding told controllerIn kept
-restart-kept c (done c') R.Done e = refl
-restart-kept c (done c') (R.R2 row) e = let z : _≡_ {A = ℕ} 0 1 = cc in absurd (omega arith)
-restart-kept c (done c') R.R15 e = let z : _≡_ {A = ℕ} 0 1 = cc in absurd (omega arith)
-restart-kept c (refused n vs) R.Done e = let z : _≡_ {A = ℕ} 0 1 = cc in absurd (omega arith)
-restart-kept c (refused n vs) (R.R2 row) e = refl
-restart-kept c (refused n vs) R.R15 e = refl
-restart-kept c (fault n vs) R.Done e = let z : _≡_ {A = ℕ} 0 1 = cc in absurd (omega arith)
-restart-kept c (fault n vs) (R.R2 row) e = refl
-restart-kept c (fault n vs) R.R15 e = refl
 
 pub restart-sound : (r : RestartAnswer) (old new : Controller) → Sound old → (saysRestart r ≡ done tt → Sound new) → Sound (inUse r old new)
 restart-sound R.Done old new s t = t refl

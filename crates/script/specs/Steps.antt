@@ -2,23 +2,25 @@
 use mathlib.Core.Path.{_≡_, refl, sym, ap, subst}
 use mathlib.Core.List.{List, [], _∷_}
 use Prim.Native.Nat.{ℕ, _≤_, _<_}
+use native.Mathlib.Omega.{arith}
 use lib.Dec.{leb, eqb}
 use lib.ListN.{length, take, drop, replicate}
 use borrow.Author.Tests.{le-leb, lt-leb}
 use Rattle.laws.specs.Pick.{pick, pick-t, pick-f}
 use Rattle.laws.specs.Over.{over}
 use Rattle.laws.specs.Decimal.{Parsed, good, bad}
-use Rattle.paper.specs.Answer.{same}
+use Rattle.paper.specs.Answer.{Answer, done, refused, fault, told, same}
 use Rattle.journal.specs.declared.Refusal.{Refusal}
 use Rattle.journal.specs.declared.Refusal.the-variants as J
 use Rattle.controller.specs.declared.Controller.{Controller}
 use Rattle.controller.specs.declared.RestartAnswer.{RestartAnswer}
 use Rattle.controller.specs.declared.RestartAnswer.the-variants as R
 use Rattle.controller.specs.declared.TickAnswer.{TickAnswer}
-use Rattle.controller.specs.Says.{saysTick}
+use Rattle.controller.specs.Calls.{controllerIn}
+use Rattle.controller.specs.Says.{saysTick, saysRestart}
 use Rattle.controller.specs.Sound.{Sound}
 use Rattle.script.specs.Call.{Call, tick, link, settings, restart, writeField, readField, writeLine, writeFrame, readFrame, readLine, hours, atEnd, roomAt, bytesCall, writeFieldAt, readFieldAt, doseAt, onAt, hourAt}
-use Rattle.script.specs.Answer.{Step, tickText, onCall, asked, asideBy}
+use Rattle.script.specs.Answer.{Step, tickText, kept, onCall, asked, asideBy}
 use Rattle.script.specs.Print.{Prints, prints-over}
 use Rattle.script.specs.declared.Answered.{Answered}
 use Rattle.script.specs.declared.TickCall.{TickCall}
@@ -143,6 +145,22 @@ abbrev pub inUse : RestartAnswer → Controller → Controller → Controller
 inUse R.Done old new = new
 inUse (R.R2 row) old new = old
 inUse R.R15 old new = old
+
+abbrev pub noValue : Controller → Unit {0}
+noValue c = tt
+
+-- is the one that the rule keeps
+pub restart-kept : (c : Controller) (a : Answer Controller) (r : RestartAnswer) → saysRestart r ≡ told noValue a → inUse r c (controllerIn a) ≡ kept c a
+unfolding told controllerIn kept
+restart-kept c (done c') R.Done e = refl
+restart-kept c (done c') (R.R2 row) e = let z : _≡_ {A = ℕ} 0 1 = cc in absurd (omega arith)
+restart-kept c (done c') R.R15 e = let z : _≡_ {A = ℕ} 0 1 = cc in absurd (omega arith)
+restart-kept c (refused n vs) R.Done e = let z : _≡_ {A = ℕ} 0 1 = cc in absurd (omega arith)
+restart-kept c (refused n vs) (R.R2 row) e = refl
+restart-kept c (refused n vs) R.R15 e = refl
+restart-kept c (fault n vs) R.Done e = let z : _≡_ {A = ℕ} 0 1 = cc in absurd (omega arith)
+restart-kept c (fault n vs) (R.R2 row) e = refl
+restart-kept c (fault n vs) R.R15 e = refl
 
 -- the answer to a line that is no tick: 4,096 bytes hold every answer; where there are fewer nothing is called
 unfoldable pub asideIn : ℕ → Controller → List ℕ → Step

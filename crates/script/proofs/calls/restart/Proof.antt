@@ -2,8 +2,8 @@ use mathlib.Core.Path.{sym, ap, _∙_, subst}
 use Rattle.controller.specs.Sound.{Sound}
 use Rattle.script.specs.Answer.{doneText, answered, onCall}
 use Rattle.script.specs.Print.{prints-text}
-use Rattle.script.specs.Steps.{asRestart, inUse, made, answers-as}
-use Rattle.script.proofs.Texts.{restart-text, restart-kept, restart-sound}
+use Rattle.script.specs.Steps.{asRestart, inUse, restart-kept, made, answers-as}
+use Rattle.script.proofs.Texts.{restart-text, restart-sound}
 use borrow.Author.Needs.{needs}
 use Rattle.script.proofs.calls.restart.Statement.{statement}
 use Rattle.script.proofs.calls.restart.Tie as tie

@@ -1,0 +1,265 @@
+-- What a recording writes is readable: lines in range and in order, up to a refusal that ends it. Assumes nothing.
+use mathlib.Core.Path.{_≡_, refl, sym, ap, _∙_, subst}
+use mathlib.Core.Bool.{Bool, true, false}
+use mathlib.Core.List.{List, [], _∷_, _++_, append-assoc, append-nil}
+use Prim.Native.Nat.{ℕ, suc, _+_, _≤_, _<_}
+use native.Mathlib.Nat.{add-suc, suc-add, add-zero}
+use native.Mathlib.Omega.{arith}
+use lib.Dec.{eqb, ltb}
+use lib.ListN.{length, length-append}
+use borrow.Author.Tests.{ltb-false, eqb-false}
+use Rattle.laws.specs.Pick.{pick, pick-f, pick-if}
+use Rattle.laws.specs.Whole.{false-true}
+use Rattle.laws.specs.Decimal.{Parsed, good, bad, numberAt}
+use Rattle.laws.specs.DecimalLaws.{number-only}
+use Rattle.paper.specs.Answer.{Answer, done, refused, told}
+use Rattle.paper.specs.Numbers.{R10}
+use Rattle.journal.specs.declared.Line.{Line}
+use Rattle.journal.specs.declared.Line.the-variants.{Dose, On}
+use Rattle.journal.specs.declared.Past.{Past}
+use Rattle.journal.specs.Line.{textOf, inRange, lineOf}
+use Rattle.journal.specs.LineLaws.{read-text, text-only}
+use Rattle.journal.specs.Journal.{hourIn, closes, noPast, pastAfter, ordered, journalOf, firstHour, journalText}
+use Rattle.journal.specs.JournalLaws.{Keeps, Reads, none, more, Each, each-map, linesFrom, lines-bad, lines-good, journal-lines, journal-reads}
+use Rattle.journal.specs.Order.{Follows, Steps, Ordered, ordered-journal}
+use Rattle.controller.specs.declared.Record.{Record}
+use Rattle.script.specs.Answer.{numberText, valuesText, lineText, refusedText, answerTo}
+use Rattle.lines.specs.Lines as input
+use Rattle.lines.specs.Blocks.{saidTo}
+use Rattle.recorder.specs.Recording.{ticksAnHour, greatestHour, heardIn, Note, startOf, withBox, withStage, withHour, withTicks, withWhole, refuse, firstOf, doseIn, closing, nextHour, oneMore, counted, heardBy, recorded, noteBy, noteOf, notesOf, recordOf, Carries}
+use Rattle.recorder.specs.Noting.{Writable}
+use Rattle.recorder.specs.Keeps.{answer-sound, heard-writable, on-in-range, dose-in-range, start-carries, box-carries, note-carries, first-carries, ticks-carries, next-carries, whole-carries}
+use Rattle.recorder.specs.declared.Heard.{Heard}
+use Rattle.recorder.specs.declared.Heard.the-variants.{Ticked, Dosed, Restarted, Lost, Other}
+use Rattle.recorder.specs.declared.Stage.{Stage}
+use Rattle.recorder.specs.declared.Stage.the-variants.{First, Recording, Over}
+use Rattle.recorder.specs.declared.Recorder.{Recorder}
+
+-- ---- the statement
+
+-- after the lines: nothing, or the one line of a refusal; R10 with line 1 only where there are none
+pub data Ends : List Line → List ℕ → Type 0 where
+  ended : {ls : List Line} → Ends ls []
+  above : {ls : List Line} → Ends ls (refusedText R10 (0 ∷ []) [])
+  notFirst : Ends [] (refusedText R10 (1 ∷ []) [])
+
+-- lines in range, whose hours never go back, and after an H the next line's hour is greater
+pub record Readable (text : List ℕ) : Type 0 where
+  pub lines : List Line
+  pub rest : List ℕ
+  pub is : text ≡ journalText lines ++ rest
+  pub ends : Ends lines rest
+  pub range : Each (λ l. inRange l ≡ true) lines
+  pub steps : Steps lines
+
+-- ---- the lines from an hour on
+
+record Written (h : ℕ) (text : List ℕ) : Type 0 where
+  lines : List Line
+  rest : List ℕ
+  is : text ≡ journalText lines ++ rest
+  ends : (ls : List Line) → Ends ls rest
+  range : Each (λ l. inRange l ≡ true) lines
+  steps : Steps lines
+  from : Each (λ l. h ≤ hourIn l) lines
+
+no-lines : {h : ℕ} {rest : List ℕ} → ((ls : List Line) → Ends ls rest) → Written h rest
+unfolding journalText
+no-lines {h} {rest} e = record { lines = []; rest = rest; is = refl; ends = e; range = tt; steps = tt; from = tt }
+
+same-text : {h : ℕ} {text text' : List ℕ} → text' ≡ text → Written h text → Written h text'
+same-text {h} e w = subst (Written h) (sym e) w
+
+later : {h k : ℕ} {text : List ℕ} → h ≤ k → Written k text → Written h text
+later {h} {k} e w = record {
+  lines = w .lines;
+  rest = w .rest;
+  is = w .is;
+  ends = w .ends;
+  range = w .range;
+  steps = w .steps;
+  from = each-map (w .lines) (λ l f. omega arith) (w .from);
+}
+
+-- a line before those of its hour, or of a later one where it closes its hour
+follow : {k : ℕ} (l : Line) (ls : List Line) → hourIn l ≤ k → (closes l ≡ true → hourIn l < k) → Each (λ m. k ≤ hourIn m) ls → Steps ls → Steps (l ∷ ls)
+follow l [] e f g s = tt
+follow l (m ∷ ms) e f g s = (record { onward = omega (arith, g .0); beyond = λ c. let b = f c in omega (arith, g .0) }, s)
+
+before : {k : ℕ} {text : List ℕ} (l : Line) → inRange l ≡ true → hourIn l ≤ k → (closes l ≡ true → hourIn l < k) → Written k text → Written (hourIn l) (textOf l ++ text)
+unfolding journalText
+before {k} l r e f w = record {
+  lines = l ∷ w .lines;
+  rest = w .rest;
+  is = ap (λ (t : List ℕ). textOf l ++ t) (w .is) ∙ sym (append-assoc (textOf l) (journalText (w .lines)) (w .rest));
+  ends = w .ends;
+  range = (r, w .range);
+  steps = follow l (w .lines) e f (w .from) (w .steps);
+  from = (omega arith, each-map (w .lines) (λ m g. omega arith) (w .from));
+}
+
+-- ---- what a line adds
+
+over-nothing : (r : Recorder) (ls : List (List ℕ)) → r .stage ≡ Over → notesOf r ls ≡ []
+unfolding saidTo noteOf noteBy
+over-nothing r [] e = refl
+over-nothing r (l ∷ ls) e = ap (λ (n : Note). n .text ++ notesOf (n .next) ls) (ap (λ (s : Stage). noteBy s r l) e) ∙ over-nothing r ls e
+
+-- a refusal ends it
+refusal-ends : {h : ℕ} (n : ℕ) (r : Recorder) (ls : List (List ℕ)) → ((ms : List Line) → Ends ms (refusedText R10 (n ∷ []) [])) → Written h (refuse n r .text ++ notesOf (refuse n r .next) ls)
+unfolding refuse withStage
+refusal-ends n r ls e = same-text (ap (λ (t : List ℕ). refusedText R10 (n ∷ []) [] ++ t) (over-nothing (withStage Over r) ls refl) ∙ append-nil (refusedText R10 (n ∷ []) [])) (no-lines e)
+
+-- a D line of an hour
+record DoseOf (h : ℕ) (l : Line) : Type 0 where
+  range : inRange l ≡ true
+  hour : hourIn l ≡ h
+  unclosed : closes l ≡ false
+
+before-doses : {h : ℕ} {text : List ℕ} (ds : List Line) → Each (DoseOf h) ds → Written h text → Written h (journalText ds ++ text)
+unfolding journalText
+before-doses [] e w = w
+before-doses {h} {text} (d ∷ ds) e w =
+    let o = e .0 in
+    same-text (append-assoc (textOf d) (journalText ds) text)
+    (subst (λ (n : ℕ). Written n (textOf d ++ (journalText ds ++ text))) (o .hour)
+    (before {k = h} d (o .range) (omega (arith, o .hour)) (λ c. false-true (sym (o .unclosed) ∙ c)) (before-doses ds (e .1) w)))
+
+-- the H line of an hour, before the lines of those that follow
+before-closing : {text : List ℕ} (r : Recorder) → r .hour ≤ greatestHour → Written (r .hour + 1) text → Written (r .hour) (journalText (closing r) ++ text)
+unfolding closing journalText hourIn pick
+before-closing {text} r h w = go (r .whole)
+  where
+    go : (b : Bool) → Written (r .hour) (journalText (pick b (On (r .hour) ∷ []) []) ++ text)
+    go true =
+        same-text (ap (λ (t : List ℕ). t ++ text) (append-nil (textOf (On (r .hour)))))
+        (before {k = r .hour + 1} (On (r .hour)) (on-in-range (r .hour) h) (omega arith) (λ c. omega arith) w)
+    go false = later {k = r .hour + 1} (omega arith) w
+
+pub journal-append : (a b : List Line) → journalText (a ++ b) ≡ journalText a ++ journalText b
+unfolding journalText
+journal-append [] b = refl
+journal-append (l ∷ ls) b = ap (λ (t : List ℕ). textOf l ++ t) (journal-append ls b) ∙ sym (append-assoc (textOf l) (journalText ls) (journalText b))
+
+-- what the lines that follow add, from every recorder that they can meet
+abbrev Following : List (List ℕ) → Type 0
+Following ls = (q : Recorder) → q .stage ≡ Recording → Carries q → Written (q .hour) (notesOf q ls)
+
+more-written : (r : Recorder) (ds : List Line) (ls : List (List ℕ)) → r .stage ≡ Recording → Carries r → r .hour ≤ greatestHour → Each (DoseOf (r .hour)) ds → Following ls
+    → Written (r .hour) (oneMore r ds .text ++ notesOf (oneMore r ds .next) ls)
+unfolding oneMore nextHour withHour withTicks withWhole
+more-written r ds ls s k h o rest =
+    pick-if (λ (n : Note). Written (r .hour) (n .text ++ notesOf (n .next) ls)) (eqb (r .ticks + 1) ticksAnHour)
+    (λ e.
+    same-text (ap (λ (t : List ℕ). t ++ notesOf (nextHour r) ls) (journal-append ds (closing r)) ∙ append-assoc (journalText ds) (journalText (closing r)) (notesOf (nextHour r) ls))
+    (before-doses ds o (before-closing r h (following (next-carries r k h)))))
+    (λ e. before-doses ds o (one-tick (ticks-carries r k e)))
+  where
+    following : Carries (nextHour r) → Written (r .hour + 1) (notesOf (nextHour r) ls)
+    following c = rest (nextHour r) s c
+
+    one-tick : Carries (withTicks (r .ticks + 1) r) → Written (r .hour) (notesOf (withTicks (r .ticks + 1) r) ls)
+    one-tick c = rest (withTicks (r .ticks + 1) r) s c
+
+counted-written : (r : Recorder) (ds : List Line) (ls : List (List ℕ)) → r .stage ≡ Recording → Carries r → (r .hour ≤ greatestHour → Each (DoseOf (r .hour)) ds) → Following ls
+    → Written (r .hour) (counted r ds .text ++ notesOf (counted r ds .next) ls)
+unfolding counted
+counted-written r ds ls s k o rest =
+    pick-if (λ (n : Note). Written (r .hour) (n .text ++ notesOf (n .next) ls)) (ltb greatestHour (r .hour))
+    (λ e. refusal-ends 0 r ls (λ ms. above))
+    (λ e. let h = ltb-false greatestHour (r .hour) e in more-written r ds ls s k h (o h) rest)
+
+dose-of : (h : ℕ) (d : Record) → h ≤ greatestHour → Writable (Dosed d) → Each (DoseOf h) (doseIn h d)
+unfolding doseIn hourIn closes
+dose-of h d m k = (record { range = dose-in-range h d m k; hour = refl; unclosed = refl }, tt)
+
+heard-written : (r : Recorder) (h : Heard) (ls : List (List ℕ)) → r .stage ≡ Recording → Carries r → Writable h → Following ls
+    → Written (r .hour) (heardBy r h .text ++ notesOf (heardBy r h .next) ls)
+unfolding heardBy withWhole
+heard-written r Ticked ls s k w rest = counted-written r [] ls s k (λ h. tt) rest
+heard-written r (Dosed d) ls s k w rest = counted-written r (doseIn (r .hour) d) ls s k (λ h. dose-of (r .hour) d h w) rest
+heard-written r Restarted ls s k w rest = rest _ s (whole-carries _ r k)
+heard-written r Lost ls s k w rest = rest _ s (whole-carries false r k)
+heard-written r Other ls s k w rest = rest r s k
+
+recording-written : (ls : List (List ℕ)) → Following ls
+unfolding saidTo noteOf noteBy recorded withBox
+recording-written [] q s k = no-lines (λ ms. ended)
+recording-written (l ∷ ls) q s k =
+    let c = q .controller in
+    let a = answerTo c l .next in
+    same-text (ap (λ (n : Note). n .text ++ notesOf (n .next) ls) (ap (λ (t : Stage). noteBy t q l) s))
+    (heard-written (withBox a q) (heardIn c l) ls s (box-carries a q (answer-sound c l (k .sound)) k) (heard-writable c l (k .sound)) (recording-written ls))
+
+-- ---- a whole input
+
+readable : {h : ℕ} {text : List ℕ} → Written h text → Readable text
+readable w = record { lines = w .lines; rest = w .rest; is = w .is; ends = w .ends (w .lines); range = w .range; steps = w .steps }
+
+not-first : (r : Recorder) (ls : List (List ℕ)) → Readable (refuse 1 r .text ++ notesOf (refuse 1 r .next) ls)
+unfolding refuse withStage journalText
+not-first r ls = record {
+  lines = [];
+  rest = refusedText R10 (1 ∷ []) [];
+  is = ap (λ (t : List ℕ). refusedText R10 (1 ∷ []) [] ++ t) (over-nothing (withStage Over r) ls refl) ∙ append-nil (refusedText R10 (1 ∷ []) []);
+  ends = notFirst;
+  range = tt;
+  steps = tt;
+}
+
+first-readable : (r : Recorder) (p : Parsed ℕ) (ls : List (List ℕ)) → Carries (firstOf r p .next) → Readable (firstOf r p .text ++ notesOf (firstOf r p .next) ls)
+unfolding firstOf withStage
+first-readable r (good h []) ls k = readable (recording-written ls (withStage Recording (withHour h r)) refl k)
+first-readable r (good h (b ∷ bs)) ls k = not-first r ls
+first-readable r bad ls k = not-first r ls
+
+lines-readable : (ls : List (List ℕ)) → Readable (notesOf startOf ls)
+unfolding saidTo noteOf noteBy startOf
+lines-readable [] = readable {h = 0} (no-lines (λ ms. ended))
+lines-readable (l ∷ ls) = first-readable startOf (numberAt greatestHour l) ls (note-carries startOf l start-carries)
+
+-- what `record` writes, for every input
+pub record-readable : (bytes : List ℕ) → Readable (recordOf bytes)
+unfolding recordOf
+record-readable bytes = lines-readable (input.linesFrom [] bytes)
+
+-- ---- the journal is read as those lines, or refused at the line of the refusal
+
+-- no line's hour is 744 or more above the first line's
+abbrev pub Near : List Line → Type 0
+Near ls = Each (λ l. hourIn l < firstHour ls + 744) ls
+
+pub readable-read : {text : List ℕ} (r : Readable text) → r .rest ≡ [] → Near (r .lines) → length text ≤ 65536 → journalOf text ≡ done (r .lines)
+readable-read {text} r e n h =
+    let is : text ≡ journalText (r .lines) = r .is ∙ ap (λ (t : List ℕ). journalText (r .lines) ++ t) e ∙ append-nil (journalText (r .lines)) in
+    ap journalOf is ∙ ordered-journal (r .lines) (record { steps = r .steps; near = n }) (r .range) (omega (arith, ap length is))
+
+-- something that is no line of a journal after some that are
+after-lines : {p : Past} {s : List ℕ} {ls : List Line} (n : ℕ) (tail : List ℕ) → 0 < length tail → lineOf tail ≡ bad → Reads p s ls → linesFrom p n (s ++ tail) ≡ refused R10 ((n + length ls) ∷ [])
+unfolding ordered told
+after-lines {p} n tail h e none = lines-bad p n tail h e ∙ ap (λ (k : ℕ). refused R10 (k ∷ [])) (sym (add-zero n))
+after-lines {p} {s} n tail h e (more {rest = rest} {l = l} {ls = ls} q k r) =
+    let o = text-only s l rest q in
+    let again : lineOf (s ++ tail) ≡ good l (rest ++ tail) = ap (λ (t : List ℕ). lineOf (t ++ tail)) (o .text) ∙ ap lineOf (append-assoc (textOf l) rest tail) ∙ read-text l (rest ++ tail) (o .range) in
+    let place : suc n + length ls ≡ n + suc (length ls) = omega arith in
+    lines-good p n (s ++ tail) l (rest ++ tail) again
+    ∙ pick-f _ _ _ (k .order)
+    ∙ pick-f _ _ _ (k .near)
+    ∙ ap (told (λ (ms : List Line). l ∷ ms)) (after-lines (suc n) tail h e r)
+    ∙ ap (λ (i : ℕ). refused R10 (i ∷ [])) place
+
+refusal-unread : (n : ℕ) → (lineOf (refusedText R10 (n ∷ []) []) ≡ bad) × (0 < length (refusedText R10 (n ∷ []) []))
+unfolding refusedText lineText lineOf pick
+refusal-unread n = (refl, omega arith)
+
+pub readable-refused : {text : List ℕ} (r : Readable text) (n : ℕ) → r .rest ≡ refusedText R10 (n ∷ []) [] → Near (r .lines) → length text ≤ 65536
+    → journalOf text ≡ refused R10 ((1 + length (r .lines)) ∷ [])
+readable-refused {text} r n e near h =
+    let ls = r .lines in
+    let tail = refusedText R10 (n ∷ []) [] in
+    let is : text ≡ journalText ls ++ tail = r .is ∙ ap (λ (t : List ℕ). journalText ls ++ t) e in
+    let size : length (journalText ls) ≤ 65536 = omega (arith, ap length is, length-append (journalText ls) tail) in
+    let read = journal-reads (journalText ls) ls (ordered-journal ls (record { steps = r .steps; near = near }) (r .range) size) in
+    journal-lines text h
+    ∙ ap (linesFrom noPast 1) is
+    ∙ after-lines 1 tail (refusal-unread n .1) (refusal-unread n .0) read
