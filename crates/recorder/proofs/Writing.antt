@@ -18,12 +18,12 @@ use Rattle.paper.specs.AnswerLaws.{refused-done}
 use Rattle.paper.specs.Numbers.{R10}
 use Rattle.journal.specs.Line.{textOf, inRange, writeOf}
 use Rattle.journal.specs.LineLaws.{text-most, write-fits}
-use Rattle.journal.specs.Says.{saysWrote}
+use Rattle.entry.specs.Says.{saysWrote}
 use Rattle.journal.specs.Journal.{journalText}
 use Rattle.journal.specs.declared.Line.{Line}
 use Rattle.journal.specs.declared.Line.the-variants.{Dose, On}
-use Rattle.journal.specs.declared.Wrote.{Wrote}
-use Rattle.journal.specs.declared.Wrote.the-variants as W
+use Rattle.entry.specs.declared.Wrote.{Wrote}
+use Rattle.entry.specs.declared.Wrote.the-variants as W
 use Rattle.controller.specs.declared.Record.{Record}
 use Rattle.script.specs.Answer.{numberText, valuesText, lineText, refusedText}
 use Rattle.script.specs.Print.{Prints, prints-text, prints-as, prints-then, prints-over}

@@ -6,8 +6,8 @@ use crate::Recorder;
 use crate::Stage;
 use crate::TICKS;
 use controller::Record;
+use entry::Wrote;
 use journal::Line;
-use journal::Wrote;
 ghost use mathlib.Core.Path.{_≡_};
 ghost use mathlib.Core.Bool.{true, _&&_};
 ghost use mathlib.Core.List.{[], _∷_};
@@ -59,7 +59,7 @@ fn put_line(out: &mut [u8], at: usize, line: Line) -> usize
     requires { ⌜ (inRange line ≡ true) × (at + 27 ≤ length (now out)) ⌝ }
     ensures { λ r. ⌜ Prints 27 (now (out .entry)) at (textOf line) (now (out .exit)) r ⌝ }
 {
-    match journal::write(line, &mut out[at..]) {
+    match entry::write(line, &mut out[at..]) {
         Wrote::Line(len) => at + len,
         Wrote::R10 => at,
         Wrote::R8 => at,

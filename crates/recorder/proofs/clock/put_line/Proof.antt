@@ -1,7 +1,7 @@
 use denote.Ref.{now}
 use mathlib.Core.Path.{_≡_, refl, sym, ap, _∙_}
 use native.Mathlib.Omega.{arith}
-use Rattle.journal.specs.Says.{saysWrote}
+use Rattle.entry.specs.Says.{saysWrote}
 use Rattle.recorder.proofs.Writing.{wrote-line, wrote-always}
 use borrow.Author.Needs.{needs}
 use Rattle.recorder.proofs.clock.put_line.Statement.{statement}
