@@ -5,36 +5,24 @@ use mathlib.Core.List.{List, [], _∷_, _++_, append-assoc, append-nil}
 use Prim.Native.Nat.{ℕ, zero, suc, _+_, _-_, _≤_, _<_}
 use native.Mathlib.Omega.{arith}
 use native.Mathlib.Numerals.{add-one}
-use lib.IntN.{ℤ, pos, negsuc, _-ℤ_, negℤ, natAbs, +ℤ-idl}
+use lib.IntN.{pos, _-ℤ_, negℤ, +ℤ-idl}
 use lib.Dec.{eqb}
 use lib.ListN.{length, getD, take, drop, set}
 use lib.Seq.{take-suc-set}
-use lib.Signed.{ltZ}
-use borrow.Author.Tests.{eq-eqb, ne-eqb, ltb-true}
+use borrow.Author.Tests.{eq-eqb, ne-eqb}
 use mir.Syntax.{w32, w64}
 use mir.Val.{toZ, ofZ, SFits}
 use mir.Facts.{toZ-ofZ, toZ-pos}
 use Rattle.laws.specs.Pick.{pick, pick-t, pick-f}
-use Rattle.laws.specs.Whole.{true-false, fits64, abs-neg}
-use Rattle.laws.specs.Decimal.{Parsed, good, bad, decimal, numberAt}
+use Rattle.laws.specs.Whole.{fits64, abs-neg}
+use Rattle.laws.specs.Decimal.{Parsed, good, bad, numberAt}
 use Rattle.laws.specs.DecimalLaws.{number-only}
 use Rattle.text.specs.Scan.{expect, onGood, fieldAt}
 use Rattle.text.specs.ScanLaws.{from-place, bad-good}
 use Rattle.script.specs.Call.{greatest32, minus, plus, signedAt}
-use Rattle.script.specs.Answer.{signedText}
 use Rattle.script.specs.Reading.{on-good, on-bad, on-on, on-same, numbersAt, on-id}
 
 -- ---- signs
-
-pub text-minus : (w : ℤ) → ltZ w (pos 0) ≡ true → 45 ∷ decimal (natAbs w) ≡ signedText w
-unfolding signedText
-text-minus (pos n) t = let l : n < 0 = ltb-true n 0 t in absurd (omega arith)
-text-minus (negsuc n) t = refl
-
-pub text-plus : (w : ℤ) → ltZ w (pos 0) ≡ false → decimal (natAbs w) ≡ signedText w
-unfolding signedText
-text-plus (pos n) t = refl
-text-plus (negsuc n) t = true-false t
 
 -- a number below 0 that an i32 holds, by way of an i64
 minus-fits : (n : ℕ) → 1 ≤ n → n ≤ 2147483648 → SFits w32 (negℤ (pos n))

@@ -8,7 +8,8 @@ use Rattle.paper.specs.Answer.{Answer, done, refused, fault, told, leaves, Fill
 use Rattle.journal.specs.Says.{saysRefusal}
 use Rattle.journal.specs.declared.Refusal.{Refusal}
 use Rattle.journal.specs.declared.Refusal.the-variants as J
-use Rattle.script.specs.Answer.{bytesText, lineText, valuesText, refusedText, lineNamed, filledText, hourText, journalNamed, hoursText}
+use Rattle.answers.specs.Text.{bytesText, lineText, valuesText, refusedText, lineNamed}
+use Rattle.script.specs.Answer.{filledText, hourText, journalNamed, hoursText}
 use Rattle.script.specs.Steps.{refusalShown}
 use Rattle.script.proofs.Shown.{shownText, shown}
 

@@ -18,7 +18,8 @@ use Rattle.frame.specs.Read.{Finished, readOf}
 use Rattle.frame.specs.ReadLaws.{done-whole}
 use Rattle.frame.specs.Says.{saysFound, placeAndLength, bytesOf, Reads}
 use Rattle.script.specs.Call.{fieldFrom}
-use Rattle.script.specs.Answer.{numberText, signedText, flagText, bytesText, lineText, valuesText, refusedText, filledText, frameText, weightText}
+use Rattle.answers.specs.Text.{numberText, signedText, flagText, bytesText, lineText, valuesText, refusedText}
+use Rattle.script.specs.Answer.{filledText, frameText, weightText}
 
 no-way : {Q : Type 0} → _≡_ {A = ℕ} 0 1 → Q
 no-way z = let f : ⊥ = omega arith in absurd f

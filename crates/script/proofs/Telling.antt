@@ -12,7 +12,7 @@ use Rattle.journal.specs.Line as lines
 use Rattle.controller.specs.declared.Controller.{Controller}
 use Rattle.script.specs.Call.{Call, writeLine, atEnd, roomAt, bytesCall}
 use Rattle.script.specs.Answer.{Step, filledText, answered, onCall}
-use Rattle.script.specs.Print.{Prints, prints-text}
+use Rattle.answers.specs.Print.{Prints, prints-text}
 use Rattle.script.specs.Steps.{asLine, roomOf, asRoom, Within, ReadsRoom, asBytes, sizeOf, ReadsBytes, Untouched, Tells, tells-as}
 use Rattle.script.specs.declared.RoomCall.{RoomCall}
 use Rattle.script.specs.declared.RoomCall.the-variants as W

@@ -1,14 +1,13 @@
 -- One answer to a line: what the box and its writers and readers answer, as text. Assumes nothing.
 use mathlib.Core.Bool.{Bool}
 use mathlib.Core.List.{List, [], _∷_, _++_}
-use Prim.Native.Nat.{ℕ, suc, _+_}
+use Prim.Native.Nat.{ℕ}
 use lib.Dec.{ltb}
-use lib.IntN.{ℤ, pos, negsuc}
 use lib.ListN.{length, replicate}
-use lib.Ieee.{Float, binary64, toBits}
 use Rattle.laws.specs.Pick.{pick}
-use Rattle.laws.specs.Decimal.{Parsed, good, bad, decimal, hexOf}
+use Rattle.laws.specs.Decimal.{Parsed, good, bad}
 use Rattle.paper.specs.Answer.{Answer, done, refused, fault, leaves}
+use Rattle.answers.specs.Text.{numberText, signedText, flagText, bytesText, bitsText, letter, valuesText, refusedText, lineNamed}
 use Rattle.field.specs.declared.Field.{Field}
 use Rattle.field.specs.declared.Weight.{Weight}
 use Rattle.field.specs.Field.{writeOf, readOf}
@@ -17,7 +16,6 @@ use Rattle.frame.specs.Read.{Finished}
 use Rattle.frame.specs.Read as frames-read
 use Rattle.journal.specs.declared.Line.{Line}
 use Rattle.journal.specs.declared.Line.the-variants.{Dose, On}
-use Rattle.text.specs.Scan.{TAB, LF}
 use Rattle.journal.specs.Line.{oneLine}
 use Rattle.journal.specs.Line as lines
 use Rattle.hourly.specs.declared.Hour.{Hour}
@@ -30,50 +28,6 @@ use Rattle.controller.specs.Tick.{Told, tickOf}
 use Rattle.controller.specs.Calls.{restartOf, settingsOf, resetOf, linkOf}
 use Rattle.controller.specs.Line.{Replied, requestOf}
 use Rattle.script.specs.Call.{Call, tick, link, settings, reset, counters, restart, request, writeFrame, readFrame, writeField, readField, writeLine, readLine, hour, hours, callOf}
-
--- ---- fields of an answer
-
-unfoldable pub numberText : ℕ → List ℕ
-numberText n = decimal n
-
--- a weight may begin with a minus
-unfoldable pub signedText : ℤ → List ℕ
-signedText (pos n) = decimal n
-signedText (negsuc n) = 45 ∷ decimal (suc n)
-
-unfoldable pub flagText : Bool → List ℕ
-flagText on = decimal (pick on 1 0)
-
--- Bytes are written as upper-case hex, two digits a byte
-unfoldable pub bytesText : List ℕ → List ℕ
-bytesText [] = []
-bytesText (b ∷ bs) = hexOf 2 b ++ bytesText bs
-
-unfoldable pub bitsText : Float → List ℕ
-bitsText x = hexOf 16 (toBits binary64 x)
-
--- fields are parted by one tab, and a line ends in LF
-unfoldable pub lineText : List ℕ → List (List ℕ) → List ℕ
-lineText first [] = first ++ LF ∷ []
-lineText first (f ∷ fs) = first ++ TAB ∷ lineText f fs
-
--- the letters O D F R A Q P M I X H, and ? for a line that is no call
-abbrev pub letter : ℕ → List (List ℕ) → List ℕ
-letter b fields = lineText (b ∷ []) fields
-
--- ---- refusals: the number and what it names, then what else is shown
-
-unfoldable pub valuesText : List ℕ → List (List ℕ)
-valuesText [] = []
-valuesText (v ∷ vs) = numberText v ∷ valuesText vs
-
-unfoldable pub refusedText : ℕ → List ℕ → List (List ℕ) → List ℕ
-refusedText n vs more = letter 82 (numberText n ∷ valuesText vs ++ more)
-
--- a journal's refusal shows a line, 0 for R13
-unfoldable pub lineNamed : List ℕ → List ℕ
-lineNamed [] = 0 ∷ []
-lineNamed (v ∷ vs) = v ∷ vs
 
 -- ---- the answers
 

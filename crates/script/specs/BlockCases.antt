@@ -10,7 +10,8 @@ use Rattle.text.specs.Scan.{expect, onGood}
 use Rattle.controller.specs.declared.Controller.{Controller}
 use Rattle.controller.specs.Calls.{linkOf}
 use Rattle.script.specs.Call.{callOf, atEnd, callBy, linkAt, flagField, numberField}
-use Rattle.script.specs.Answer.{Step, numberText, valuesText, lineText, answered, onCall, tooLong, answerTo}
+use Rattle.answers.specs.Text.{numberText, valuesText, lineText}
+use Rattle.script.specs.Answer.{Step, answered, onCall, tooLong, answerTo}
 use Rattle.script.specs.Input.{linesFrom, answersTo, restOf}
 use Rattle.script.specs.Blocks.{begunOf, between, inLong, Gave, stopped, begunLine, feedLines, lastFrom, feedOf, partOf}
 use Rattle.script.specs.declared.blocks.Replay.{Replay}

@@ -12,7 +12,8 @@ use Rattle.field.specs.Field.{four, weight}
 use Rattle.journal.specs.declared.Line.the-variants.{Dose, On}
 use Rattle.text.specs.Scan.{expect, onGood}
 use Rattle.script.specs.Call.{tick, link, reset, counters, request, writeFrame, readFrame, writeField, readField, writeLine, readLine, hour, numberField, flagField, minus, plus, signedAt, signedField, isHex, hexValue, bytesAt, bytesField, numbersField, setField, fieldFrom, tickAt, linkAt, settingsAt, restartAt, roomAt, bytesCall, writeFieldAt, readFieldAt, doseAt, onAt, hourAt, callBy, atEnd, callOf}
-use Rattle.script.specs.Answer.{numberText, signedText, flagText, bytesText, lineText, valuesText, refusedText, lineNamed, recordText, tickText, doneText, filledText, requestText, frameText, fieldText, weightText, oneText, readLineText, hourText, journalNamed, hoursText}
+use Rattle.answers.specs.Text.{numberText, signedText, flagText, bytesText, lineText, valuesText, refusedText, lineNamed}
+use Rattle.script.specs.Answer.{recordText, tickText, doneText, filledText, requestText, frameText, fieldText, weightText, oneText, readLineText, hourText, journalNamed, hoursText}
 
 -- the box's own calls; a leading zero, -0, a plus, a value out of range, a field too many or too few are no calls
 pub box-calls :

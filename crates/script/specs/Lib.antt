@@ -1,6 +1,5 @@
 pub mod Call
 pub mod Answer
-pub mod Print
 pub mod Reading
 pub mod Steps
 pub mod Reply

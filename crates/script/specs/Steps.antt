@@ -17,7 +17,7 @@ use Rattle.controller.specs.declared.RestartAnswer.the-variants as R
 use Rattle.controller.specs.Sound.{Sound}
 use Rattle.script.specs.Call.{Call, tick, link, settings, restart, writeField, readField, writeLine, writeFrame, readFrame, readLine, hours, atEnd, roomAt, bytesCall, writeFieldAt, readFieldAt, doseAt, onAt, hourAt}
 use Rattle.script.specs.Answer.{Step, onCall, answerTo}
-use Rattle.script.specs.Print.{Prints, prints-over}
+use Rattle.answers.specs.Print.{Prints, prints-over}
 use Rattle.script.specs.declared.Answered.{Answered}
 use Rattle.script.specs.declared.TickCall.{TickCall}
 use Rattle.script.specs.declared.TickCall.the-variants as T

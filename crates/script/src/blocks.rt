@@ -5,7 +5,6 @@ use crate::Signed;
 use crate::TickLine;
 use crate::answer;
 use crate::calls;
-use crate::print;
 use crate::read;
 use controller::Controller;
 use text::Num;
@@ -166,7 +165,7 @@ pub fn feed(r: Replay, block: &[u8], out: &mut [u8]) -> Fed
             len: 0,
         };
     }
-    let len = print::put_values(out, b'?', &[]);
+    let len = answers::put_values(out, b'?', &[]);
     feed_from(c, block, end + 1, out, len)
 }
 

@@ -7,7 +7,6 @@ use crate::Set;
 use crate::SetCall;
 use crate::Signed;
 use crate::TickCall;
-use crate::print;
 use crate::read;
 use crate::unknown;
 use controller::Controller;
@@ -27,7 +26,7 @@ ghost use Rattle.controller.specs.Says.{saysTick, saysSet, saysReset, saysResta
 ghost use Rattle.script.specs.Call as calls;
 ghost use Rattle.script.specs.Call.{tickAt, linkAt, settingsAt, restartAt, atEnd};
 ghost use Rattle.script.specs.Answer.{tickText, doneText, onCall};
-ghost use Rattle.script.specs.Print.{Prints};
+ghost use Rattle.answers.specs.Print.{Prints};
 ghost use Rattle.script.specs.Steps.{asTick, asLink, asSet, asRestart, inUse, Answers};
 
 // T sample inputs
@@ -52,8 +51,8 @@ fn put_fault(out: &mut [u8], why: Fault) -> usize
     ensures { λ r. ⌜ Prints 4096 (now (out .entry)) 0 (tickText (saysFault why)) (now (out .exit)) r ⌝ }
 {
     match why {
-        Fault::F14(channel) => print::put_values(out, b'F', &[14, channel as u64]),
-        Fault::F21 => print::put_values(out, b'F', &[21, 0]),
+        Fault::F14(channel) => answers::put_values(out, b'F', &[14, channel as u64]),
+        Fault::F21 => answers::put_values(out, b'F', &[21, 0]),
     }
 }
 
@@ -63,10 +62,10 @@ pub(crate) fn put_tick(out: &mut [u8], answer: TickAnswer) -> usize
     ensures { λ r. ⌜ Prints 4096 (now (out .entry)) 0 (tickText (saysTick answer)) (now (out .exit)) r ⌝ }
 {
     match answer {
-        TickAnswer::Outputs(outputs) => print::put_values(out, b'O', &[outputs as u64]),
+        TickAnswer::Outputs(outputs) => answers::put_values(out, b'O', &[outputs as u64]),
         TickAnswer::Dose { outputs, record } => {
-            let settled = print::flag(record.settled);
-            print::put_values(
+            let settled = answers::flag(record.settled);
+            answers::put_values(
                 out,
                 b'D',
                 &[
@@ -78,7 +77,7 @@ pub(crate) fn put_tick(out: &mut [u8], answer: TickAnswer) -> usize
             )
         }
         TickAnswer::Fault(why) => put_fault(out, why),
-        TickAnswer::R1 => print::put_values(out, b'R', &[1]),
+        TickAnswer::R1 => answers::put_values(out, b'R', &[1]),
     }
 }
 
@@ -117,7 +116,7 @@ pub(crate) fn link(c: Controller, line: &[u8], out: &mut [u8]) -> Answered
         return unknown(c, out);
     };
     let next = c.link(on);
-    let len = print::put_values(out, b'A', &[]);
+    let len = answers::put_values(out, b'A', &[]);
     Answered { next, len }
 }
 
@@ -139,9 +138,9 @@ fn put_set(out: &mut [u8], answer: SetAnswer) -> usize
     ensures { λ r. ⌜ Prints 4096 (now (out .entry)) 0 (doneText (saysSet answer)) (now (out .exit)) r ⌝ }
 {
     match answer {
-        SetAnswer::Taken => print::put_values(out, b'A', &[]),
-        SetAnswer::R3 => print::put_values(out, b'R', &[3]),
-        SetAnswer::R2(row) => print::put_values(out, b'R', &[2, row as u64]),
+        SetAnswer::Taken => answers::put_values(out, b'A', &[]),
+        SetAnswer::R3 => answers::put_values(out, b'R', &[3]),
+        SetAnswer::R2(row) => answers::put_values(out, b'R', &[2, row as u64]),
     }
 }
 
@@ -164,8 +163,8 @@ fn put_reset(out: &mut [u8], answer: ResetAnswer) -> usize
     ensures { λ r. ⌜ Prints 4096 (now (out .entry)) 0 (doneText (saysReset answer)) (now (out .exit)) r ⌝ }
 {
     match answer {
-        ResetAnswer::Done => print::put_values(out, b'A', &[]),
-        ResetAnswer::R3 => print::put_values(out, b'R', &[3]),
+        ResetAnswer::Done => answers::put_values(out, b'A', &[]),
+        ResetAnswer::R3 => answers::put_values(out, b'R', &[3]),
     }
 }
 
@@ -191,7 +190,7 @@ pub(crate) fn counters(c: Controller, line: &[u8], out: &mut [u8]) -> Answered
         return unknown(c, out);
     }
     let now = c.counters();
-    let len = print::put_values(out, b'Q', &[now.count as u64, now.total as u64]);
+    let len = answers::put_values(out, b'Q', &[now.count as u64, now.total as u64]);
     Answered { next: c, len }
 }
 
@@ -220,9 +219,9 @@ fn put_restart(out: &mut [u8], answer: RestartAnswer) -> usize
     ensures { λ r. ⌜ Prints 4096 (now (out .entry)) 0 (doneText (saysRestart answer)) (now (out .exit)) r ⌝ }
 {
     match answer {
-        RestartAnswer::Done => print::put_values(out, b'A', &[]),
-        RestartAnswer::R2(row) => print::put_values(out, b'R', &[2, row as u64]),
-        RestartAnswer::R15 => print::put_values(out, b'R', &[15]),
+        RestartAnswer::Done => answers::put_values(out, b'A', &[]),
+        RestartAnswer::R2(row) => answers::put_values(out, b'R', &[2, row as u64]),
+        RestartAnswer::R15 => answers::put_values(out, b'R', &[15]),
     }
 }
 

@@ -1,6 +1,5 @@
 // The calls on the hours of a journal.
 use crate::RoomCall;
-use crate::print;
 use crate::read;
 use crate::tools;
 use hourly::Asked;
@@ -18,7 +17,7 @@ ghost use Rattle.hourly.specs.Says.{saysAsked};
 ghost use Rattle.script.specs.Call as calls;
 ghost use Rattle.script.specs.Call.{roomAt, hourAt, atEnd};
 ghost use Rattle.script.specs.Answer.{kindText, hourText, hoursText};
-ghost use Rattle.script.specs.Print.{Prints};
+ghost use Rattle.answers.specs.Print.{Prints};
 ghost use Rattle.script.specs.Steps.{refusalShown, Tells};
 
 // The number of a journal's refusal, and its line: 0 for R13.
@@ -43,10 +42,10 @@ fn put_hour(out: &mut [u8], hour: Hour) -> usize
             let sum = f64::to_bits(f.sum);
             let largest = f64::to_bits(f.largest);
             let mean = f64::to_bits(f.mean);
-            print::put_figures(out, sum, largest, mean)
+            answers::put_figures(out, sum, largest, mean)
         }
-        Hour::Idle => print::put_values(out, b'I', &[]),
-        Hour::Missing => print::put_values(out, b'X', &[]),
+        Hour::Idle => answers::put_values(out, b'I', &[]),
+        Hour::Missing => answers::put_values(out, b'X', &[]),
     }
 }
 
@@ -59,7 +58,7 @@ fn put_asked(out: &mut [u8], asked: Asked) -> usize
         Asked::Hour(hour) => put_hour(out, hour),
         Asked::Refused(refusal) => {
             let shown = number_and_line(refusal);
-            print::put_values(out, b'R', &shown)
+            answers::put_values(out, b'R', &shown)
         }
     }
 }
@@ -92,12 +91,12 @@ fn show_hours(bytes: &[u8], buffer: &mut [u8], out: &mut [u8]) -> usize
     ensures { λ r. ⌜ Prints 4096 (now (out .entry)) 0 (hoursText (length (now (buffer .entry))) (printOf (now (bytes .entry)) (length (now (buffer .entry))))) (now (out .exit)) r ⌝ }
 {
     match hourly::print(bytes, buffer) {
-        Printed::Text(len) => print::put_shown(out, b'P', &[len as u64], buffer),
+        Printed::Text(len) => answers::put_shown(out, b'P', &[len as u64], buffer),
         Printed::Refused(refusal) => {
             let shown = number_and_line(refusal);
-            print::put_shown(out, b'R', &shown, buffer)
+            answers::put_shown(out, b'R', &shown, buffer)
         }
-        Printed::R8 => print::put_shown(out, b'R', &[8], buffer),
+        Printed::R8 => answers::put_shown(out, b'R', &[8], buffer),
     }
 }
 

@@ -2,11 +2,11 @@
 mod blocks;
 mod calls;
 mod hours;
-mod print;
 mod read;
 mod request;
 mod tools;
 
+pub use answers::ENOUGH;
 pub use blocks::Fed;
 pub use blocks::Replay;
 pub use blocks::carry;
@@ -111,9 +111,6 @@ enum LineCall {
     Unknown,
 }
 
-// So many bytes hold every answer.
-pub const ENOUGH: usize = 4096;
-
 // A line has at most so many bytes, its LF left out.
 pub const LONGEST: usize = 4095;
 
@@ -122,7 +119,7 @@ fn unknown(c: Controller, out: &mut [u8]) -> Answered
     requires { ⌜ Sound c × (4096 ≤ length (now out)) ⌝ }
     ensures { λ r. ⌜ Answers (onCall c bad) (now (out .entry)) (now (out .exit)) r ⌝ }
 {
-    let len = print::put_values(out, b'?', &[]);
+    let len = answers::put_values(out, b'?', &[]);
     Answered { next: c, len }
 }
 

@@ -1,7 +1,6 @@
 // The line request, with a reply buffer.
 use crate::Answered;
 use crate::RoomCall;
-use crate::print;
 use crate::tools;
 use crate::unknown;
 use controller::Controller;
@@ -14,7 +13,7 @@ ghost use Rattle.controller.specs.Says.{saysReply};
 ghost use Rattle.script.specs.Call as calls;
 ghost use Rattle.script.specs.Call.{roomAt, atEnd};
 ghost use Rattle.script.specs.Answer.{answered, onCall};
-ghost use Rattle.script.specs.Print.{Prints};
+ghost use Rattle.answers.specs.Print.{Prints};
 ghost use Rattle.script.specs.Reply.{replyText};
 ghost use Rattle.script.specs.Steps.{Answers};
 
@@ -32,15 +31,15 @@ fn put_reply(out: &mut [u8], answer: RequestAnswer, buffer: &[u8]) -> usize
 {
     match answer {
         RequestAnswer::Sent { place, len } => {
-            print::put_shown(out, b'P', &[place as u64, len as u64], buffer)
+            answers::put_shown(out, b'P', &[place as u64, len as u64], buffer)
         }
-        RequestAnswer::R9(place) => print::put_shown(out, b'R', &[9, place as u64], buffer),
-        RequestAnswer::R6(place) => print::put_shown(out, b'R', &[6, place as u64], buffer),
-        RequestAnswer::R5(place) => print::put_shown(out, b'R', &[5, place as u64], buffer),
-        RequestAnswer::R7(place) => print::put_shown(out, b'R', &[7, place as u64], buffer),
-        RequestAnswer::R3(place) => print::put_shown(out, b'R', &[3, place as u64], buffer),
-        RequestAnswer::R4(place) => print::put_shown(out, b'R', &[4, place as u64], buffer),
-        RequestAnswer::R8(place) => print::put_shown(out, b'R', &[8, place as u64], buffer),
+        RequestAnswer::R9(place) => answers::put_shown(out, b'R', &[9, place as u64], buffer),
+        RequestAnswer::R6(place) => answers::put_shown(out, b'R', &[6, place as u64], buffer),
+        RequestAnswer::R5(place) => answers::put_shown(out, b'R', &[5, place as u64], buffer),
+        RequestAnswer::R7(place) => answers::put_shown(out, b'R', &[7, place as u64], buffer),
+        RequestAnswer::R3(place) => answers::put_shown(out, b'R', &[3, place as u64], buffer),
+        RequestAnswer::R4(place) => answers::put_shown(out, b'R', &[4, place as u64], buffer),
+        RequestAnswer::R8(place) => answers::put_shown(out, b'R', &[8, place as u64], buffer),
     }
 }
 

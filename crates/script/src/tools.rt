@@ -8,7 +8,6 @@ use crate::RoomCall;
 use crate::Signed;
 use crate::WeightCall;
 use crate::hours;
-use crate::print;
 use crate::read;
 use field::Field;
 use field::Got;
@@ -33,7 +32,7 @@ ghost use Rattle.journal.specs.Says.{saysOne};
 ghost use Rattle.script.specs.Call as calls;
 ghost use Rattle.script.specs.Call.{writeFieldAt, readFieldAt, roomAt, bytesCall, doseAt, onAt, atEnd};
 ghost use Rattle.script.specs.Answer.{filledText, fieldText, weightText, frameText, readLineText};
-ghost use Rattle.script.specs.Print.{Prints};
+ghost use Rattle.answers.specs.Print.{Prints};
 ghost use Rattle.script.specs.Steps.{asWeight, asField, asLine, roomOf, ReadsLine, ReadsRoom, ReadsBytes, Untouched, Tells, toolBy};
 
 // A line that is no call.
@@ -41,7 +40,7 @@ pub(crate) fn unknown(out: &mut [u8]) -> usize
     requires { ⌜ 4096 ≤ length (now out) ⌝ }
     ensures { λ r. ⌜ Tells bad (now (out .entry)) (now (out .exit)) r ⌝ }
 {
-    print::put_values(out, b'?', &[])
+    answers::put_values(out, b'?', &[])
 }
 
 // Room for the bytes of every line.
@@ -91,8 +90,8 @@ fn put_written(out: &mut [u8], written: Written) -> usize
     ensures { λ r. ⌜ Prints 4096 (now (out .entry)) 0 (fieldText (saysWritten written)) (now (out .exit)) r ⌝ }
 {
     match written {
-        Written::Bytes(f) => print::put_shown(out, b'P', &[], &[f.low, f.middle, f.high, f.con]),
-        Written::R16 => print::put_values(out, b'R', &[16]),
+        Written::Bytes(f) => answers::put_shown(out, b'P', &[], &[f.low, f.middle, f.high, f.con]),
+        Written::R16 => answers::put_values(out, b'R', &[16]),
     }
 }
 
@@ -138,11 +137,11 @@ fn put_got(out: &mut [u8], got: Got) -> usize
 {
     match got {
         Got::Values(w) => {
-            let stable = print::flag(w.stable);
-            let over = print::flag(w.over);
-            print::put_weight(out, w.value, &[stable, over, w.point as u64])
+            let stable = answers::flag(w.stable);
+            let over = answers::flag(w.over);
+            answers::put_weight(out, w.value, &[stable, over, w.point as u64])
         }
-        Got::R16 => print::put_values(out, b'R', &[16]),
+        Got::R16 => answers::put_values(out, b'R', &[16]),
     }
 }
 
@@ -182,9 +181,9 @@ fn show_frame(body: &[u8], buffer: &mut [u8], out: &mut [u8]) -> usize
     ensures { λ r. ⌜ Prints 4096 (now (out .entry)) 0 (filledText [] (length (now (buffer .entry))) (frames.writeOf (now (body .entry)) (length (now (buffer .entry))))) (now (out .exit)) r ⌝ }
 {
     match frame::write_frame(body, buffer) {
-        Framed::Frame(len) => print::put_shown(out, b'P', &[len as u64], buffer),
-        Framed::R14 => print::put_shown(out, b'R', &[14], buffer),
-        Framed::R8 => print::put_shown(out, b'R', &[8], buffer),
+        Framed::Frame(len) => answers::put_shown(out, b'P', &[len as u64], buffer),
+        Framed::R14 => answers::put_shown(out, b'R', &[14], buffer),
+        Framed::R8 => answers::put_shown(out, b'R', &[8], buffer),
     }
 }
 
@@ -225,10 +224,10 @@ fn show_body(bytes: &[u8], out: &mut [u8]) -> usize
     let body = back.body;
     match found {
         Found::Body { place, len } => {
-            print::put_shown(out, b'P', &[place as u64, len as u64], &body[..len])
+            answers::put_shown(out, b'P', &[place as u64, len as u64], &body[..len])
         }
-        Found::R9(place) => print::put_values(out, b'R', &[9, place as u64]),
-        Found::R6(place) => print::put_values(out, b'R', &[6, place as u64]),
+        Found::R9(place) => answers::put_values(out, b'R', &[9, place as u64]),
+        Found::R6(place) => answers::put_values(out, b'R', &[6, place as u64]),
     }
 }
 
@@ -293,9 +292,9 @@ fn show_line(line: Line, buffer: &mut [u8], out: &mut [u8]) -> usize
     ensures { λ r. ⌜ Prints 4096 (now (out .entry)) 0 (filledText [] (length (now (buffer .entry))) (lines.writeOf line (length (now (buffer .entry))))) (now (out .exit)) r ⌝ }
 {
     match journal::write(line, buffer) {
-        Wrote::Line(len) => print::put_shown(out, b'P', &[len as u64], buffer),
-        Wrote::R10 => print::put_shown(out, b'R', &[10, 0], buffer),
-        Wrote::R8 => print::put_shown(out, b'R', &[8], buffer),
+        Wrote::Line(len) => answers::put_shown(out, b'P', &[len as u64], buffer),
+        Wrote::R10 => answers::put_shown(out, b'R', &[10, 0], buffer),
+        Wrote::R8 => answers::put_shown(out, b'R', &[8], buffer),
     }
 }
 
@@ -317,7 +316,7 @@ fn put_one(out: &mut [u8], one: One) -> usize
     ensures { λ r. ⌜ Prints 4096 (now (out .entry)) 0 (readLineText (saysOne one)) (now (out .exit)) r ⌝ }
 {
     let One::Line(found) = one else {
-        return print::put_values(out, b'R', &[10, 1]);
+        return answers::put_values(out, b'R', &[10, 1]);
     };
     match found {
         Line::Dose {
@@ -325,12 +324,12 @@ fn put_one(out: &mut [u8], one: One) -> usize
             count,
             amount,
             settled,
-        } => print::put_values(
+        } => answers::put_values(
             out,
             b'D',
             &[hour as u64, count as u64, amount as u64, settled as u64],
         ),
-        Line::On { hour } => print::put_values(out, b'H', &[hour as u64]),
+        Line::On { hour } => answers::put_values(out, b'H', &[hour as u64]),
     }
 }
 

@@ -12,14 +12,16 @@ use Rattle.laws.specs.Over.{over, sets-append, sets-over}
 use Rattle.laws.specs.Decimal.{bad}
 use Rattle.controller.specs.declared.Controller.{Controller}
 use Rattle.controller.specs.Sound.{Sound}
-use Rattle.script.specs.Answer.{Step, lineText, valuesText, onCall, tooLong, answerTo}
+use Rattle.answers.specs.Text.{lineText, valuesText}
+use Rattle.script.specs.Answer.{Step, onCall, tooLong, answerTo}
 use Rattle.script.specs.Input.{Plain, too-long}
-use Rattle.script.specs.Print.{Prints}
+use Rattle.answers.specs.Print.{Prints}
 use Rattle.script.specs.Blocks.{Gave, begunOf, between, inLong, stopped, ahead, begunLine, feedOf, Feeds, feed-whole, feed-begun, feed-stopped}
 use Rattle.script.specs.Feeding.{fed, EndsAt, LineAt, FeedsFrom}
 use Rattle.script.specs.declared.blocks.Replay.{Replay}
 use Rattle.script.specs.declared.blocks.Fed.{Fed}
 use Rattle.script.proofs.Going.{ends-line, ends-begun}
+use Rattle.answers.specs.Room.{values-in}
 use borrow.Author.Needs.{needs}
 use Rattle.script.proofs.blocks.feed.Statement.{statement}
 use Rattle.script.proofs.blocks.feed.Tie as tie
@@ -126,7 +128,7 @@ same-length-2 : tie.Need-same-length-2
 same-length-2 c = search needs
 
 returns-4 : tie.Need-returns-4
-returns-4 c = feeds-after (not-false _ (c .before .before .before .before .before .before .before .before .before .before .before .before .if1 .left)) (c .before .before .before .before .before .before .before .before .before .before .before .if2 .left) (ends-line (c .before .before .before .before .before .before .before .before .before .before .line-end .ensures) (c .before .before .before .before .before .before .before .before .before .if3 .left)) (c .before .before .before .before .before .before .put-values .ensures) (c .before .before .feed-from2 .ensures)
+returns-4 c = feeds-after (not-false _ (c .before .before .before .before .before .before .before .before .before .before .before .before .if1 .left)) (c .before .before .before .before .before .before .before .before .before .before .before .if2 .left) (ends-line (c .before .before .before .before .before .before .before .before .before .before .line-end .ensures) (c .before .before .before .before .before .before .before .before .before .if3 .left)) (values-in _ _ (c .before .before .before .before .before .before .put-values .ensures) (search needs)) (c .before .before .feed-from2 .ensures)
 
 pub feed-spec : {M : Type 1} → statement M
 feed-spec =

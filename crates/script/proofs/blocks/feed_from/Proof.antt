@@ -12,7 +12,7 @@ use Rattle.laws.specs.Over.{over}
 use Rattle.controller.specs.declared.Controller.{Controller}
 use Rattle.controller.specs.Says.{saysTick, Ticks}
 use Rattle.script.specs.Answer.{Step, tickText, answered, answerTo}
-use Rattle.script.specs.Print.{prints-over}
+use Rattle.answers.specs.Print.{prints-over}
 use Rattle.script.specs.Steps.{Answers}
 use Rattle.script.specs.Blocks.{over-fits}
 use Rattle.script.specs.Feeding.{in-enough, TickStands, TickAt}

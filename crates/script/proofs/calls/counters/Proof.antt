@@ -3,10 +3,12 @@ use mathlib.Core.List.{[], _∷_}
 use denote.Ref.{now}
 use Rattle.controller.specs.declared.Counters.{Counters}
 use Rattle.script.specs.Call as calls
-use Rattle.script.specs.Answer.{lineText, valuesText, answered, onCall}
-use Rattle.script.specs.Print.{prints-text}
+use Rattle.answers.specs.Text.{lineText, valuesText}
+use Rattle.script.specs.Answer.{answered, onCall}
+use Rattle.answers.specs.Print.{prints-text}
 use Rattle.script.specs.Steps.{made, answers-as}
 use Rattle.script.proofs.Lines.{at-end, past-end}
+use Rattle.answers.specs.Room.{values-in}
 use borrow.Author.Needs.{needs}
 use Rattle.script.proofs.calls.counters.Statement.{statement}
 use Rattle.script.proofs.calls.counters.Tie as tie
@@ -19,7 +21,7 @@ unfolding onCall answered valuesText
 returns-2 c =
     answers-as (c .before .before .before .before .before .before .before .before .before .before .before .args .c) (at-end calls.counters (now (c .before .before .before .before .before .before .before .before .before .before .before .args .line)) 1 (c .before .before .before .before .before .before .before .before .if1 .left))
     (made refl (c .before .before .before .before .before .before .before .before .before .before .before .pre .0) (c .before .before .before .before .before .before .before .before .before .before .before .pre .1)
-    (prints-text (ap (λ (n : Counters). lineText (81 ∷ []) (valuesText (n .count ∷ n .total ∷ []))) (c .before .before .before .before .before .before .before .counters .ensures)) (c .before .before .put-values .ensures)))
+    (prints-text (ap (λ (n : Counters). lineText (81 ∷ []) (valuesText (n .count ∷ n .total ∷ []))) (c .before .before .before .before .before .before .before .counters .ensures)) (values-in _ _ (c .before .before .put-values .ensures) (search needs))))
 
 unknown-requires : tie.Need-unknown-requires
 unknown-requires c κs = search needs

@@ -1,6 +1,8 @@
 use mathlib.Core.Path.{ap, _∙_}
-use Rattle.script.specs.Answer.{valuesText, answered, onCall}
+use Rattle.answers.specs.Text.{valuesText}
+use Rattle.script.specs.Answer.{answered, onCall}
 use Rattle.script.specs.Steps.{asLink, made, answers-as}
+use Rattle.answers.specs.Room.{values-in}
 use borrow.Author.Needs.{needs}
 use Rattle.script.proofs.calls.link.Statement.{statement}
 use Rattle.script.proofs.calls.link.Tie as tie
@@ -12,7 +14,7 @@ returns-2 : tie.Need-returns-2
 unfolding onCall answered valuesText
 returns-2 c =
     answers-as (c .before .before .before .before .before .before .before .before .before .before .before .before .args .c) (c .before .before .before .before .before .before .before .before .before .read-link .ensures ∙ ap asLink (c .before .before .before .before .before .before .before .on .given .1))
-    (made (c .before .before .before .before .before .link .ensures .is) (c .before .before .before .before .before .link .ensures .sound) (c .before .before .before .before .before .before .before .before .before .before .before .before .pre .1) (c .before .before .put-values .ensures))
+    (made (c .before .before .before .before .before .link .ensures .is) (c .before .before .before .before .before .link .ensures .sound) (c .before .before .before .before .before .before .before .before .before .before .before .before .pre .1) (values-in _ _ (c .before .before .put-values .ensures) (search needs)))
 
 read-link-requires : tie.Need-read-link-requires
 read-link-requires c κs = search needs

@@ -1,19 +1,21 @@
 use mathlib.Core.Path.{sym, ap}
 use Rattle.controller.specs.declared.Fault.{Fault}
 use Rattle.controller.specs.Tick.{saysFault}
-use Rattle.script.specs.Answer.{valuesText, lineNamed, tickText}
-use Rattle.script.specs.Print.{prints-text}
+use Rattle.answers.specs.Text.{valuesText, lineNamed}
+use Rattle.script.specs.Answer.{tickText}
+use Rattle.answers.specs.Print.{prints-text}
+use Rattle.answers.specs.Room.{values-in}
 use borrow.Author.Needs.{needs}
 use Rattle.script.proofs.calls.put_fault.Statement.{statement}
 use Rattle.script.proofs.calls.put_fault.Tie as tie
 
 returns : tie.Need-returns
 unfolding tickText saysFault lineNamed valuesText
-returns c = prints-text (sym (ap (λ (f : Fault). tickText (saysFault f)) (c .before .before .before .before .before .before .why .given .1))) (c .before .before .put-values .ensures)
+returns c = prints-text (sym (ap (λ (f : Fault). tickText (saysFault f)) (c .before .before .before .before .before .before .why .given .1))) (values-in _ _ (c .before .before .put-values .ensures) (search needs))
 
 returns-2 : tie.Need-returns-2
 unfolding tickText saysFault lineNamed valuesText
-returns-2 c = prints-text (sym (ap (λ (f : Fault). tickText (saysFault f)) (c .before .before .before .before .before .enum-told .given .1))) (c .before .before .put-values2 .ensures)
+returns-2 c = prints-text (sym (ap (λ (f : Fault). tickText (saysFault f)) (c .before .before .before .before .before .enum-told .given .1))) (values-in _ _ (c .before .before .put-values2 .ensures) (search needs))
 
 enum-known-why : tie.Need-enum-known-why
 enum-known-why c = search needs

@@ -1,23 +1,25 @@
 use mathlib.Core.Path.{sym, ap}
 use Rattle.controller.specs.declared.SetAnswer.{SetAnswer}
 use Rattle.controller.specs.Says.{saysSet}
-use Rattle.script.specs.Answer.{valuesText, refusedText, doneText}
-use Rattle.script.specs.Print.{prints-text}
+use Rattle.answers.specs.Text.{valuesText, refusedText}
+use Rattle.script.specs.Answer.{doneText}
+use Rattle.answers.specs.Print.{prints-text}
+use Rattle.answers.specs.Room.{values-in}
 use borrow.Author.Needs.{needs}
 use Rattle.script.proofs.calls.put_set.Statement.{statement}
 use Rattle.script.proofs.calls.put_set.Tie as tie
 
 returns : tie.Need-returns
 unfolding doneText refusedText valuesText
-returns c = prints-text (sym (ap (λ (a : SetAnswer). doneText (saysSet a)) (c .before .before .before .before .before .enum-told .given .1))) (c .before .before .put-values .ensures)
+returns c = prints-text (sym (ap (λ (a : SetAnswer). doneText (saysSet a)) (c .before .before .before .before .before .enum-told .given .1))) (values-in _ _ (c .before .before .put-values .ensures) (search needs))
 
 returns-2 : tie.Need-returns-2
 unfolding doneText refusedText valuesText
-returns-2 c = prints-text (sym (ap (λ (a : SetAnswer). doneText (saysSet a)) (c .before .before .before .before .before .enum-told2 .given .1))) (c .before .before .put-values2 .ensures)
+returns-2 c = prints-text (sym (ap (λ (a : SetAnswer). doneText (saysSet a)) (c .before .before .before .before .before .enum-told2 .given .1))) (values-in _ _ (c .before .before .put-values2 .ensures) (search needs))
 
 returns-3 : tie.Need-returns-3
 unfolding doneText refusedText valuesText
-returns-3 c = prints-text (sym (ap (λ (a : SetAnswer). doneText (saysSet a)) (c .before .before .before .before .before .before .answer .given .1))) (c .before .before .put-values3 .ensures)
+returns-3 c = prints-text (sym (ap (λ (a : SetAnswer). doneText (saysSet a)) (c .before .before .before .before .before .before .answer .given .1))) (values-in _ _ (c .before .before .put-values3 .ensures) (search needs))
 
 enum-told : tie.Need-enum-told
 enum-told c = search needs

@@ -1,27 +1,29 @@
 use mathlib.Core.Path.{sym, ap, _∙_}
 use Rattle.controller.specs.declared.TickAnswer.{TickAnswer}
 use Rattle.controller.specs.Says.{saysTick}
-use Rattle.script.specs.Answer.{valuesText, refusedText, recordText, tickText}
-use Rattle.script.specs.Print.{prints-text}
+use Rattle.answers.specs.Text.{valuesText, refusedText}
+use Rattle.script.specs.Answer.{recordText, tickText}
+use Rattle.answers.specs.Print.{prints-text}
 use Rattle.script.proofs.Texts.{dose-text}
+use Rattle.answers.specs.Room.{values-in}
 use borrow.Author.Needs.{needs}
 use Rattle.script.proofs.calls.put_tick.Statement.{statement}
 use Rattle.script.proofs.calls.put_tick.Tie as tie
 
 returns : tie.Need-returns
 unfolding tickText recordText valuesText
-returns c = prints-text (sym (ap (λ (a : TickAnswer). tickText (saysTick a)) (c .before .before .before .before .before .before .answer .given .1))) (c .before .before .put-values .ensures)
+returns c = prints-text (sym (ap (λ (a : TickAnswer). tickText (saysTick a)) (c .before .before .before .before .before .before .answer .given .1))) (values-in _ _ (c .before .before .put-values .ensures) (search needs))
 
 returns-2 : tie.Need-returns-2
 returns-2 c =
-    prints-text (dose-text _ _ _ (c .before .before .before .before .before .before .before .flag .ensures) ∙ sym (ap (λ (a : TickAnswer). tickText (saysTick a)) (c .before .before .before .before .before .before .before .before .before .answer2 .given .1))) (c .before .before .put-values2 .ensures)
+    prints-text (dose-text _ _ _ (c .before .before .before .before .before .before .before .flag .ensures) ∙ sym (ap (λ (a : TickAnswer). tickText (saysTick a)) (c .before .before .before .before .before .before .before .before .before .answer2 .given .1))) (values-in _ _ (c .before .before .put-values2 .ensures) (search needs))
 
 returns-3 : tie.Need-returns-3
 returns-3 c = prints-text (sym (ap (λ (a : TickAnswer). tickText (saysTick a)) (c .before .before .before .before .before .answer3 .given .1))) (c .before .before .put-fault .ensures)
 
 returns-4 : tie.Need-returns-4
 unfolding tickText refusedText valuesText
-returns-4 c = prints-text (sym (ap (λ (a : TickAnswer). tickText (saysTick a)) (c .before .before .before .before .before .enum-told .given .1))) (c .before .before .put-values3 .ensures)
+returns-4 c = prints-text (sym (ap (λ (a : TickAnswer). tickText (saysTick a)) (c .before .before .before .before .before .enum-told .given .1))) (values-in _ _ (c .before .before .put-values3 .ensures) (search needs))
 
 enum-known-answer : tie.Need-enum-known-answer
 enum-known-answer c = search needs

@@ -2,7 +2,7 @@ use mathlib.Core.Path.{ap}
 use denote.Ref.{now}
 use Rattle.script.specs.Call as calls
 use Rattle.script.specs.Answer.{doneText, answered, onCall}
-use Rattle.script.specs.Print.{prints-text}
+use Rattle.answers.specs.Print.{prints-text}
 use Rattle.script.specs.Steps.{made, answers-as}
 use Rattle.script.proofs.Lines.{at-end, past-end}
 use borrow.Author.Needs.{needs}

@@ -2,7 +2,7 @@ use mathlib.Core.Path.{_≡_, sym, ap, _∙_, subst}
 use Rattle.controller.specs.declared.Controller.{Controller}
 use Rattle.controller.specs.Sound.{Sound}
 use Rattle.script.specs.Answer.{doneText, answered, onCall}
-use Rattle.script.specs.Print.{prints-text}
+use Rattle.answers.specs.Print.{prints-text}
 use Rattle.script.specs.Steps.{asRestart, inUse, made, answers-as}
 use Rattle.script.proofs.Texts.{restart-text, restart-kept, restart-sound}
 use borrow.Author.Needs.{needs}

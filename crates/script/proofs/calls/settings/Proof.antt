@@ -1,6 +1,6 @@
 use mathlib.Core.Path.{ap, _∙_}
 use Rattle.script.specs.Answer.{doneText, answered, onCall}
-use Rattle.script.specs.Print.{prints-text}
+use Rattle.answers.specs.Print.{prints-text}
 use Rattle.script.specs.Steps.{asSet, made, answers-as}
 use borrow.Author.Needs.{needs}
 use Rattle.script.proofs.calls.settings.Statement.{statement}

@@ -5,7 +5,7 @@ use mir.Val.{SFits}
 use mir.Facts.{toZ-ofZ}
 use Rattle.controller.specs.Says.{Ticks}
 use Rattle.script.specs.Answer.{tickText, answered, onCall}
-use Rattle.script.specs.Print.{prints-text}
+use Rattle.answers.specs.Print.{prints-text}
 use Rattle.script.specs.Steps.{asTick, made, answers-as}
 use borrow.Author.Needs.{needs}
 use Rattle.script.proofs.calls.tick.Statement.{statement}

@@ -4,9 +4,11 @@ use Prim.Native.Nat.{ℕ}
 use Rattle.hourly.specs.declared.Asked.{Asked}
 use Rattle.hourly.specs.Exact.{Numbered}
 use Rattle.hourly.specs.Says.{saysAsked}
-use Rattle.script.specs.Answer.{lineText, valuesText, hourText}
-use Rattle.script.specs.Print.{prints-text}
+use Rattle.answers.specs.Text.{lineText, valuesText}
+use Rattle.script.specs.Answer.{hourText}
+use Rattle.answers.specs.Print.{prints-text}
 use Rattle.script.proofs.Journals.{refusal-text}
+use Rattle.answers.specs.Room.{values-in}
 use borrow.Author.Needs.{needs}
 use Rattle.script.proofs.hours.put_asked.Statement.{statement}
 use Rattle.script.proofs.hours.put_asked.Tie as tie
@@ -21,7 +23,7 @@ returns-2 c =
     (ap (λ (l : List ℕ). lineText (82 ∷ []) (valuesText l)) (c .before .before .before .before .before .number-and-line .ensures)
     ∙ refusal-text (c .before .before .before .before .before .before .before .asked2 .given .0 .0)
     ∙ sym (ap (λ (a : Asked). hourText (saysAsked a)) (c .before .before .before .before .before .before .before .asked2 .given .1)))
-    (c .before .before .put-values .ensures)
+    (values-in _ _ (c .before .before .put-values .ensures) (search needs))
 
 put-hour-requires : tie.Need-put-hour-requires
 put-hour-requires c κs = (subst (λ (a : Asked). Numbered (saysAsked a)) (c .before .before .asked .given .1) (c .before .before .before .before .before .pre .0), search needs)

@@ -2,8 +2,10 @@ use mathlib.Core.Path.{sym, ap, subst}
 use Rattle.paper.specs.Answer.{done}
 use Rattle.hourly.specs.declared.Hour.{Hour}
 use Rattle.hourly.specs.Exact.{Numbers, Numbered}
-use Rattle.script.specs.Answer.{valuesText, bitsText, kindText}
-use Rattle.script.specs.Print.{prints-text}
+use Rattle.answers.specs.Text.{valuesText, bitsText}
+use Rattle.script.specs.Answer.{kindText}
+use Rattle.answers.specs.Print.{prints-text}
+use Rattle.answers.specs.Room.{values-in, figures-in}
 use borrow.Author.Needs.{needs}
 use Rattle.script.proofs.hours.put_hour.Statement.{statement}
 use Rattle.script.proofs.hours.put_hour.Tie as tie
@@ -13,15 +15,15 @@ numbers c = subst (λ (h : Hour). Numbered (done h)) (c .before .hour .given .1)
 
 returns : tie.Need-returns
 unfolding kindText bitsText
-returns c = prints-text (sym (ap kindText (c .before .before .before .before .before .before .before .before .hour .given .1))) (c .before .before .put-figures .ensures)
+returns c = prints-text (sym (ap kindText (c .before .before .before .before .before .before .before .before .hour .given .1))) (figures-in _ _ _ (c .before .before .put-figures .ensures) (search needs))
 
 returns-2 : tie.Need-returns-2
 unfolding kindText valuesText
-returns-2 c = prints-text (sym (ap kindText (c .before .before .before .before .before .enum-told .given .1))) (c .before .before .put-values .ensures)
+returns-2 c = prints-text (sym (ap kindText (c .before .before .before .before .before .enum-told .given .1))) (values-in _ _ (c .before .before .put-values .ensures) (search needs))
 
 returns-3 : tie.Need-returns-3
 unfolding kindText valuesText
-returns-3 c = prints-text (sym (ap kindText (c .before .before .before .before .before .enum-told2 .given .1))) (c .before .before .put-values2 .ensures)
+returns-3 c = prints-text (sym (ap kindText (c .before .before .before .before .before .enum-told2 .given .1))) (values-in _ _ (c .before .before .put-values2 .ensures) (search needs))
 
 float-to-bits-sum : tie.Need-float-to-bits-sum
 float-to-bits-sum c = numbers (c .before) .sum

@@ -2,7 +2,7 @@ use mathlib.Core.Path.{sym, ap, subst}
 use denote.Ref.{now}
 use Rattle.hourly.specs.Exact.{Numbered, ask-numbered}
 use Rattle.script.specs.Answer.{hourText}
-use Rattle.script.specs.Print.{prints-text}
+use Rattle.answers.specs.Print.{prints-text}
 use borrow.Author.Needs.{needs}
 use Rattle.script.proofs.hours.show_hour.Statement.{statement}
 use Rattle.script.proofs.hours.show_hour.Tie as tie

@@ -3,11 +3,13 @@ use mathlib.Core.List.{List, [], _∷_, _++_}
 use Prim.Native.Nat.{ℕ}
 use Rattle.hourly.specs.declared.Printed.{Printed}
 use Rattle.hourly.specs.Says.{saysPrinted}
-use Rattle.script.specs.Answer.{lineText, valuesText, bytesText, journalNamed}
-use Rattle.script.specs.Print.{prints-text}
+use Rattle.answers.specs.Text.{lineText, valuesText, bytesText}
+use Rattle.script.specs.Answer.{journalNamed}
+use Rattle.answers.specs.Print.{prints-text}
 use Rattle.laws.specs.Pick.{pick}
 use Rattle.script.proofs.Shown.{shownText}
 use Rattle.script.proofs.Journals.{named, hours-shown, refusal-shown}
+use Rattle.answers.specs.Room.{shown-in}
 use borrow.Author.Needs.{needs}
 use Rattle.script.proofs.hours.show_hours.Statement.{statement}
 use Rattle.script.proofs.hours.show_hours.Tie as tie
@@ -17,7 +19,7 @@ unfolding named shownText
 returns c =
     prints-text
     (ap (λ (w : Printed). shownText (named (saysPrinted w)) (c .before .before .before .before .before .before .before .before .before .before .before .print .last .1 .0)) (sym (c .before .before .before .before .before .before .before .len .given .1)) ∙ hours-shown (c .before .before .before .before .before .before .before .before .before .before .before .before .before .before .before .before .pre .0) (c .before .before .before .before .before .before .before .before .before .before .before .print .ensures))
-    (c .before .before .put-shown .ensures)
+    (shown-in _ _ _ (c .before .before .put-shown .ensures) (search needs))
 
 returns-2 : tie.Need-returns-2
 returns-2 c =
@@ -26,14 +28,14 @@ returns-2 c =
     ∙ refusal-shown (c .before .before .before .before .before .before .before .before .refusal .given .0 .0) (c .before .before .before .before .before .before .before .before .before .before .before .before .print .last .1 .0)
     ∙ ap (λ (w : Printed). shownText (named (saysPrinted w)) (c .before .before .before .before .before .before .before .before .before .before .before .before .print .last .1 .0)) (sym (c .before .before .before .before .before .before .before .before .refusal .given .1))
     ∙ hours-shown (c .before .before .before .before .before .before .before .before .before .before .before .before .before .before .before .before .before .pre .0) (c .before .before .before .before .before .before .before .before .before .before .before .before .print .ensures))
-    (c .before .before .put-shown2 .ensures)
+    (shown-in _ _ _ (c .before .before .put-shown2 .ensures) (search needs))
 
 returns-3 : tie.Need-returns-3
 unfolding named shownText journalNamed pick
 returns-3 c =
     prints-text
     (ap (λ (w : Printed). shownText (named (saysPrinted w)) (c .before .before .before .before .before .before .before .before .before .before .print .last .1 .0)) (sym (c .before .before .before .before .before .before .enum-told .given .1)) ∙ hours-shown (c .before .before .before .before .before .before .before .before .before .before .before .before .before .before .before .pre .0) (c .before .before .before .before .before .before .before .before .before .before .print .ensures))
-    (c .before .before .put-shown3 .ensures)
+    (shown-in _ _ _ (c .before .before .put-shown3 .ensures) (search needs))
 
 print-requires : tie.Need-print-requires
 print-requires c κs = search needs

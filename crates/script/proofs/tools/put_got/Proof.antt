@@ -6,9 +6,11 @@ use mir.Val.{SFits}
 use mir.Facts.{toZ-ofZ}
 use Rattle.field.specs.declared.Got.{Got}
 use Rattle.field.specs.Says.{saysGot}
-use Rattle.script.specs.Answer.{lineText, signedText, valuesText, refusedText, weightText}
-use Rattle.script.specs.Print.{prints-text}
+use Rattle.answers.specs.Text.{lineText, signedText, valuesText, refusedText}
+use Rattle.script.specs.Answer.{weightText}
+use Rattle.answers.specs.Print.{prints-text}
 use Rattle.script.proofs.Shown.{weight-shown}
+use Rattle.answers.specs.Room.{values-in, weight-in}
 use borrow.Author.Needs.{needs}
 use Rattle.script.proofs.tools.put_got.Statement.{statement}
 use Rattle.script.proofs.tools.put_got.Tie as tie
@@ -23,11 +25,11 @@ returns c =
     (ap (λ (x : ℤ). lineText (80 ∷ []) (signedText x ∷ valuesText (c .before .before .before .before .before .before .before .before .flag .result ∷ c .before .before .before .before .before .before .before .flag2 .result ∷ w .point ∷ []))) (toZ-ofZ (value-fits (c .before .before .before)))
     ∙ weight-shown w _ _ (c .before .before .before .before .before .before .before .before .flag .ensures) (c .before .before .before .before .before .before .before .flag2 .ensures)
     ∙ sym (ap (λ (g : Got). weightText (saysGot g)) (c .before .before .before .before .before .before .before .before .before .before .got .given .1)))
-    (c .before .before .put-weight .ensures)
+    (weight-in _ _ (c .before .before .put-weight .ensures) (search needs))
 
 returns-2 : tie.Need-returns-2
 unfolding weightText refusedText valuesText
-returns-2 c = prints-text (sym (ap (λ (g : Got). weightText (saysGot g)) (c .before .before .before .before .before .enum-told .given .1))) (c .before .before .put-values .ensures)
+returns-2 c = prints-text (sym (ap (λ (g : Got). weightText (saysGot g)) (c .before .before .before .before .before .enum-told .given .1))) (values-in _ _ (c .before .before .put-values .ensures) (search needs))
 
 enum-known-got : tie.Need-enum-known-got
 enum-known-got c = search needs

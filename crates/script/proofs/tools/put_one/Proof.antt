@@ -1,23 +1,25 @@
 use mathlib.Core.Path.{sym, ap, _∙_}
 use Rattle.journal.specs.declared.One.{One}
 use Rattle.journal.specs.Says.{saysOne}
-use Rattle.script.specs.Answer.{valuesText, refusedText, oneText, readLineText}
-use Rattle.script.specs.Print.{prints-text}
+use Rattle.answers.specs.Text.{valuesText, refusedText}
+use Rattle.script.specs.Answer.{oneText, readLineText}
+use Rattle.answers.specs.Print.{prints-text}
+use Rattle.answers.specs.Room.{values-in}
 use borrow.Author.Needs.{needs}
 use Rattle.script.proofs.tools.put_one.Statement.{statement}
 use Rattle.script.proofs.tools.put_one.Tie as tie
 
 returns : tie.Need-returns
 unfolding readLineText refusedText valuesText
-returns c = prints-text (sym (ap (λ (o : One). readLineText (saysOne o)) (c .before .before .before .before .before .enum-told .given .1))) (c .before .before .put-values .ensures)
+returns c = prints-text (sym (ap (λ (o : One). readLineText (saysOne o)) (c .before .before .before .before .before .enum-told .given .1))) (values-in _ _ (c .before .before .put-values .ensures) (search needs))
 
 returns-2 : tie.Need-returns-2
 unfolding readLineText oneText valuesText
-returns-2 c = prints-text (sym (ap (λ (o : One). readLineText (saysOne o)) (c .before .before .before .before .before .before .before .before .before .one .given .1) ∙ ap oneText (c .before .before .before .before .before .before .found .given .1))) (c .before .before .put-values2 .ensures)
+returns-2 c = prints-text (sym (ap (λ (o : One). readLineText (saysOne o)) (c .before .before .before .before .before .before .before .before .before .one .given .1) ∙ ap oneText (c .before .before .before .before .before .before .found .given .1))) (values-in _ _ (c .before .before .put-values2 .ensures) (search needs))
 
 returns-3 : tie.Need-returns-3
 unfolding readLineText oneText valuesText
-returns-3 c = prints-text (sym (ap (λ (o : One). readLineText (saysOne o)) (c .before .before .before .before .before .before .before .before .before .one .given .1) ∙ ap oneText (c .before .before .before .before .before .before .found2 .given .1))) (c .before .before .put-values3 .ensures)
+returns-3 c = prints-text (sym (ap (λ (o : One). readLineText (saysOne o)) (c .before .before .before .before .before .before .before .before .before .one .given .1) ∙ ap oneText (c .before .before .before .before .before .before .found2 .given .1))) (values-in _ _ (c .before .before .put-values3 .ensures) (search needs))
 
 enum-known-one : tie.Need-enum-known-one
 enum-known-one c = search needs

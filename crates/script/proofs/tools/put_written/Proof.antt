@@ -1,19 +1,21 @@
 use mathlib.Core.Path.{sym, ap}
 use Rattle.field.specs.declared.Written.{Written}
 use Rattle.field.specs.Says.{saysWritten}
-use Rattle.script.specs.Answer.{valuesText, refusedText, fieldText}
-use Rattle.script.specs.Print.{prints-text}
+use Rattle.answers.specs.Text.{valuesText, refusedText}
+use Rattle.script.specs.Answer.{fieldText}
+use Rattle.answers.specs.Print.{prints-text}
+use Rattle.answers.specs.Room.{values-in, shown-in}
 use borrow.Author.Needs.{needs}
 use Rattle.script.proofs.tools.put_written.Statement.{statement}
 use Rattle.script.proofs.tools.put_written.Tie as tie
 
 returns : tie.Need-returns
 unfolding fieldText valuesText
-returns c = prints-text (sym (ap (λ (w : Written). fieldText (saysWritten w)) (c .before .before .before .before .before .before .before .written .given .1))) (c .before .before .put-shown .ensures)
+returns c = prints-text (sym (ap (λ (w : Written). fieldText (saysWritten w)) (c .before .before .before .before .before .before .before .written .given .1))) (shown-in _ _ _ (c .before .before .put-shown .ensures) (search needs))
 
 returns-2 : tie.Need-returns-2
 unfolding fieldText refusedText valuesText
-returns-2 c = prints-text (sym (ap (λ (w : Written). fieldText (saysWritten w)) (c .before .before .before .before .before .enum-told .given .1))) (c .before .before .put-values .ensures)
+returns-2 c = prints-text (sym (ap (λ (w : Written). fieldText (saysWritten w)) (c .before .before .before .before .before .enum-told .given .1))) (values-in _ _ (c .before .before .put-values .ensures) (search needs))
 
 enum-known-written : tie.Need-enum-known-written
 enum-known-written c = search needs

@@ -1,6 +1,6 @@
 use mathlib.Core.Path.{refl, ap, _∙_}
 use Rattle.script.specs.Answer.{weightText, answered, onCall}
-use Rattle.script.specs.Print.{prints-text}
+use Rattle.answers.specs.Print.{prints-text}
 use Rattle.script.specs.Steps.{asField, tells-as}
 use borrow.Author.Needs.{needs}
 use Rattle.script.proofs.tools.read_field.Statement.{statement}

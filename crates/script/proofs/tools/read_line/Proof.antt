@@ -3,7 +3,7 @@ use lib.Seq.{length-take-le}
 use Rattle.journal.specs.Line.{oneLine}
 use Rattle.script.specs.Call as calls
 use Rattle.script.specs.Answer.{readLineText, answered}
-use Rattle.script.specs.Print.{prints-text}
+use Rattle.answers.specs.Print.{prints-text}
 use Rattle.script.proofs.Telling.{bytes-within, bytes-unknown, bytes-tells}
 use borrow.Author.Needs.{needs}
 use Rattle.script.proofs.tools.read_line.Statement.{statement}

@@ -7,9 +7,11 @@ use lib.ListN.{length, take}
 use lib.Seq.{length-take-le}
 use Rattle.frame.specs.Read.{readOf}
 use Rattle.frame.specs.Says.{saysFound}
-use Rattle.script.specs.Answer.{lineText, valuesText, bytesText, frameText}
-use Rattle.script.specs.Print.{prints-text}
+use Rattle.answers.specs.Text.{lineText, valuesText, bytesText}
+use Rattle.script.specs.Answer.{frameText}
+use Rattle.answers.specs.Print.{prints-text}
 use Rattle.script.proofs.Shown.{body-shown, no-body-shown}
+use Rattle.answers.specs.Room.{values-in, shown-in}
 use borrow.Author.Needs.{needs}
 use Rattle.script.proofs.tools.show_body.Statement.{statement}
 use Rattle.script.proofs.tools.show_body.Tie as tie
@@ -21,13 +23,16 @@ body : (c : tie.After-known-told)
 body c = body-shown _ (c .before .before .before .before .read-frame .result) _ _ (c .before .before .before .before .read-frame .ensures) (c .before .found .given .1)
 
 returns : tie.Need-returns
-returns c = prints-text (body (c .before .before .before .before .before .before) .0) (c .before .before .put-shown .ensures)
+returns c =
+    let b = body (c .before .before .before .before .before .before) in
+    let e = length-take-le (c .before .before .before .before .before .before .before .found .given .0 .1 .0) (c .before .before .before .before .before .before .before .before .before .before .read-frame .result .body) (b .1) in
+    prints-text (b .0) (shown-in _ _ _ (c .before .before .put-shown .ensures) (omega arith, omega (arith, e, b .2), search needs))
 
 returns-2 : tie.Need-returns-2
-returns-2 c = prints-text (no-body-shown _ (c .before .before .before .before .before .before .before .before .before .read-frame .result) 9 _ (c .before .before .before .before .before .before .before .before .before .read-frame .ensures) (ap saysFound (c .before .before .before .before .before .before .found2 .given .1))) (c .before .before .put-values .ensures)
+returns-2 c = prints-text (no-body-shown _ (c .before .before .before .before .before .before .before .before .before .read-frame .result) 9 _ (c .before .before .before .before .before .before .before .before .before .read-frame .ensures) (ap saysFound (c .before .before .before .before .before .before .found2 .given .1))) (values-in _ _ (c .before .before .put-values .ensures) (search needs))
 
 returns-3 : tie.Need-returns-3
-returns-3 c = prints-text (no-body-shown _ (c .before .before .before .before .before .before .before .before .before .read-frame .result) 6 _ (c .before .before .before .before .before .before .before .before .before .read-frame .ensures) (ap saysFound (c .before .before .before .before .before .before .found3 .given .1))) (c .before .before .put-values2 .ensures)
+returns-3 c = prints-text (no-body-shown _ (c .before .before .before .before .before .before .before .before .before .read-frame .result) 6 _ (c .before .before .before .before .before .before .before .before .before .read-frame .ensures) (ap saysFound (c .before .before .before .before .before .before .found3 .given .1))) (values-in _ _ (c .before .before .put-values2 .ensures) (search needs))
 
 array-share-prefix-body : tie.Need-array-share-prefix-body
 array-share-prefix-body c = body (c .before .before) .1
@@ -36,9 +41,7 @@ slice-aggregate-put-shown-2 : tie.Need-slice-aggregate-put-shown-2
 slice-aggregate-put-shown-2 c = sym (length-take-le _ _ (body (c .before .before .before) .1))
 
 put-shown-requires : tie.Need-put-shown-requires
-put-shown-requires c κs =
-    let e = length-take-le (c .before .before .before .before .found .given .0 .1 .0) (c .before .before .before .before .before .before .before .read-frame .result .body) (body (c .before .before .before) .1) in
-    (omega arith, omega (arith, e, body (c .before .before .before) .2), search needs)
+put-shown-requires c κs = search needs
 
 read-frame-requires : tie.Need-read-frame-requires
 read-frame-requires c κs = search needs

@@ -1,9 +1,10 @@
 use mathlib.Core.Path.{sym, ap, _∙_}
 use Rattle.frame.specs.declared.Wrote.{Wrote}
 use Rattle.frame.specs.Says.{saysWrote}
-use Rattle.script.specs.Answer.{valuesText}
-use Rattle.script.specs.Print.{prints-text}
+use Rattle.answers.specs.Text.{valuesText}
+use Rattle.answers.specs.Print.{prints-text}
 use Rattle.script.proofs.Shown.{shownText, shown}
+use Rattle.answers.specs.Room.{shown-in}
 use borrow.Author.Needs.{needs}
 use Rattle.script.proofs.tools.show_frame.Statement.{statement}
 use Rattle.script.proofs.tools.show_frame.Tie as tie
@@ -13,21 +14,21 @@ unfolding shownText valuesText
 returns c =
     prints-text
     (ap (λ (w : Wrote). shownText (saysWrote w) (c .before .before .before .before .before .before .before .before .before .before .before .write-frame .last .1 .0)) (sym (c .before .before .before .before .before .before .before .len .given .1)) ∙ shown (c .before .before .before .before .before .before .before .before .before .before .before .before .before .before .before .before .pre .0) (c .before .before .before .before .before .before .before .before .before .before .before .write-frame .ensures))
-    (c .before .before .put-shown .ensures)
+    (shown-in _ _ _ (c .before .before .put-shown .ensures) (search needs))
 
 returns-2 : tie.Need-returns-2
 unfolding shownText valuesText
 returns-2 c =
     prints-text
     (ap (λ (w : Wrote). shownText (saysWrote w) (c .before .before .before .before .before .before .before .before .before .before .write-frame .last .1 .0)) (sym (c .before .before .before .before .before .before .enum-told .given .1)) ∙ shown (c .before .before .before .before .before .before .before .before .before .before .before .before .before .before .before .pre .0) (c .before .before .before .before .before .before .before .before .before .before .write-frame .ensures))
-    (c .before .before .put-shown2 .ensures)
+    (shown-in _ _ _ (c .before .before .put-shown2 .ensures) (search needs))
 
 returns-3 : tie.Need-returns-3
 unfolding shownText valuesText
 returns-3 c =
     prints-text
     (ap (λ (w : Wrote). shownText (saysWrote w) (c .before .before .before .before .before .before .before .before .before .before .write-frame .last .1 .0)) (sym (c .before .before .before .before .before .before .enum-told2 .given .1)) ∙ shown (c .before .before .before .before .before .before .before .before .before .before .before .before .before .before .before .pre .0) (c .before .before .before .before .before .before .before .before .before .before .write-frame .ensures))
-    (c .before .before .put-shown3 .ensures)
+    (shown-in _ _ _ (c .before .before .put-shown3 .ensures) (search needs))
 
 write-frame-requires : tie.Need-write-frame-requires
 write-frame-requires c κs = search needs

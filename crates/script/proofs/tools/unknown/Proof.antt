@@ -1,12 +1,14 @@
 use mathlib.Core.Path.{refl}
-use Rattle.script.specs.Answer.{valuesText, onCall}
+use Rattle.answers.specs.Text.{valuesText}
+use Rattle.script.specs.Answer.{onCall}
+use Rattle.answers.specs.Room.{values-in}
 use borrow.Author.Needs.{needs}
 use Rattle.script.proofs.tools.unknown.Statement.{statement}
 use Rattle.script.proofs.tools.unknown.Tie as tie
 
 returns : tie.Need-returns
 unfolding valuesText onCall
-returns c = record { text = λ k. c .before .before .put-values .ensures; stays = λ k. refl }
+returns c = record { text = λ k. values-in _ _ (c .before .before .put-values .ensures) (search needs); stays = λ k. refl }
 
 slice-aggregate-put-values : tie.Need-slice-aggregate-put-values
 slice-aggregate-put-values c = search needs
