@@ -2,3 +2,4 @@ pub mod Lines
 pub mod Places
 pub mod Blocks
 pub mod Going
+pub mod Fed

@@ -1,8 +1,8 @@
 -- One answer to a line: what the box and its writers and readers answer, as text. Assumes nothing.
-use mathlib.Core.Bool.{Bool}
+use mathlib.Core.Bool.{Bool, false}
 use mathlib.Core.List.{List, [], _∷_, _++_}
 use Prim.Native.Nat.{ℕ}
-use lib.Dec.{ltb}
+use lib.Dec.{ltb, eqb}
 use lib.ListN.{length, replicate}
 use Rattle.laws.specs.Pick.{pick}
 use Rattle.laws.specs.Decimal.{Parsed, good, bad}
@@ -27,7 +27,7 @@ use Rattle.controller.specs.declared.Record.{Record}
 use Rattle.controller.specs.Tick.{Told, tickOf}
 use Rattle.controller.specs.Calls.{restartOf, settingsOf, resetOf, linkOf}
 use Rattle.controller.specs.Line.{Replied, requestOf}
-use Rattle.script.specs.Call.{Call, tick, link, settings, reset, counters, restart, request, writeFrame, readFrame, writeField, readField, writeLine, readLine, hour, hours, callOf}
+use Rattle.script.specs.Call.{Call, tick, link, settings, reset, counters, restart, request, writeFrame, readFrame, writeField, readField, writeLine, readLine, hour, hours, letterOf, callOf}
 
 -- ---- the answers
 
@@ -145,3 +145,17 @@ tooLong l = ltb 4095 (length l)
 -- the answer to a line, its LF left out
 unfoldable pub answerTo : Controller → List ℕ → Step
 answerTo c l = pick (tooLong l) (onCall c bad) (onCall c (callOf l))
+
+-- ---- a line that is no tick
+
+-- what a line asks; one that is too long asks nothing
+unfoldable pub asked : List ℕ → Parsed Call
+asked l = pick (tooLong l) bad (callOf l)
+
+unfoldable pub asksTick : Parsed Call → Bool
+asksTick (good call rest) = eqb (letterOf call) 84
+asksTick bad = false
+
+-- the answer to a line that is no tick; for a tick nothing is called and nothing written
+unfoldable pub asideBy : Controller → Parsed Call → Step
+asideBy c p = pick (asksTick p) (step c []) (onCall c p)

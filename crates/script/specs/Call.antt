@@ -34,6 +34,25 @@ pub data Call : Type 0 where
   hour : List ℕ → ℕ → Call
   hours : List ℕ → ℕ → Call
 
+-- the letter that it stands under
+unfoldable pub letterOf : Call → ℕ
+letterOf (tick x i) = 84
+letterOf (link on) = 76
+letterOf (settings set) = 83
+letterOf reset = 67
+letterOf counters = 81
+letterOf (restart set count total) = 78
+letterOf (request s room) = 66
+letterOf (writeFrame body room) = 87
+letterOf (readFrame s) = 88
+letterOf (writeField w) = 71
+letterOf (readField f) = 75
+letterOf (writeLine (Dose h c a s) room) = 68
+letterOf (writeLine (On h) room) = 72
+letterOf (readLine s) = 108
+letterOf (hour s h) = 117
+letterOf (hours s room) = 106
+
 -- ---- fields: one tab before each
 
 abbrev pub greatest32 : ℕ

@@ -2,6 +2,7 @@ pub mod Call
 pub mod Answer
 pub mod Reading
 pub mod Steps
+pub mod Letters
 pub mod Reply
 pub mod Cases
 pub mod Input

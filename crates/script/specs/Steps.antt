@@ -16,7 +16,7 @@ use Rattle.controller.specs.declared.RestartAnswer.{RestartAnswer}
 use Rattle.controller.specs.declared.RestartAnswer.the-variants as R
 use Rattle.controller.specs.Sound.{Sound}
 use Rattle.script.specs.Call.{Call, tick, link, settings, restart, writeField, readField, writeLine, writeFrame, readFrame, readLine, hours, atEnd, roomAt, bytesCall, writeFieldAt, readFieldAt, doseAt, onAt, hourAt}
-use Rattle.script.specs.Answer.{Step, onCall, answerTo}
+use Rattle.script.specs.Answer.{Step, onCall, answerTo, asked, asideBy}
 use Rattle.answers.specs.Print.{Prints, prints-over}
 use Rattle.script.specs.declared.Answered.{Answered}
 use Rattle.script.specs.declared.TickCall.{TickCall}
@@ -146,11 +146,23 @@ inUse R.R15 old new = old
 unfoldable pub answerIn : ℕ → Controller → List ℕ → Step
 answerIn room c l = pick (leb 4096 room) (answerTo c l) (record { next = c; text = [] })
 
+-- the same for a line that is no tick
+unfoldable pub asideIn : ℕ → Controller → List ℕ → Step
+asideIn room c l = pick (leb 4096 room) (asideBy c (asked l)) (record { next = c; text = [] })
+
 pub made : {s : Step} {old new : List ℕ} {r : Answered} → r .next ≡ s .next → Sound (r .next) → 4096 ≤ length old → Prints 4096 old 0 (s .text) new (r .len) → Answers s old new r
 made e t h p = let o = prints-over h p in record { next = e; sound = t; left = o .0; len = o .1 }
 
+pub answers-step : {s t : Step} {old new : List ℕ} {r : Answered} → s ≡ t → Answers t old new r → Answers s old new r
+answers-step {s} {t} {old} {new} {r} e a = subst (λ (x : Step). Answers x old new r) (sym e) a
+
+-- nothing is called and nothing written
+pub answers-none : {c : Controller} {old : List ℕ} → Sound c → Answers (record { next = c; text = [] }) old old (record { next = c; len = 0 })
+unfolding over
+answers-none s = record { next = refl; sound = s; left = refl; len = refl }
+
 pub answers-as : (c : Controller) {p q : Parsed Call} {old new : List ℕ} {r : Answered} → p ≡ q → Answers (onCall c q) old new r → Answers (onCall c p) old new r
-answers-as c {p} {q} {old} {new} {r} e a = subst (λ (x : Parsed Call). Answers (onCall c x) old new r) (sym e) a
+answers-as c e a = answers-step (ap (onCall c) e) a
 
 pub tells-as : {p q : Parsed Call} {old new : List ℕ} {r : ℕ} → p ≡ q → Tells q old new r → Tells p old new r
 tells-as {p} {q} {old} {new} {r} e a = subst (λ (x : Parsed Call). Tells x old new r) (sym e) a

@@ -25,12 +25,12 @@ ghost use Rattle.controller.specs.Tick.{saysFault};
 ghost use Rattle.controller.specs.Says.{saysTick, saysSet, saysReset, saysRestart};
 ghost use Rattle.script.specs.Call as calls;
 ghost use Rattle.script.specs.Call.{tickAt, linkAt, settingsAt, restartAt, atEnd};
-ghost use Rattle.script.specs.Answer.{tickText, doneText, onCall};
+ghost use Rattle.script.specs.Answer.{tickText, doneText, onCall, asideBy};
 ghost use Rattle.answers.specs.Print.{Prints};
 ghost use Rattle.script.specs.Steps.{asTick, asLink, asSet, asRestart, inUse, Answers};
 
 // T sample inputs
-fn read_tick(line: &[u8]) -> TickCall
+pub fn read_tick(line: &[u8]) -> TickCall
     ensures { λ r. ⌜ atEnd (tickAt (drop 1 (now (line .entry)))) ≡ asTick r ⌝ }
 {
     let Signed::Good(sample, after) = read::signed_at(line, 1) else {
@@ -93,6 +93,17 @@ pub(crate) fn tick(c: Controller, line: &[u8], out: &mut [u8]) -> Answered
     let next = ticked.next;
     let len = put_tick(out, answer);
     Answered { next, len }
+}
+
+// A tick is left to the caller; any other line of its letter is no call.
+pub(crate) fn not_tick(c: Controller, line: &[u8], out: &mut [u8]) -> Answered
+    requires { ⌜ Sound c × (4096 ≤ length (now out)) ⌝ }
+    ensures { λ r. ⌜ Answers (asideBy c (atEnd (tickAt (drop 1 (now (line .entry)))))) (now (out .entry)) (now (out .exit)) r ⌝ }
+{
+    let TickCall::Tick(_, _) = read_tick(line) else {
+        return unknown(c, out);
+    };
+    Answered { next: c, len: 0 }
 }
 
 // L 0 or 1
@@ -195,7 +206,7 @@ pub(crate) fn counters(c: Controller, line: &[u8], out: &mut [u8]) -> Answered
 }
 
 // N SET count total
-fn read_restart(line: &[u8]) -> RestartCall
+pub fn read_restart(line: &[u8]) -> RestartCall
     ensures { λ r. ⌜ atEnd (restartAt (drop 1 (now (line .entry)))) ≡ asRestart r ⌝ }
 {
     let Set::Good(set, after_set) = read::set_at(line, 1) else {

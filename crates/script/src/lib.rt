@@ -11,6 +11,8 @@ pub use blocks::Fed;
 pub use blocks::Replay;
 pub use blocks::carry;
 pub use blocks::feed;
+pub use calls::read_restart;
+pub use calls::read_tick;
 use controller::Controller;
 use field::Field;
 use field::Weight;
@@ -21,8 +23,8 @@ ghost use lib.ListN.{length};
 ghost use Rattle.laws.specs.Decimal.{bad};
 ghost use Rattle.controller.specs.Sound.{Sound};
 ghost use Rattle.script.specs.Call.{callOf};
-ghost use Rattle.script.specs.Answer.{onCall};
-ghost use Rattle.script.specs.Steps.{Answers, answerIn};
+ghost use Rattle.script.specs.Answer.{onCall, asideBy};
+ghost use Rattle.script.specs.Steps.{Answers, answerIn, asideIn};
 
 // The next controller, and how many bytes the answer has.
 pub struct Answered {
@@ -59,7 +61,8 @@ enum Set {
     Bad,
 }
 
-enum TickCall {
+// T sample inputs, or something else.
+pub enum TickCall {
     Tick(i32, u8),
     Unknown,
 }
@@ -80,7 +83,8 @@ enum SetCall {
     Unknown,
 }
 
-enum RestartCall {
+// N SET count total, or something else.
+pub enum RestartCall {
     Restart(Settings, u32, u32),
     Unknown,
 }
@@ -123,15 +127,15 @@ fn unknown(c: Controller, out: &mut [u8]) -> Answered
     Answered { next: c, len }
 }
 
-// The answer to a line that has a letter.
+// The answer to a line that has a letter and is no tick.
 fn by_letter(c: Controller, line: &[u8], out: &mut [u8]) -> Answered
     requires sound { ⌜ Sound c ⌝ }
     requires line { ⌜ (1 ≤ length (now line)) × (length (now line) ≤ 4095) ⌝ }
     requires room { ⌜ 4096 ≤ length (now out) ⌝ }
-    ensures { λ r. ⌜ Answers (onCall c (callOf (now (line .entry)))) (now (out .entry)) (now (out .exit)) r ⌝ }
+    ensures { λ r. ⌜ Answers (asideBy c (callOf (now (line .entry)))) (now (out .entry)) (now (out .exit)) r ⌝ }
 {
     match line[0] {
-        b'T' => calls::tick(c, line, out),
+        b'T' => calls::not_tick(c, line, out),
         b'L' => calls::link(c, line, out),
         b'S' => calls::settings(c, line, out),
         b'C' => calls::reset(c, line, out),
@@ -145,10 +149,10 @@ fn by_letter(c: Controller, line: &[u8], out: &mut [u8]) -> Answered
     }
 }
 
-// The answer to a line, its LF left out; a buffer that is not enough is left as it was, and nothing is called.
-pub fn answer(c: Controller, line: &[u8], out: &mut [u8]) -> Answered
+// The answer to a line that is no tick, its LF left out; a buffer that is not enough is left as it was, and nothing is called.
+pub fn aside(c: Controller, line: &[u8], out: &mut [u8]) -> Answered
     requires { ⌜ Sound c ⌝ }
-    ensures { λ r. ⌜ Answers (answerIn (length (now (out .entry))) c (now (line .entry))) (now (out .entry)) (now (out .exit)) r ⌝ }
+    ensures { λ r. ⌜ Answers (asideIn (length (now (out .entry))) c (now (line .entry))) (now (out .entry)) (now (out .exit)) r ⌝ }
 {
     if out.len() < ENOUGH {
         return Answered { next: c, len: 0 };
@@ -160,4 +164,21 @@ pub fn answer(c: Controller, line: &[u8], out: &mut [u8]) -> Answered
         return unknown(c, out);
     }
     by_letter(c, line, out)
+}
+
+// The answer to a line, its LF left out; a buffer that is not enough is left as it was, and nothing is called.
+pub fn answer(c: Controller, line: &[u8], out: &mut [u8]) -> Answered
+    requires { ⌜ Sound c ⌝ }
+    ensures { λ r. ⌜ Answers (answerIn (length (now (out .entry))) c (now (line .entry))) (now (out .entry)) (now (out .exit)) r ⌝ }
+{
+    if ENOUGH > out.len() {
+        return Answered { next: c, len: 0 };
+    }
+    if line.len() > LONGEST {
+        return unknown(c, out);
+    }
+    if text::byte_at(line, 0) == b'T' {
+        return calls::tick(c, line, out);
+    }
+    aside(c, line, out)
 }

@@ -7,8 +7,12 @@ use lib.ListN.{length, getD, drop}
 use borrow.Author.Tests.{ne-eqb}
 use Rattle.laws.specs.Pick.{pick, pick-f}
 use Rattle.laws.specs.Decimal.{Parsed}
+use Rattle.controller.specs.declared.Controller.{Controller}
 use Rattle.script.specs.Call.{Call, callBy, atEnd, callOf}
-use Rattle.script.specs.Steps.{toolBy, made, answers-as}
+use Rattle.script.specs.Answer.{onCall, asideBy}
+use Rattle.script.specs.Steps.{Answers, toolBy, made, answers-step, answers-as}
+use Rattle.script.specs.Letters.{other-letter, aside-else}
+use Rattle.script.specs.declared.Answered.{Answered}
 use borrow.Author.Needs.{needs}
 use Rattle.script.proofs.by_letter.Statement.{statement}
 use Rattle.script.proofs.by_letter.Tie as tie
@@ -33,11 +37,15 @@ by-tool letter l t i s r q n b =
     ∙ pick-f _ _ _ (ne-eqb _ _ n)
     ∙ pick-f _ _ _ (ne-eqb _ _ b)
 
+-- a letter other than T
+no-tick : (c : Controller) (line : List ℕ) {q : Parsed Call} {old new : List ℕ} {r : Answered} → (getD line 0 0 ≡ 84 → ⊥) → callOf line ≡ q → Answers (onCall c q) old new r → Answers (asideBy c (callOf line)) old new r
+no-tick c line n e a = answers-step (aside-else c (callOf line) (other-letter line n)) (answers-as c e a)
+
 shared-slice-read-match : tie.Need-shared-slice-read-match
 shared-slice-read-match c = search needs
 
-tick-requires : tie.Need-tick-requires
-tick-requires c κs = search needs
+not-tick-requires : tie.Need-not-tick-requires
+not-tick-requires c κs = search needs
 
 link-requires : tie.Need-link-requires
 link-requires c κs = search needs
@@ -65,49 +73,69 @@ same-length c = search needs
 
 returns : tie.Need-returns
 unfolding callBy pick
-returns c = answers-as (c .before .before .before .before .before .before .before .before .args .c) (by-key (now (c .before .before .before .before .before .before .before .before .args .line)) 84 (c .before .before .before .before .before .before .before .before .pre .1 .0 .0) (c .before .before .before .before .match .keys1) refl) (c .before .before .tick .ensures)
+returns c =
+    let a = c .before .before .before .before .before .before .before .before .args in
+    answers-step (ap (asideBy (a .c)) (by-key (now (a .line)) 84 (c .before .before .before .before .before .before .before .before .pre .1 .0 .0) (c .before .before .before .before .match .keys1) refl)) (c .before .before .not-tick .ensures)
 
 same-length-2 : tie.Need-same-length-2
 same-length-2 c = search needs
 
 returns-2 : tie.Need-returns-2
 unfolding callBy pick
-returns-2 c = answers-as (c .before .before .before .before .before .before .before .before .args .c) (by-key (now (c .before .before .before .before .before .before .before .before .args .line)) 76 (c .before .before .before .before .before .before .before .before .pre .1 .0 .0) (c .before .before .before .before .match .keys2) refl) (c .before .before .link .ensures)
+returns-2 c =
+    let a = c .before .before .before .before .before .before .before .before .args in
+    let k = c .before .before .before .before .match .keys2 in
+    no-tick (a .c) (now (a .line)) (λ e. omega (arith, k, e)) (by-key (now (a .line)) 76 (c .before .before .before .before .before .before .before .before .pre .1 .0 .0) k refl) (c .before .before .link .ensures)
 
 same-length-3 : tie.Need-same-length-3
 same-length-3 c = search needs
 
 returns-3 : tie.Need-returns-3
 unfolding callBy pick
-returns-3 c = answers-as (c .before .before .before .before .before .before .before .before .args .c) (by-key (now (c .before .before .before .before .before .before .before .before .args .line)) 83 (c .before .before .before .before .before .before .before .before .pre .1 .0 .0) (c .before .before .before .before .match .keys3) refl) (c .before .before .settings .ensures)
+returns-3 c =
+    let a = c .before .before .before .before .before .before .before .before .args in
+    let k = c .before .before .before .before .match .keys3 in
+    no-tick (a .c) (now (a .line)) (λ e. omega (arith, k, e)) (by-key (now (a .line)) 83 (c .before .before .before .before .before .before .before .before .pre .1 .0 .0) k refl) (c .before .before .settings .ensures)
 
 same-length-4 : tie.Need-same-length-4
 same-length-4 c = search needs
 
 returns-4 : tie.Need-returns-4
 unfolding callBy pick
-returns-4 c = answers-as (c .before .before .before .before .before .before .before .before .args .c) (by-key (now (c .before .before .before .before .before .before .before .before .args .line)) 67 (c .before .before .before .before .before .before .before .before .pre .1 .0 .0) (c .before .before .before .before .match .keys4) refl) (c .before .before .reset .ensures)
+returns-4 c =
+    let a = c .before .before .before .before .before .before .before .before .args in
+    let k = c .before .before .before .before .match .keys4 in
+    no-tick (a .c) (now (a .line)) (λ e. omega (arith, k, e)) (by-key (now (a .line)) 67 (c .before .before .before .before .before .before .before .before .pre .1 .0 .0) k refl) (c .before .before .reset .ensures)
 
 same-length-5 : tie.Need-same-length-5
 same-length-5 c = search needs
 
 returns-5 : tie.Need-returns-5
 unfolding callBy pick
-returns-5 c = answers-as (c .before .before .before .before .before .before .before .before .args .c) (by-key (now (c .before .before .before .before .before .before .before .before .args .line)) 81 (c .before .before .before .before .before .before .before .before .pre .1 .0 .0) (c .before .before .before .before .match .keys5) refl) (c .before .before .counters .ensures)
+returns-5 c =
+    let a = c .before .before .before .before .before .before .before .before .args in
+    let k = c .before .before .before .before .match .keys5 in
+    no-tick (a .c) (now (a .line)) (λ e. omega (arith, k, e)) (by-key (now (a .line)) 81 (c .before .before .before .before .before .before .before .before .pre .1 .0 .0) k refl) (c .before .before .counters .ensures)
 
 same-length-6 : tie.Need-same-length-6
 same-length-6 c = search needs
 
 returns-6 : tie.Need-returns-6
 unfolding callBy pick
-returns-6 c = answers-as (c .before .before .before .before .before .before .before .before .args .c) (by-key (now (c .before .before .before .before .before .before .before .before .args .line)) 78 (c .before .before .before .before .before .before .before .before .pre .1 .0 .0) (c .before .before .before .before .match .keys6) refl) (c .before .before .restart .ensures)
+returns-6 c =
+    let a = c .before .before .before .before .before .before .before .before .args in
+    let k = c .before .before .before .before .match .keys6 in
+    no-tick (a .c) (now (a .line)) (λ e. omega (arith, k, e)) (by-key (now (a .line)) 78 (c .before .before .before .before .before .before .before .before .pre .1 .0 .0) k refl) (c .before .before .restart .ensures)
 
 same-length-7 : tie.Need-same-length-7
 same-length-7 c = search needs
 
 returns-7 : tie.Need-returns-7
 unfolding callBy pick
-returns-7 c = answers-as (c .before .before .before .before .before .before .before .before .args .c) (by-key (now (c .before .before .before .before .before .before .before .before .args .line)) 66 (c .before .before .before .before .before .before .before .before .pre .1 .0 .0) (c .before .before .before .before .match .keys7) refl) (c .before .before .request .ensures)
+returns-7 c =
+    let a = c .before .before .before .before .before .before .before .before .args in
+    let k = c .before .before .before .before .match .keys7 in
+    no-tick (a .c) (now (a .line)) (λ e. omega (arith, k, e)) (by-key (now (a .line)) 66 (c .before .before .before .before .before .before .before .before .pre .1 .0 .0) k refl) (c .before .before .request .ensures)
 
 same-length-8 : tie.Need-same-length-8
 same-length-8 c = search needs
@@ -118,7 +146,7 @@ returns-8 c =
     let l = now (a .line) in
     let n = c .before .before .before .before .match .rest in
     let t = c .before .before .by-letter .ensures in
-    answers-as (a .c)
+    no-tick (a .c) l (n .0 .0 .0 .0 .0 .0 .1)
     (by-key l (getD l 0 0) (c .before .before .before .before .before .before .before .before .pre .1 .0 .0) refl (by-tool (getD l 0 0) (drop 1 l) (n .0 .0 .0 .0 .0 .0 .1) (n .0 .0 .0 .0 .0 .1) (n .0 .0 .0 .0 .1) (n .0 .0 .0 .1) (n .0 .0 .1) (n .0 .1) (n .1)))
     (made (sym (t .stays (a .c))) (c .before .before .before .before .before .before .before .before .pre .0) (c .before .before .before .before .before .before .before .before .pre .1 .1) (t .text (a .c)))
 
@@ -127,7 +155,7 @@ by-letter-spec =
     tie.close
     (tie.spec
     shared-slice-read-match
-    tick-requires
+    not-tick-requires
     link-requires
     settings-requires
     reset-requires
