@@ -15,6 +15,10 @@ use Rattle.paper.specs.Answer.{same}
 use Rattle.text.specs.Scan.{LF}
 use Rattle.lines.specs.Lines.{Plain}
 
+-- the bytes from a place on begin with the byte there
+pub from-byte : (s : List ℕ) (at : ℕ) → at < length s → drop at s ≡ getD s at 0 ∷ drop (at + 1) s
+from-byte s at h = drop-cons s at 0 h ∙ ap (λ (n : ℕ). getD s at 0 ∷ drop n s) (sym (add-one at))
+
 -- ---- where a line ends
 
 -- how many bytes stand before the first LF
@@ -89,7 +93,7 @@ pub ends-line : {block : List ℕ} {at end : ℕ} → EndsAt block at end → en
 ends-line {block} {at} {end} e h = record {
   cut =
       ends-rest block at end (e .after) (e .within)
-      ∙ ap (λ (l : List ℕ). take (end - at) (drop at block) ++ l) (drop-cons block end 0 h ∙ ap (λ (n : ℕ). getD block end 0 ∷ drop n block) (sym (add-one end)) ∙ ap (λ (b : ℕ). b ∷ drop (end + 1) block) (e .stop h));
+      ∙ ap (λ (l : List ℕ). take (end - at) (drop at block) ++ l) (from-byte block end h ∙ ap (λ (b : ℕ). b ∷ drop (end + 1) block) (e .stop h));
   plain = e .plain;
   place = omega (arith, e .after, length-take-le (end - at) (drop at block) (omega (arith, length-drop at block)));
   inside = h;

@@ -2,6 +2,9 @@
 ghost use mathlib.Core.Path.{_≡_};
 ghost use Rattle.lines.specs.Places.{endOf, Carries};
 
+// A line has at most so many bytes, its LF left out.
+pub const LONGEST: usize = 4095;
+
 const LF: u8 = 10;
 
 // The place of the first LF from `at` on, or that after the last byte.

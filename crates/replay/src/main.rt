@@ -1,7 +1,7 @@
 // Every call of the box from standard input, one answer to a line.
 use libc::STDIN_FILENO;
 use libc::STDOUT_FILENO;
-use script::Replay;
+use replayer::Replay;
 ghost use Prim.Native.Nat.{_≤_};
 ghost use lib.ListN.{length};
 ghost use Rattle.controller.specs.Sound.{Sound};
@@ -28,7 +28,7 @@ fn answer_block(r: Replay, block: &[u8], output: &mut [u8]) -> Done
     let mut now = r;
     let mut used: usize = 0;
     while used < block.len() {
-        let fed = script::feed(now, &block[used..], output);
+        let fed = replayer::feed(now, &block[used..], output);
         let len = fed.len;
         let more = fed.used;
         now = fed.next;
@@ -58,7 +58,7 @@ fn turn(r: Replay, held: usize, input: &mut [u8], output: &mut [u8]) -> Carried
     let have = held + n;
     let done = answer_block(r, &input[..have], output);
     let now = done.now;
-    let held = script::carry(input, done.used, have);
+    let held = lines::carry(input, done.used, have);
     Carried {
         now,
         held,

@@ -1,24 +1,22 @@
 -- Numbers read at a place: their bounds, their signs, and a row of them. Assumes nothing.
 use mathlib.Core.Path.{_≡_, refl, sym, ap, _∙_}
-use mathlib.Core.Bool.{Bool, true, false}
+use mathlib.Core.Bool.{true, false}
 use mathlib.Core.List.{List, [], _∷_, _++_, append-assoc, append-nil}
 use Prim.Native.Nat.{ℕ, zero, suc, _+_, _-_, _≤_, _<_}
 use native.Mathlib.Omega.{arith}
 use native.Mathlib.Numerals.{add-one}
 use lib.IntN.{pos, _-ℤ_, negℤ, +ℤ-idl}
-use lib.Dec.{eqb}
 use lib.ListN.{length, getD, take, drop, set}
 use lib.Seq.{take-suc-set}
 use borrow.Author.Tests.{eq-eqb, ne-eqb}
 use mir.Syntax.{w32, w64}
 use mir.Val.{toZ, ofZ, SFits}
 use mir.Facts.{toZ-ofZ, toZ-pos}
-use Rattle.laws.specs.Pick.{pick, pick-t, pick-f}
+use Rattle.laws.specs.Pick.{pick-t, pick-f}
 use Rattle.laws.specs.Whole.{fits64, abs-neg}
 use Rattle.laws.specs.Decimal.{Parsed, good, bad, numberAt}
-use Rattle.laws.specs.DecimalLaws.{number-only}
-use Rattle.text.specs.Scan.{expect, onGood, fieldAt}
-use Rattle.text.specs.ScanLaws.{from-place, bad-good}
+use Rattle.text.specs.Scan.{onGood, fieldAt}
+use Rattle.text.specs.ScanLaws.{from-place}
 use Rattle.script.specs.Call.{greatest32, minus, plus, signedAt}
 use Rattle.script.specs.Reading.{on-good, on-bad, on-on, on-same, numbersAt, on-id}
 
@@ -62,20 +60,6 @@ pub signed-plus : (s : List ℕ) (p : ℕ) → (getD s p 0 ≡ 45 → ⊥) → s
 unfolding signedAt numberAt plus
 signed-plus s p n =
     from-place (λ l. signedAt l ≡ plus (numberAt 2147483647 l)) s p (λ l. pick-f _ _ _ (ne-eqb _ _ n)) (λ z. refl)
-
--- ---- bounds
-
-pub number-most : (most : ℕ) (l : List ℕ) {v : ℕ} {rest : List ℕ} → numberAt most l ≡ good v rest → v ≤ most
-number-most most l {v} {rest} e = number-only most l v rest e .1
-
-pub field-most : (most : ℕ) (l : List ℕ) {v : ℕ} {rest : List ℕ} → fieldAt most l ≡ good v rest → v ≤ most
-unfolding fieldAt expect pick
-field-most most [] e = bad-good e
-field-most most (x ∷ xs) {v} {rest} e = go (eqb x 9) e
-  where
-    go : (t : Bool) → pick t (numberAt most xs) bad ≡ good v rest → v ≤ most
-    go true e = number-most most xs e
-    go false e = bad-good e
 
 -- ---- k numbers are in `values`, and what is left from place p on gives the whole
 

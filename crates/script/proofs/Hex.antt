@@ -7,12 +7,13 @@ use native.Mathlib.Omega.{arith}
 use native.Mathlib.Numerals.{add-one}
 use lib.Dec.{leb}
 use lib.ListN.{length, getD, take, drop, set, drop-of-length-le}
-use lib.Seq.{drop-cons, take-suc-set, getD-drop}
+use lib.Seq.{take-suc-set, getD-drop}
 use borrow.Author.Tests.{eq-eqb, ne-eqb, leb-true}
 use Rattle.laws.specs.Pick.{pick-t, pick-f}
 use Rattle.laws.specs.Whole.{false-true}
 use Rattle.laws.specs.Decimal.{Parsed, good, bad, isDigit}
 use Rattle.text.specs.Scan.{TAB, onGood}
+use Rattle.lines.specs.Places.{from-byte}
 use Rattle.controller.specs.Bounds.{and-left, and-right}
 use Rattle.script.specs.Call.{isHex, hexValue, bytesAt}
 use Rattle.script.specs.Reading.{on-on, on-same, on-id}
@@ -60,9 +61,6 @@ unfolding bytesAt
 two-list a b l n h k = pick-f _ _ _ (ne-eqb _ _ n) ∙ pick-t _ _ _ (ap (λ (t : Bool). t && isHex b) h ∙ k)
 
 -- a byte at a place and what follows it
-pub cut : (s : List ℕ) (p : ℕ) → p < length s → drop p s ≡ getD s p 0 ∷ drop (p + 1) s
-cut s p h = drop-cons s p 0 h ∙ ap (λ (n : ℕ). getD s p 0 ∷ drop n s) (sym (add-one p))
-
 -- ---- n bytes are in `out`, and what is left from place p on gives the whole
 
 abbrev pub Left : List ℕ → ℕ → List ℕ → ℕ → ℕ → Type 0
@@ -77,7 +75,7 @@ module _ (s : List ℕ) (at : ℕ) (out : List ℕ) (p n : ℕ) (left : Left s a
   ends e = sym (stop e) ∙ ap (λ (l : List ℕ). good l (drop p s)) (append-nil (take n out))
 
   pub left-tab : p < length s → getD s p 0 ≡ TAB → bytesAt (drop at s) ≡ good (take n out) (drop p s)
-  left-tab h e = ends (rw (cut s p h) (tab-list (getD s p 0) (drop (p + 1) s) e))
+  left-tab h e = ends (rw (from-byte s p h) (tab-list (getD s p 0) (drop (p + 1) s) e))
 
   pub left-end : length s ≤ p → bytesAt (drop at s) ≡ good (take n out) (drop p s)
   unfolding bytesAt
@@ -85,14 +83,14 @@ module _ (s : List ℕ) (at : ℕ) (out : List ℕ) (p n : ℕ) (left : Left s a
 
   pub left-high : p < length s → (getD s p 0 ≡ TAB → ⊥) → isHex (getD s p 0) ≡ false → bytesAt (drop at s) ≡ bad
   unfolding onGood
-  left-high h t e = sym (stop {q = bad} (rw (cut s p h) (high-list (getD s p 0) (drop (p + 1) s) t e)))
+  left-high h t e = sym (stop {q = bad} (rw (from-byte s p h) (high-list (getD s p 0) (drop (p + 1) s) t e)))
 
   pub left-low : p < length s → (getD s p 0 ≡ TAB → ⊥) → isHex (getD s (p + 1) 0) ≡ false → bytesAt (drop at s) ≡ bad
   unfolding onGood
   left-low h t e =
       let z : p + 1 + 0 ≡ p + 1 = omega arith in
       let f : isHex (getD (drop (p + 1) s) 0 0) ≡ false = ap isHex (getD-drop (p + 1) s 0 0 ∙ ap (λ (k : ℕ). getD s k 0) z) ∙ e in
-      sym (stop {q = bad} (rw (cut s p h) (low-list (getD s p 0) (drop (p + 1) s) t f)))
+      sym (stop {q = bad} (rw (from-byte s p h) (low-list (getD s p 0) (drop (p + 1) s) t f)))
 
   pub left-two : p + 1 < length s → n < length out → (getD s p 0 ≡ TAB → ⊥) → isHex (getD s p 0) ≡ true → isHex (getD s (p + 1) 0) ≡ true
       → Left s at (set out n (hexValue (getD s p 0) * 16 + hexValue (getD s (p + 1) 0))) (p + 2) (n + 1)
@@ -101,7 +99,7 @@ module _ (s : List ℕ) (at : ℕ) (out : List ℕ) (p n : ℕ) (left : Left s a
       let v = hexValue (getD s p 0) * 16 + hexValue (getD s (p + 1) 0) in
       let z : p + 1 + 1 ≡ p + 2 = omega arith in
       let l : p < length s = omega arith in
-      let both : drop p s ≡ getD s p 0 ∷ getD s (p + 1) 0 ∷ drop (p + 2) s = cut s p l ∙ ap (λ (r : List ℕ). getD s p 0 ∷ r) (cut s (p + 1) h) ∙ ap (λ (i : ℕ). getD s p 0 ∷ getD s (p + 1) 0 ∷ drop i s) z in
+      let both : drop p s ≡ getD s p 0 ∷ getD s (p + 1) 0 ∷ drop (p + 2) s = from-byte s p l ∙ ap (λ (r : List ℕ). getD s p 0 ∷ r) (from-byte s (p + 1) h) ∙ ap (λ (i : ℕ). getD s p 0 ∷ getD s (p + 1) 0 ∷ drop i s) z in
       let e : bytesAt (drop p s) ≡ onGood (bytesAt (drop (p + 2) s)) (λ bytes rest. good (v ∷ bytes) rest) = rw both (two-list (getD s p 0) (getD s (p + 1) 0) (drop (p + 2) s) t a b) in
       on-same (bytesAt (drop (p + 2) s)) (λ bytes rest. ap (λ (r : List ℕ). good r rest) (grown bytes))
       ∙ sym (on-on (bytesAt (drop (p + 2) s)) (λ bytes rest. good (v ∷ bytes) rest) (λ bytes rest. good (take n out ++ bytes) rest))

@@ -6,5 +6,3 @@ pub mod Shown
 pub mod Telling
 pub mod Journals
 pub mod Letters
-pub mod TickLines
-pub mod Going

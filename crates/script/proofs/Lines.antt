@@ -7,12 +7,12 @@ use Rattle.laws.specs.Decimal.{Parsed, good, bad}
 use Rattle.field.specs.Field.{weight}
 use Rattle.text.specs.Scan.{onGood, fieldAt}
 use Rattle.journal.specs.declared.Line.the-variants.{Dose, On}
-use Rattle.script.specs.Call.{Call, tick, link, settings, restart, writeField, readField, writeLine, greatest32, tickAt, linkAt, settingsAt, restartAt, writeFieldAt, readFieldAt, fieldFrom, roomAt, bytesCall, doseAt, onAt, atEnd}
+use Rattle.lines.specs.Places.{from-byte}
+use Rattle.script.specs.Call.{Call, link, settings, restart, writeField, readField, writeLine, greatest32, linkAt, settingsAt, restartAt, writeFieldAt, readFieldAt, fieldFrom, roomAt, bytesCall, doseAt, onAt, atEnd}
 use Rattle.script.specs.Reading.{on-same, number-field, signed-field, flag-field, bytes-field, numbers-field, set-field, signedFieldAt, flagAt, bytesFieldAt, numbersAt, setAt}
 use Rattle.script.specs.Reading.{leadsBytes, decoded, Decodes}
 use Rattle.script.specs.declared.Bytes.{Bytes}
 use Rattle.script.specs.declared.Bytes.the-variants as B
-use Rattle.script.proofs.Hex.{cut}
 
 -- nothing follows, or something does
 pub at-end : (c : Call) (s : List ℕ) (e : ℕ) → length s ≤ e → atEnd (good c (drop e s)) ≡ good c []
@@ -21,11 +21,7 @@ at-end c s e h = ap (λ (l : List ℕ). atEnd (good c l)) (drop-of-length-le s {
 
 pub past-end : (c : Call) (s : List ℕ) (e : ℕ) → e < length s → atEnd (good c (drop e s)) ≡ bad
 unfolding atEnd
-past-end c s e h = ap (λ (l : List ℕ). atEnd (good c l)) (cut s e h)
-
-pub tick-direct : (l : List ℕ) → tickAt l ≡ onGood (signedFieldAt l) (λ x rest. onGood (fieldAt 255 rest) (λ i rest'. good (tick x i) rest'))
-unfolding tickAt
-tick-direct l = signed-field l _ ∙ on-same (signedFieldAt l) (λ x rest. number-field 255 rest (λ i rest'. good (tick x i) rest'))
+past-end c s e h = ap (λ (l : List ℕ). atEnd (good c l)) (from-byte s e h)
 
 pub link-direct : (l : List ℕ) → linkAt l ≡ onGood (flagAt l) (λ on rest. good (link on) rest)
 unfolding linkAt

@@ -16,6 +16,7 @@ use Rattle.frame.specs.Read.{Finished}
 use Rattle.frame.specs.Read as frames-read
 use Rattle.journal.specs.declared.Line.{Line}
 use Rattle.journal.specs.declared.Line.the-variants.{Dose, On}
+use Rattle.lines.specs.Lines.{tooLong}
 use Rattle.journal.specs.Line.{oneLine}
 use Rattle.journal.specs.Line as lines
 use Rattle.hourly.specs.declared.Hour.{Hour}
@@ -138,11 +139,7 @@ unfoldable pub onCall : Controller → Parsed Call → Step
 onCall c (good call rest) = answered c call
 onCall c bad = step c (letter 63 [])
 
--- A line longer than 4,096 bytes, its LF counted, is answered ? once
-unfoldable pub tooLong : List ℕ → Bool
-tooLong l = ltb 4095 (length l)
-
--- the answer to a line, its LF left out
+-- the answer to a line, its LF left out; a line longer than 4,096 bytes, its LF counted, is answered ? once
 unfoldable pub answerTo : Controller → List ℕ → Step
 answerTo c l = pick (tooLong l) (onCall c bad) (onCall c (callOf l))
 

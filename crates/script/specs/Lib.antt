@@ -5,7 +5,3 @@ pub mod Steps
 pub mod Letters
 pub mod Reply
 pub mod Cases
-pub mod Input
-pub mod Blocks
-pub mod Feeding
-pub mod BlockCases

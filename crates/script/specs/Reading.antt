@@ -1,17 +1,20 @@
 -- Fields read at a place of a line, one by one, and what the readers' steps answer. Assumes nothing.
 use mathlib.Core.Path.{_≡_, refl, sym, ap, _∙_}
-use mathlib.Core.Bool.{Bool}
+use mathlib.Core.Bool.{Bool, true, false}
 use mathlib.Core.List.{List, [], _∷_}
 use Prim.Native.Nat.{ℕ, zero, suc, _≤_}
+use native.Mathlib.Omega.{arith}
 use lib.Dec.{eqb}
 use lib.IntN.{ℤ}
-use lib.ListN.{length, take, drop}
+use lib.ListN.{length, take, drop, length-drop}
 use Rattle.laws.specs.Pick.{pick, pick-map}
 use Rattle.laws.specs.Decimal.{Parsed, good, bad, numberAt}
+use Rattle.laws.specs.DecimalLaws.{number-only}
 use Rattle.settings.specs.declared.Settings.{Settings}
 use Rattle.settings.specs.Cases.{setOf}
 use Rattle.text.specs.Scan.{TAB, expect, onGood, fieldAt}
-use Rattle.script.specs.Call.{greatest32, numberField, flagField, signedAt, signedField, bytesAt, bytesField, numbersField, setField}
+use Rattle.text.specs.ScanLaws.{bad-good}
+use Rattle.script.specs.Call.{tick, greatest32, numberField, flagField, signedAt, signedField, bytesAt, bytesField, numbersField, setField, tickAt}
 use Rattle.script.specs.declared.Signed.{Signed}
 use Rattle.script.specs.declared.Signed.the-variants as S
 use Rattle.script.specs.declared.Flag.{Flag}
@@ -27,6 +30,15 @@ use Rattle.script.specs.declared.Numbers.{Numbers}
 abbrev pub leadsSigned : List ℕ → Signed → Parsed ℤ
 leadsSigned s (S.Good v next) = good v (drop next s)
 leadsSigned s S.Bad = bad
+
+abbrev pub afterSigned : Signed → ℕ
+afterSigned (S.Good v next) = next
+afterSigned S.Bad = 0
+
+-- a reader that answers what a rule reads somewhere in s, by a place of s
+pub record ScansSigned (s : List ℕ) (rule : Parsed ℤ) (r : Signed) : Type 0 where
+  pub reads : rule ≡ leadsSigned s r
+  pub inside : afterSigned r ≤ length s
 
 abbrev pub leadsFlag : List ℕ → Flag → Parsed Bool
 leadsFlag s (F.Good v next) = good v (drop next s)
@@ -136,3 +148,36 @@ unfolding setField setAt onGood
 set-field l next =
     numbers-field 17 l (λ vs rest. next (setOf vs) rest)
     ∙ sym (on-on (numbersAt 17 l) (λ vs rest. good (setOf vs) rest) next)
+
+-- ---- a tick, field by field
+
+pub tick-direct : (l : List ℕ) → tickAt l ≡ onGood (signedFieldAt l) (λ x rest. onGood (fieldAt 255 rest) (λ i rest'. good (tick x i) rest'))
+unfolding tickAt
+tick-direct l = signed-field l _ ∙ on-same (signedFieldAt l) (λ x rest. number-field 255 rest (λ i rest'. good (tick x i) rest'))
+
+-- a number is at most the greatest that is read
+pub number-most : (most : ℕ) (l : List ℕ) {v : ℕ} {rest : List ℕ} → numberAt most l ≡ good v rest → v ≤ most
+number-most most l {v} {rest} e = number-only most l v rest e .1
+
+pub field-most : (most : ℕ) (l : List ℕ) {v : ℕ} {rest : List ℕ} → fieldAt most l ≡ good v rest → v ≤ most
+unfolding fieldAt expect pick
+field-most most [] e = bad-good e
+field-most most (x ∷ xs) {v} {rest} e = go (eqb x 9) e
+  where
+    go : (t : Bool) → pick t (numberAt most xs) bad ≡ good v rest → v ≤ most
+    go true e = number-most most xs e
+    go false e = bad-good e
+
+-- two results that both meet the contract are equal
+pub signed-determined : {s : List ℕ} {rule : Parsed ℤ} {a b : Signed} → ScansSigned s rule a → ScansSigned s rule b → a ≡ b
+signed-determined {s} {rule} {a} {b} p q = go a b (sym (p .reads) ∙ q .reads) (p .inside) (q .inside)
+  where
+    go : (a b : Signed) → leadsSigned s a ≡ leadsSigned s b → afterSigned a ≤ length s → afterSigned b ≤ length s → a ≡ b
+    go (S.Good v m) (S.Good w n) e h k =
+        let x : v ≡ w = cc in
+        let d : drop m s ≡ drop n s = cc in
+        let y : m ≡ n = omega (arith, ap length d, length-drop m s, length-drop n s) in
+        rw (x, y)
+    go (S.Good v m) S.Bad e h k = bad-good (sym e)
+    go S.Bad (S.Good w n) e h k = bad-good e
+    go S.Bad S.Bad e h k = refl

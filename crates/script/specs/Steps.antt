@@ -2,10 +2,11 @@
 use mathlib.Core.Path.{_≡_, refl, sym, ap, _∙_, subst}
 use mathlib.Core.Bool.{Bool, true, false}
 use mathlib.Core.List.{List, [], _∷_}
-use Prim.Native.Nat.{ℕ, _≤_}
+use Prim.Native.Nat.{ℕ, _≤_, _<_}
 use lib.Dec.{leb, eqb}
 use lib.ListN.{length, take, drop, replicate}
-use Rattle.laws.specs.Pick.{pick}
+use borrow.Author.Tests.{lt-ltb, le-ltb, le-leb, lt-leb}
+use Rattle.laws.specs.Pick.{pick, pick-t, pick-f}
 use Rattle.laws.specs.Over.{over}
 use Rattle.laws.specs.Decimal.{Parsed, good, bad}
 use Rattle.paper.specs.Answer.{same}
@@ -14,9 +15,12 @@ use Rattle.journal.specs.declared.Refusal.the-variants as J
 use Rattle.controller.specs.declared.Controller.{Controller}
 use Rattle.controller.specs.declared.RestartAnswer.{RestartAnswer}
 use Rattle.controller.specs.declared.RestartAnswer.the-variants as R
+use Rattle.controller.specs.declared.TickAnswer.{TickAnswer}
+use Rattle.controller.specs.Says.{saysTick}
 use Rattle.controller.specs.Sound.{Sound}
-use Rattle.script.specs.Call.{Call, tick, link, settings, restart, writeField, readField, writeLine, writeFrame, readFrame, readLine, hours, atEnd, roomAt, bytesCall, writeFieldAt, readFieldAt, doseAt, onAt, hourAt}
-use Rattle.script.specs.Answer.{Step, onCall, answerTo, asked, asideBy}
+use Rattle.lines.specs.Lines.{tooLong}
+use Rattle.script.specs.Call.{Call, tick, link, settings, restart, writeField, readField, writeLine, writeFrame, readFrame, readLine, hours, atEnd, roomAt, bytesCall, writeFieldAt, readFieldAt, doseAt, onAt, hourAt, callOf}
+use Rattle.script.specs.Answer.{Step, tickText, onCall, answerTo, asked, asideBy}
 use Rattle.answers.specs.Print.{Prints, prints-over}
 use Rattle.script.specs.declared.Answered.{Answered}
 use Rattle.script.specs.declared.TickCall.{TickCall}
@@ -146,9 +150,35 @@ inUse R.R15 old new = old
 unfoldable pub answerIn : ℕ → Controller → List ℕ → Step
 answerIn room c l = pick (leb 4096 room) (answerTo c l) (record { next = c; text = [] })
 
+pub in-enough : (room : ℕ) (c : Controller) (l : List ℕ) → 4096 ≤ room → answerIn room c l ≡ answerTo c l
+unfolding answerIn
+in-enough room c l h = pick-t _ _ _ (le-leb _ _ h)
+
 -- the same for a line that is no tick
 unfoldable pub asideIn : ℕ → Controller → List ℕ → Step
 asideIn room c l = pick (leb 4096 room) (asideBy c (asked l)) (record { next = c; text = [] })
+
+-- a tick's answer by itself: where there are fewer nothing is written
+unfoldable pub tickIn : ℕ → TickAnswer → List ℕ
+tickIn room a = pick (leb 4096 room) (tickText (saysTick a)) []
+
+pub tick-enough : (room : ℕ) (a : TickAnswer) → 4096 ≤ room → tickIn room a ≡ tickText (saysTick a)
+unfolding tickIn
+tick-enough room a h = pick-t _ _ _ (le-leb _ _ h)
+
+pub tick-small : (room : ℕ) (a : TickAnswer) → room < 4096 → tickIn room a ≡ []
+unfolding tickIn
+tick-small room a h = pick-f _ _ _ (lt-leb _ _ h)
+
+-- a line that is too long is answered ? whatever it is
+pub too-long : (c : Controller) (l : List ℕ) → 4095 < length l → answerTo c l ≡ onCall c bad
+unfolding answerTo tooLong
+too-long c l h = pick-t _ _ _ (lt-ltb _ _ h)
+
+-- any other is the call that it asks
+pub by-call : (c : Controller) (l : List ℕ) → length l ≤ 4095 → answerTo c l ≡ onCall c (callOf l)
+unfolding answerTo tooLong
+by-call c l h = pick-f _ _ _ (le-ltb _ _ h)
 
 pub made : {s : Step} {old new : List ℕ} {r : Answered} → r .next ≡ s .next → Sound (r .next) → 4096 ≤ length old → Prints 4096 old 0 (s .text) new (r .len) → Answers s old new r
 made e t h p = let o = prints-over h p in record { next = e; sound = t; left = o .0; len = o .1 }

@@ -1,5 +1,6 @@
 // The calls of the box.
 use crate::Answered;
+use crate::ENOUGH;
 use crate::Flag;
 use crate::LinkCall;
 use crate::RestartCall;
@@ -22,12 +23,12 @@ ghost use lib.ListN.{length, drop};
 ghost use Rattle.laws.specs.Decimal.{good};
 ghost use Rattle.controller.specs.Sound.{Sound};
 ghost use Rattle.controller.specs.Tick.{saysFault};
-ghost use Rattle.controller.specs.Says.{saysTick, saysSet, saysReset, saysRestart};
+ghost use Rattle.controller.specs.Says.{saysSet, saysReset, saysRestart};
 ghost use Rattle.script.specs.Call as calls;
 ghost use Rattle.script.specs.Call.{tickAt, linkAt, settingsAt, restartAt, atEnd};
 ghost use Rattle.script.specs.Answer.{tickText, doneText, onCall, asideBy};
 ghost use Rattle.answers.specs.Print.{Prints};
-ghost use Rattle.script.specs.Steps.{asTick, asLink, asSet, asRestart, inUse, Answers};
+ghost use Rattle.script.specs.Steps.{asTick, asLink, asSet, asRestart, inUse, tickIn, Answers};
 
 // T sample inputs
 pub fn read_tick(line: &[u8]) -> TickCall
@@ -56,11 +57,13 @@ fn put_fault(out: &mut [u8], why: Fault) -> usize
     }
 }
 
-// O, D, F or R.
-pub(crate) fn put_tick(out: &mut [u8], answer: TickAnswer) -> usize
-    requires { ⌜ 4096 ≤ length (now out) ⌝ }
-    ensures { λ r. ⌜ Prints 4096 (now (out .entry)) 0 (tickText (saysTick answer)) (now (out .exit)) r ⌝ }
+// O, D, F or R; a buffer that is not enough is left as it was.
+pub fn put_tick(out: &mut [u8], answer: TickAnswer) -> usize
+    ensures { λ r. ⌜ Prints 4096 (now (out .entry)) 0 (tickIn (length (now (out .entry))) answer) (now (out .exit)) r ⌝ }
 {
+    if out.len() < ENOUGH {
+        return 0;
+    }
     match answer {
         TickAnswer::Outputs(outputs) => answers::put_values(out, b'O', &[outputs as u64]),
         TickAnswer::Dose { outputs, record } => {

@@ -1,5 +1,4 @@
 // One call to a line: what a line of a script asks, and the line that answers it.
-mod blocks;
 mod calls;
 mod hours;
 mod read;
@@ -7,16 +6,15 @@ mod request;
 mod tools;
 
 pub use answers::ENOUGH;
-pub use blocks::Fed;
-pub use blocks::Replay;
-pub use blocks::carry;
-pub use blocks::feed;
+pub use calls::put_tick;
 pub use calls::read_restart;
 pub use calls::read_tick;
 use controller::Controller;
 use field::Field;
 use field::Weight;
 use journal::Line;
+use lines::LONGEST;
+pub use read::signed_at;
 use settings::Settings;
 ghost use Prim.Native.Nat.{_≤_};
 ghost use lib.ListN.{length};
@@ -33,7 +31,7 @@ pub struct Answered {
 }
 
 // A number that may be below 0, read at a place: its value and the place after it, or none.
-enum Signed {
+pub enum Signed {
     Good(i32, usize),
     Bad,
 }
@@ -65,12 +63,6 @@ enum Set {
 pub enum TickCall {
     Tick(i32, u8),
     Unknown,
-}
-
-// A line of a block that is a tick, and the place of its LF.
-enum TickLine {
-    Tick(i32, u8, usize),
-    Other,
 }
 
 enum LinkCall {
@@ -115,8 +107,6 @@ enum LineCall {
     Unknown,
 }
 
-// A line has at most so many bytes, its LF left out.
-pub const LONGEST: usize = 4095;
 
 // A line that is no call is answered ? and calls nothing.
 fn unknown(c: Controller, out: &mut [u8]) -> Answered

@@ -13,7 +13,7 @@ ghost use lib.ListN.{length, drop};
 ghost use Rattle.laws.specs.Decimal.{numberAt};
 ghost use Rattle.settings.specs.Cases.{setOf};
 ghost use Rattle.script.specs.Call.{minus, plus, isHex, hexValue, bytesAt};
-ghost use Rattle.script.specs.Reading.{leadsSigned, leadsFlag, leadsSet, Decodes, Counts, signedFieldAt, flagAt, bytesFieldAt, numbersAt, setAt};
+ghost use Rattle.script.specs.Reading.{ScansSigned, leadsFlag, leadsSet, Decodes, Counts, signedFieldAt, flagAt, bytesFieldAt, numbersAt, setAt};
 
 const TAB: u8 = 9;
 
@@ -34,7 +34,7 @@ pub(crate) fn flag_at(s: &[u8], at: usize) -> Flag
 
 // What follows a minus: a number that is not 0.
 fn minus_at(s: &[u8], at: usize) -> Signed
-    ensures { λ r. ⌜ minus (numberAt 2147483648 (drop at (now (s .entry)))) ≡ leadsSigned (now (s .entry)) r ⌝ }
+    ensures { λ r. ⌜ ScansSigned (now (s .entry)) (minus (numberAt 2147483648 (drop at (now (s .entry))))) r ⌝ }
 {
     let Num::Good(v, next) = text::number_at(s, at, 2147483648) else {
         return Signed::Bad;
@@ -47,7 +47,7 @@ fn minus_at(s: &[u8], at: usize) -> Signed
 
 // A number without a minus.
 fn plus_at(s: &[u8], at: usize) -> Signed
-    ensures { λ r. ⌜ plus (numberAt 2147483647 (drop at (now (s .entry)))) ≡ leadsSigned (now (s .entry)) r ⌝ }
+    ensures { λ r. ⌜ ScansSigned (now (s .entry)) (plus (numberAt 2147483647 (drop at (now (s .entry))))) r ⌝ }
 {
     let Num::Good(v, next) = text::number_at(s, at, 2147483647) else {
         return Signed::Bad;
@@ -56,8 +56,8 @@ fn plus_at(s: &[u8], at: usize) -> Signed
 }
 
 // A tab and a number that may begin with a minus, at a place.
-pub(crate) fn signed_at(s: &[u8], at: usize) -> Signed
-    ensures { λ r. ⌜ signedFieldAt (drop at (now (s .entry))) ≡ leadsSigned (now (s .entry)) r ⌝ }
+pub fn signed_at(s: &[u8], at: usize) -> Signed
+    ensures { λ r. ⌜ ScansSigned (now (s .entry)) (signedFieldAt (drop at (now (s .entry)))) r ⌝ }
 {
     if text::byte_at(s, at) != TAB {
         return Signed::Bad;

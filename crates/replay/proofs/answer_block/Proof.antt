@@ -2,10 +2,10 @@ use mathlib.Core.Path.{_≡_, sym, _∙_}
 use Prim.Native.Nat.{_-_, _≤_}
 use native.Mathlib.Omega.{arith}
 use denote.Ref.{now}
-use lib.ListN.{length, take, drop, length-take, length-drop}
+use lib.ListN.{length, take, drop, length-drop}
 use lib.Seq.{length-take-le}
 use Rattle.controller.specs.Sound.{Sound}
-use Rattle.script.specs.Blocks.{feed-inside, feed-leaves}
+use Rattle.replayer.specs.Feed.{feed-inside, feed-leaves}
 use borrow.Author.Needs.{needs}
 use Rattle.replay.proofs.answer_block.Statement.{statement}
 use Rattle.replay.proofs.answer_block.Tie as tie

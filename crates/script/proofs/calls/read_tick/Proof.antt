@@ -10,9 +10,8 @@ use mir.Facts.{toZ-ofZ}
 use Rattle.laws.specs.Decimal.{good}
 use Rattle.text.specs.Scan.{fieldAt, leads}
 use Rattle.script.specs.Call.{tick, tickAt, atEnd}
-use Rattle.script.specs.Reading.{leadsSigned, on-good, on-bad}
-use Rattle.script.proofs.Figures.{field-most}
-use Rattle.script.proofs.Lines.{at-end, past-end, tick-direct}
+use Rattle.script.specs.Reading.{leadsSigned, on-good, on-bad, tick-direct, field-most}
+use Rattle.script.proofs.Lines.{at-end, past-end}
 use borrow.Author.Needs.{needs}
 use Rattle.script.proofs.calls.read_tick.Statement.{statement}
 use Rattle.script.proofs.calls.read_tick.Tie as tie
@@ -23,7 +22,7 @@ field c = c .before .before .before .field-at .ensures .reads ∙ ap (leads (now
 read : (c : tie.After-known-told2) → tickAt (drop 1 (now (c .before .before .before .before .before .before .before .before .before .args .line))) ≡ good (tick (c .before .before .before .before .before .sample .given .0 .0) (c .before .inputs .given .0 .0)) (drop (c .before .inputs .given .0 .1 .0) (now (c .before .before .before .before .before .before .before .before .before .args .line)))
 read c =
     tick-direct _
-    ∙ on-good _ (c .before .before .before .before .before .before .before .signed-at .ensures ∙ ap (leadsSigned (now (c .before .before .before .before .before .before .before .before .before .args .line))) (c .before .before .before .before .before .sample .given .1))
+    ∙ on-good _ (c .before .before .before .before .before .before .before .signed-at .ensures .reads ∙ ap (leadsSigned (now (c .before .before .before .before .before .before .before .before .before .args .line))) (c .before .before .before .before .before .sample .given .1))
     ∙ on-good _ (field c)
 
 sample-fits : (c : tie.After-known-told) → SFits w32 (c .before .sample .given .0 .0)
@@ -31,7 +30,7 @@ sample-fits c = search needs
 
 returns : tie.Need-returns
 unfolding atEnd
-returns c = ap atEnd (tick-direct _ ∙ on-bad _ (c .before .before .signed-at .ensures ∙ ap (leadsSigned (now (c .before .before .before .before .args .line))) (c .enum-told .given .1)))
+returns c = ap atEnd (tick-direct _ ∙ on-bad _ (c .before .before .signed-at .ensures .reads ∙ ap (leadsSigned (now (c .before .before .before .before .args .line))) (c .enum-told .given .1)))
 
 returns-2 : tie.Need-returns-2
 unfolding atEnd
@@ -39,7 +38,7 @@ returns-2 c =
     let s = now (c .before .before .before .before .before .before .before .before .args .line) in
     ap atEnd
     (tick-direct _
-    ∙ on-good _ (c .before .before .before .before .before .before .signed-at .ensures ∙ ap (leadsSigned s) (c .before .before .before .before .sample .given .1))
+    ∙ on-good _ (c .before .before .before .before .before .before .signed-at .ensures .reads ∙ ap (leadsSigned s) (c .before .before .before .before .sample .given .1))
     ∙ on-bad _ (c .before .before .field-at .ensures .reads ∙ ap (leads s) (c .enum-told2 .given .1)))
 
 returns-3 : tie.Need-returns-3

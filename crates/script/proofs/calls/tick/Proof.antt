@@ -6,7 +6,7 @@ use mir.Facts.{toZ-ofZ}
 use Rattle.controller.specs.Says.{Ticks}
 use Rattle.script.specs.Answer.{tickText, answered, onCall}
 use Rattle.answers.specs.Print.{prints-text}
-use Rattle.script.specs.Steps.{asTick, made, answers-as}
+use Rattle.script.specs.Steps.{asTick, tick-enough, made, answers-as}
 use borrow.Author.Needs.{needs}
 use Rattle.script.proofs.calls.tick.Statement.{statement}
 use Rattle.script.proofs.calls.tick.Tie as tie
@@ -25,7 +25,7 @@ unfolding onCall answered
 returns-2 c =
     let t = ticked (c .before .before .before .before .before) in
     answers-as (c .before .before .before .before .before .before .before .before .before .before .before .before .args .c) (c .before .before .before .before .before .before .before .before .before .read-tick .ensures ∙ ap asTick (c .before .before .before .before .before .before .before .sample .given .1))
-    (made (t .next) (t .sound) (c .before .before .before .before .before .before .before .before .before .before .before .before .pre .1) (prints-text (ap tickText (t .says)) (c .before .before .put-tick .ensures)))
+    (made (t .next) (t .sound) (c .before .before .before .before .before .before .before .before .before .before .before .before .pre .1) (prints-text (tick-enough _ _ (c .before .before .before .before .before .before .before .before .before .before .before .before .pre .1) ∙ ap tickText (t .says)) (c .before .before .put-tick .ensures)))
 
 read-tick-requires : tie.Need-read-tick-requires
 read-tick-requires c κs = search needs

@@ -1,17 +1,18 @@
-use mathlib.Core.Path.{_≡_, sym, ap, _∙_}
+use mathlib.Core.Path.{_≡_, sym, ap, _∙_, subst}
 use mathlib.Core.List.{List}
 use Prim.Native.Nat.{ℕ, _≤_}
 use native.Mathlib.Omega.{arith}
 use denote.Ref.{now}
 use lib.IntN.{ℤ, pos}
-use lib.ListN.{drop}
+use lib.ListN.{length, drop}
 use mir.Syntax.{w32}
 use mir.Facts.{toZ-pos}
 use Rattle.laws.specs.Whole.{fits32}
 use Rattle.laws.specs.Decimal.{good, numberAt}
 use Rattle.script.specs.Call.{plus}
-use Rattle.text.specs.Scan.{leads}
-use Rattle.script.proofs.Figures.{number-most}
+use Rattle.text.specs.Scan.{leads, placeAfter}
+use Rattle.text.specs.declared.Num.{Num}
+use Rattle.script.specs.Reading.{number-most}
 use borrow.Author.Needs.{needs}
 use Rattle.script.proofs.read.plus_at.Statement.{statement}
 use Rattle.script.proofs.read.plus_at.Tie as tie
@@ -19,12 +20,15 @@ use Rattle.script.proofs.read.plus_at.Tie as tie
 read : (c : tie.After-known-told) → numberAt 2147483647 (drop (c .before .before .before .before .before .args .at) (now (c .before .before .before .before .before .args .s))) ≡ good (c .before .v .given .0 .0) (drop (c .before .v .given .0 .1 .0) (now (c .before .before .before .before .before .args .s)))
 read c = c .before .before .before .number-at .ensures .reads ∙ ap (leads (now (c .before .before .before .before .before .args .s))) (c .before .v .given .1)
 
+within : (c : tie.After-known-told) → c .before .v .given .0 .1 .0 ≤ length (now (c .before .before .before .before .before .args .s))
+within c = subst (λ (r : Num). placeAfter r ≤ length (now (c .before .before .before .before .before .args .s))) (c .before .v .given .1) (c .before .before .before .number-at .ensures .inside)
+
 most : (c : tie.After-known-told) → c .before .v .given .0 .0 ≤ 2147483647
 most c = number-most 2147483647 _ (read c)
 
 returns : tie.Need-returns
 unfolding plus
-returns c = ap plus (c .before .before .number-at .ensures .reads ∙ ap (leads (now (c .before .before .before .before .args .s))) (c .enum-told .given .1))
+returns c = record { reads = ap plus (c .before .before .number-at .ensures .reads ∙ ap (leads (now (c .before .before .before .before .args .s))) (c .enum-told .given .1)); inside = omega arith }
 
 cast-t6 : tie.Need-cast-t6
 cast-t6 c = let m = most c in fits32 (pos (c .before .v .given .0 .0)) (omega arith)
@@ -34,7 +38,7 @@ unfolding plus
 returns-2 c =
     let m = most c in
     let rest : List ℕ = drop (c .before .v .given .0 .1 .0) (now (c .before .before .before .before .before .args .s)) in
-    ap plus (read c) ∙ ap (λ (z : ℤ). good z rest) (sym (toZ-pos w32 {n = c .before .v .given .0 .0} (omega arith)))
+    record { reads = ap plus (read c) ∙ ap (λ (z : ℤ). good z rest) (sym (toZ-pos w32 {n = c .before .v .given .0 .0} (omega arith))); inside = within c }
 
 number-at-requires : tie.Need-number-at-requires
 number-at-requires c κs = search needs

@@ -35,7 +35,7 @@ returns : tie.Need-returns
 unfolding signedFieldAt
 returns c =
     let a = c .before .before .before .args in
-    expect-miss (now (a .s)) (a .at) TAB signedAt (λ h. c .if1 .taken (c .before .byte-at .ensures ∙ h))
+    record { reads = expect-miss (now (a .s)) (a .at) TAB signedAt (λ h. c .if1 .taken (c .before .byte-at .ensures ∙ h)); inside = omega arith }
 
 add-byte-at : tie.Need-add-byte-at
 add-byte-at c = let l = there c in omega arith
@@ -47,10 +47,14 @@ returns-2 : tie.Need-returns-2
 returns-2 c =
     let a = c .before .before .before .before .before .before .args in
     let z : a .at + 1 + 1 ≡ a .at + 2 = omega arith in
-    hit (c .before .before .before)
-    ∙ signed-minus (now (a .s)) (a .at + 1) (sym (c .before .before .byte-at2 .ensures) ∙ c .before .if2 .taken)
-    ∙ ap (λ (n : ℕ). minus (numberAt 2147483648 (drop n (now (a .s))))) z
-    ∙ c .minus-at .ensures
+    record {
+      reads =
+          hit (c .before .before .before)
+          ∙ signed-minus (now (a .s)) (a .at + 1) (sym (c .before .before .byte-at2 .ensures) ∙ c .before .if2 .taken)
+          ∙ ap (λ (n : ℕ). minus (numberAt 2147483648 (drop n (now (a .s))))) z
+          ∙ c .minus-at .ensures .reads;
+      inside = c .minus-at .ensures .inside;
+    }
 
 add-plus-at : tie.Need-add-plus-at
 add-plus-at c = let l = there (c .before .before) in omega arith
@@ -58,7 +62,10 @@ add-plus-at c = let l = there (c .before .before) in omega arith
 returns-3 : tie.Need-returns-3
 returns-3 c =
     let a = c .before .before .before .before .before .before .args in
-    hit (c .before .before .before) ∙ signed-plus (now (a .s)) (a .at + 1) (λ h. c .before .if2 .left (c .before .before .byte-at2 .ensures ∙ h)) ∙ c .plus-at .ensures
+    record {
+      reads = hit (c .before .before .before) ∙ signed-plus (now (a .s)) (a .at + 1) (λ h. c .before .if2 .left (c .before .before .byte-at2 .ensures ∙ h)) ∙ c .plus-at .ensures .reads;
+      inside = c .plus-at .ensures .inside;
+    }
 
 byte-at-requires : tie.Need-byte-at-requires
 byte-at-requires c κs = search needs

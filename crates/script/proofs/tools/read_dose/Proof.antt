@@ -7,8 +7,7 @@ use Rattle.laws.specs.Pick.{pick-t, pick-f}
 use Rattle.laws.specs.Decimal.{good}
 use Rattle.text.specs.Scan.{fieldAt, leads}
 use Rattle.script.specs.Call.{atEnd}
-use Rattle.script.specs.Reading.{numbersAt, on-good, on-bad}
-use Rattle.script.proofs.Figures.{field-most}
+use Rattle.script.specs.Reading.{numbersAt, on-good, on-bad, field-most}
 use Rattle.script.proofs.Lines.{at-end, past-end, dose-direct}
 use Rattle.script.proofs.Telling.{dose-of}
 use borrow.Author.Needs.{needs}

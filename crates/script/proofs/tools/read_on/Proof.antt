@@ -5,8 +5,7 @@ use lib.ListN.{drop}
 use Rattle.laws.specs.Decimal.{good}
 use Rattle.text.specs.Scan.{fieldAt, leads}
 use Rattle.script.specs.Call.{atEnd}
-use Rattle.script.specs.Reading.{on-good, on-bad}
-use Rattle.script.proofs.Figures.{field-most}
+use Rattle.script.specs.Reading.{on-good, on-bad, field-most}
 use Rattle.script.proofs.Lines.{at-end, past-end, on-direct}
 use borrow.Author.Needs.{needs}
 use Rattle.script.proofs.tools.read_on.Statement.{statement}

@@ -11,8 +11,7 @@ use Rattle.laws.specs.Decimal.{good}
 use Rattle.field.specs.Field.{weight}
 use Rattle.text.specs.Scan.{fieldAt, leads}
 use Rattle.script.specs.Call.{writeField, writeFieldAt, atEnd}
-use Rattle.script.specs.Reading.{leadsSigned, leadsFlag, on-good, on-bad}
-use Rattle.script.proofs.Figures.{field-most}
+use Rattle.script.specs.Reading.{leadsSigned, leadsFlag, on-good, on-bad, field-most}
 use Rattle.script.proofs.Lines.{at-end, past-end, weight-direct}
 use borrow.Author.Needs.{needs}
 use Rattle.script.proofs.tools.read_weight.Statement.{statement}
@@ -25,7 +24,7 @@ read : (c : tie.After-known-told4) → writeFieldAt (drop 1 (now (c .before .bef
 read c =
     let s = now (c .before .before .before .before .before .before .before .before .before .before .before .before .before .before .before .before .before .args .line) in
     weight-direct _
-    ∙ on-good _ (c .before .before .before .before .before .before .before .before .before .before .before .before .before .before .before .signed-at .ensures ∙ ap (leadsSigned s) (c .before .before .before .before .before .before .before .before .before .before .before .before .before .value .given .1))
+    ∙ on-good _ (c .before .before .before .before .before .before .before .before .before .before .before .before .before .before .before .signed-at .ensures .reads ∙ ap (leadsSigned s) (c .before .before .before .before .before .before .before .before .before .before .before .before .before .value .given .1))
     ∙ on-good _ (c .before .before .before .before .before .before .before .before .before .before .before .flag-at .ensures ∙ ap (leadsFlag s) (c .before .before .before .before .before .before .before .before .before .stable .given .1))
     ∙ on-good _ (c .before .before .before .before .before .before .before .flag-at2 .ensures ∙ ap (leadsFlag s) (c .before .before .before .before .before .over .given .1))
     ∙ on-good _ (field c)
@@ -35,7 +34,7 @@ value-fits c = search needs
 
 returns : tie.Need-returns
 unfolding atEnd
-returns c = ap atEnd (weight-direct _ ∙ on-bad _ (c .before .before .signed-at .ensures ∙ ap (leadsSigned (now (c .before .before .before .before .args .line))) (c .enum-told .given .1)))
+returns c = ap atEnd (weight-direct _ ∙ on-bad _ (c .before .before .signed-at .ensures .reads ∙ ap (leadsSigned (now (c .before .before .before .before .args .line))) (c .enum-told .given .1)))
 
 returns-2 : tie.Need-returns-2
 unfolding atEnd
@@ -43,7 +42,7 @@ returns-2 c =
     let s = now (c .before .before .before .before .before .before .before .before .args .line) in
     ap atEnd
     (weight-direct _
-    ∙ on-good _ (c .before .before .before .before .before .before .signed-at .ensures ∙ ap (leadsSigned s) (c .before .before .before .before .value .given .1))
+    ∙ on-good _ (c .before .before .before .before .before .before .signed-at .ensures .reads ∙ ap (leadsSigned s) (c .before .before .before .before .value .given .1))
     ∙ on-bad _ (c .before .before .flag-at .ensures ∙ ap (leadsFlag s) (c .enum-told2 .given .1)))
 
 returns-3 : tie.Need-returns-3
@@ -52,7 +51,7 @@ returns-3 c =
     let s = now (c .before .before .before .before .before .before .before .before .before .before .before .before .args .line) in
     ap atEnd
     (weight-direct _
-    ∙ on-good _ (c .before .before .before .before .before .before .before .before .before .before .signed-at .ensures ∙ ap (leadsSigned s) (c .before .before .before .before .before .before .before .before .value .given .1))
+    ∙ on-good _ (c .before .before .before .before .before .before .before .before .before .before .signed-at .ensures .reads ∙ ap (leadsSigned s) (c .before .before .before .before .before .before .before .before .value .given .1))
     ∙ on-good _ (c .before .before .before .before .before .before .flag-at .ensures ∙ ap (leadsFlag s) (c .before .before .before .before .stable .given .1))
     ∙ on-bad _ (c .before .before .flag-at2 .ensures ∙ ap (leadsFlag s) (c .enum-told3 .given .1)))
 
@@ -62,7 +61,7 @@ returns-4 c =
     let s = now (c .before .before .before .before .before .before .before .before .before .before .before .before .before .before .before .before .args .line) in
     ap atEnd
     (weight-direct _
-    ∙ on-good _ (c .before .before .before .before .before .before .before .before .before .before .before .before .before .before .signed-at .ensures ∙ ap (leadsSigned s) (c .before .before .before .before .before .before .before .before .before .before .before .before .value .given .1))
+    ∙ on-good _ (c .before .before .before .before .before .before .before .before .before .before .before .before .before .before .signed-at .ensures .reads ∙ ap (leadsSigned s) (c .before .before .before .before .before .before .before .before .before .before .before .before .value .given .1))
     ∙ on-good _ (c .before .before .before .before .before .before .before .before .before .before .flag-at .ensures ∙ ap (leadsFlag s) (c .before .before .before .before .before .before .before .before .stable .given .1))
     ∙ on-good _ (c .before .before .before .before .before .before .flag-at2 .ensures ∙ ap (leadsFlag s) (c .before .before .before .before .over .given .1))
     ∙ on-bad _ (c .before .before .field-at .ensures .reads ∙ ap (leads s) (c .enum-told4 .given .1)))

@@ -2,26 +2,26 @@
 use mathlib.Core.Path.{_≡_, refl, sym, ap, _∙_, subst}
 use mathlib.Core.Bool.{Bool, true, false}
 use mathlib.Core.List.{List, [], _∷_, _++_, append-assoc, append-nil}
-use Prim.Native.Nat.{ℕ, zero, suc, _+_, _-_, _^_, _≤_, _<_}
+use Prim.Native.Nat.{ℕ, zero, suc, _+_, _^_, _≤_, _<_}
 use native.Mathlib.Omega.{arith}
 use lib.Dec.{eqb}
 use lib.IntN.{ℤ, pos, negℤ}
 use lib.ListN.{length, getD, drop, length-append, length-drop, List·getD-append}
+use lib.Seq.{getD-drop}
 use borrow.Author.Tests.{eqb-true, eqb-false, ne-eqb}
-use Rattle.laws.specs.Pick.{pick, pick-f}
+use Rattle.laws.specs.Pick.{pick, pick-f, pick-all}
 use Rattle.laws.specs.Decimal.{Parsed, good, bad, decimal, isDigit, numberAt}
 use Rattle.laws.specs.DecimalLaws.{Stops, decimal-at, decimal-some, decimal-length, number-only, number-decimal}
 use Rattle.text.specs.Scan.{LF, expect, onGood, fieldAt}
-use Rattle.controller.specs.declared.Controller.{Controller}
-use Rattle.script.specs.Call.{tick, minus, plus, signedAt, tickAt, callBy, atEnd, callOf}
-use Rattle.script.specs.Answer.{answered, onCall, answerTo}
-use Rattle.script.specs.Input.{Plain, by-call}
-use Rattle.script.specs.Reading.{signedFieldAt, on-good}
-use Rattle.script.specs.Feeding.{TickStands}
-use Rattle.text.specs.ScanLaws.{bad-good}
-use Rattle.script.proofs.Hex.{cut}
-use Rattle.script.proofs.Lines.{tick-direct}
-use Rattle.text.specs.ScanLaws.{byte-inside}
+use Rattle.text.specs.ScanLaws.{byte-inside, bad-good}
+use Rattle.lines.specs.Lines.{Plain, tooLong}
+use Rattle.lines.specs.Places.{LineAt, from-byte}
+use Rattle.script.specs.Call.{Call, tick, minus, plus, signedAt, tickAt, callBy, atEnd, callOf}
+use Rattle.script.specs.Answer.{onCall, asked, asksTick}
+use Rattle.script.specs.Reading.{signedFieldAt, on-good, on-bad, tick-direct}
+use Rattle.script.specs.Steps.{by-call}
+use Rattle.script.specs.Letters.{other-letter}
+use Rattle.replayer.specs.Ticks.{TickStands, NoTick}
 
 plain-append : (a b : List ℕ) → Plain a → Plain b → Plain (a ++ b)
 plain-append [] b p q = q
@@ -141,31 +141,44 @@ tick-read a b x i f g s =
     ∙ on-good _ (ap (fieldAt 255) (sym (append-nil b)) ∙ g [] tt))
 
 -- a tab stands first in a field
-tab-stops : {X : Type 0} (read : List ℕ → Parsed X) (piece : List ℕ) (x : X) → expect 9 (piece ++ []) read ≡ good x [] → Stops piece
+tab-stops : {X : Type 0} (read : List ℕ → Parsed X) (l : List ℕ) {x : X} {rest : List ℕ} → expect 9 l read ≡ good x rest → Stops l
 unfolding expect pick isDigit
-tab-stops read [] x e = tt
-tab-stops read (b ∷ bs) x e = go (eqb b 9) refl e
+tab-stops read [] e = tt
+tab-stops read (b ∷ bs) {x} {rest} e = go (eqb b 9) refl e
   where
-    go : (t : Bool) → eqb b 9 ≡ t → pick t (read (bs ++ [])) bad ≡ good x [] → isDigit b ≡ false
+    go : (t : Bool) → eqb b 9 ≡ t → pick t (read bs) bad ≡ good x rest → isDigit b ≡ false
     go true t e = ap isDigit (eqb-true b 9 t)
     go false t e = bad-good e
+
+-- the sample and the inputs of a tick, read where they stand
+sample-takes : (l : List ℕ) (x : ℤ) (rest : List ℕ) → signedFieldAt l ≡ good x rest → Takes signedFieldAt 12 l x rest
+unfolding signedFieldAt
+sample-takes l x rest e = after-tab signedAt 11 l x rest (λ xs. signed-takes xs x rest) e
+
+inputs-takes : (l : List ℕ) (i : ℕ) (rest : List ℕ) → fieldAt 255 l ≡ good i rest → Takes (fieldAt 255) 4 l i rest
+unfolding fieldAt
+inputs-takes l i rest e = after-tab (numberAt 255) 3 l i rest (λ xs. number-takes 255 3 xs i rest (omega arith) (omega arith)) e
+
+inputs-stop : (l : List ℕ) {i : ℕ} {rest : List ℕ} → fieldAt 255 l ≡ good i rest → Stops l
+unfolding fieldAt
+inputs-stop l e = tab-stops (numberAt 255) l e
 
 pub tick-stands : (s : List ℕ) (at after end : ℕ) (x : ℤ) (i : ℕ)
     → getD s at 0 ≡ 84 → signedFieldAt (drop (at + 1) s) ≡ good x (drop after s) → fieldAt 255 (drop after s) ≡ good i (drop end s) → getD s end 0 ≡ 10
     → TickStands s at x i end
-unfolding signedFieldAt fieldAt onCall
+unfolding onCall
 tick-stands s at after end x i t f g h =
-    let a = after-tab signedAt 11 (drop (at + 1) s) x (drop after s) (λ xs e. signed-takes xs x (drop after s) e) f in
-    let b = after-tab (numberAt 255) 3 (drop after s) i (drop end s) (λ xs e. number-takes 255 3 xs i (drop end s) (omega arith) (omega arith) e) g in
+    let a = sample-takes (drop (at + 1) s) x (drop after s) f in
+    let b = inputs-takes (drop after s) i (drop end s) g in
     let first = byte-inside s at (omega arith) in
     let last = byte-inside s end (omega arith) in
     let line : List ℕ = 84 ∷ (a .piece ++ b .piece) in
     let whole : drop at s ≡ line ++ LF ∷ drop (end + 1) s =
-    cut s at first
+    from-byte s at first
     ∙ ap (λ (n : ℕ). n ∷ drop (at + 1) s) t
     ∙ ap (λ (k : List ℕ). 84 ∷ k) (a .whole)
     ∙ ap (λ (k : List ℕ). 84 ∷ (a .piece ++ k)) (b .whole)
-    ∙ ap (λ (k : List ℕ). 84 ∷ (a .piece ++ (b .piece ++ k))) (cut s end last ∙ ap (λ (n : ℕ). n ∷ drop (end + 1) s) h)
+    ∙ ap (λ (k : List ℕ). 84 ∷ (a .piece ++ (b .piece ++ k))) (from-byte s end last ∙ ap (λ (n : ℕ). n ∷ drop (end + 1) s) h)
     ∙ ap (λ (k : List ℕ). 84 ∷ k) (sym (append-assoc (a .piece) (b .piece) (LF ∷ drop (end + 1) s))) in
     let size : length line ≡ suc (length (a .piece) + length (b .piece)) = ap suc (length-append (a .piece) (b .piece)) in
     record {
@@ -176,5 +189,100 @@ tick-stands s at after end x i t f g h =
         place = omega (arith, ap length whole, length-append line (LF ∷ drop (end + 1) s), length-drop at s, length-drop (end + 1) s);
         inside = last;
       };
-      asks = λ c. by-call c line (omega (arith, a .short, b .short)) ∙ ap (onCall c) (tick-read (a .piece) (b .piece) x i (a .again) (b .again) (tab-stops (numberAt 255) (b .piece) i (b .again [] tt)));
+      asks = λ c. by-call c line (omega (arith, a .short, b .short)) ∙ ap (onCall c) (tick-read (a .piece) (b .piece) x i (a .again) (b .again) (inputs-stop (b .piece) (ap (fieldAt 255) (sym (append-nil (b .piece))) ∙ b .again [] tt)));
     }
+
+-- ---- a line that asks for a tick is found to be one
+
+-- the fields of a tick stand at `at`, and an LF behind them
+pub record TickFound (block : List ℕ) (at : ℕ) : Type 0 where
+  pub sample : ℤ
+  pub inputs : ℕ
+  pub middle : List ℕ
+  pub rest : List ℕ
+  pub letter : getD block at 0 ≡ 84
+  pub first : signedFieldAt (drop (at + 1) block) ≡ good sample middle
+  pub second : fieldAt 255 middle ≡ good inputs (LF ∷ rest)
+
+found : {block : List ℕ} {at : ℕ} (l rest : List ℕ) (x : ℤ) (i : ℕ) (middle : List ℕ) → getD block at 0 ≡ 84 → drop (at + 1) block ≡ l ++ LF ∷ rest
+    → signedFieldAt l ≡ good x middle → fieldAt 255 middle ≡ good i [] → TickFound block at
+unfolding isDigit
+found {block} {at} l rest x i middle t e f g =
+    let a = sample-takes l x middle f in
+    let b = inputs-takes middle i [] g in
+    let behind : middle ++ LF ∷ rest ≡ b .piece ++ LF ∷ rest = ap (λ (k : List ℕ). k ++ LF ∷ rest) (b .whole ∙ append-nil (b .piece)) in
+    let second : fieldAt 255 (middle ++ LF ∷ rest) ≡ good i (LF ∷ rest) = ap (fieldAt 255) behind ∙ b .again (LF ∷ rest) refl in
+    record {
+      sample = x;
+      inputs = i;
+      middle = middle ++ LF ∷ rest;
+      rest = rest;
+      letter = t;
+      first =
+          ap signedFieldAt (e ∙ ap (λ (k : List ℕ). k ++ LF ∷ rest) (a .whole) ∙ append-assoc (a .piece) middle (LF ∷ rest))
+          ∙ a .again (middle ++ LF ∷ rest) (inputs-stop (middle ++ LF ∷ rest) second);
+      second = second;
+    }
+
+-- the call of a line with the letter T, by its two fields
+tick-by : (l : List ℕ) (p : Parsed ℤ) → signedFieldAt l ≡ p → ((x : ℤ) (middle : List ℕ) (i : ℕ) → signedFieldAt l ≡ good x middle → fieldAt 255 middle ≡ good i [] → ⊥)
+    → asksTick (atEnd (tickAt l)) ≡ false
+unfolding atEnd asksTick
+tick-by l bad e n = ap (λ (c : Parsed Call). asksTick (atEnd c)) (tick-direct l ∙ on-bad _ e)
+tick-by l (good x middle) e n = ap (λ (c : Parsed Call). asksTick (atEnd c)) (tick-direct l ∙ on-good _ e) ∙ go (fieldAt 255 middle) refl
+  where
+    go : (q : Parsed ℕ) → fieldAt 255 middle ≡ q → asksTick (atEnd (onGood (fieldAt 255 middle) (λ i rest. good (tick x i) rest))) ≡ false
+    go bad f = ap (λ (c : Parsed Call). asksTick (atEnd c)) (on-bad _ f)
+    go (good i []) f = absurd (n x middle i e f)
+    go (good i (b ∷ bs)) f = ap (λ (c : Parsed Call). asksTick (atEnd c)) (on-good _ f)
+
+call-none : {block : List ℕ} {at end : ℕ} (line : List ℕ) → LineAt block at end line → (TickFound block at → ⊥) → asksTick (callOf line) ≡ false
+unfolding callOf asksTick callBy pick
+call-none [] s n = refl
+call-none {block} {at} {end} (b ∷ l) s n = go (eqb b 84) refl
+  where
+    inside : at < length block
+    inside = omega (arith, s .place, s .inside)
+
+    stands : getD block at 0 ∷ drop (at + 1) block ≡ b ∷ (l ++ LF ∷ drop (end + 1) block)
+    stands = sym (from-byte block at inside) ∙ s .cut
+
+    letter : getD block at 0 ≡ b
+    letter = ap (λ (k : List ℕ). getD k 0 0) stands
+
+    behind : drop (at + 1) block ≡ l ++ LF ∷ drop (end + 1) block
+    behind = ap (drop 1) stands
+
+    go : (t : Bool) → eqb b 84 ≡ t → asksTick (callOf (b ∷ l)) ≡ false
+    go true e =
+        ap (λ (k : ℕ). asksTick (atEnd (callBy k l))) (eqb-true b 84 e)
+        ∙ tick-by l (signedFieldAt l) refl (λ x middle i f g. n (found l (drop (end + 1) block) x i middle (letter ∙ eqb-true b 84 e) behind f g))
+    go false e = other-letter (b ∷ l) (eqb-false b 84 e)
+
+no-tick : {block : List ℕ} {at : ℕ} → (TickFound block at → ⊥) → NoTick block at
+unfolding asked asksTick
+no-tick n end line s = pick-all (λ (p : Parsed Call). asksTick p ≡ false) (tooLong line) refl (call-none line s n)
+
+-- another letter, no sample, no inputs, or more behind them
+pub no-letter : (s : List ℕ) (at : ℕ) → (getD s at 0 ≡ 84 → ⊥) → NoTick s at
+no-letter s at n = no-tick (λ f. n (f .letter))
+
+pub no-sample : (s : List ℕ) (at : ℕ) → signedFieldAt (drop (at + 1) s) ≡ bad → NoTick s at
+no-sample s at e = no-tick (λ f. bad-good (sym e ∙ f .first))
+
+module _ (s : List ℕ) (at after : ℕ) {x : ℤ} (e : signedFieldAt (drop (at + 1) s) ≡ good x (drop after s)) where
+  middle-is : (f : TickFound s at) → f .middle ≡ drop after s
+  middle-is f = let both : good (f .sample) (f .middle) ≡ good x (drop after s) = sym (f .first) ∙ e in cc
+
+  pub no-inputs : fieldAt 255 (drop after s) ≡ bad → NoTick s at
+  no-inputs g = no-tick (λ f. bad-good (sym g ∙ ap (fieldAt 255) (sym (middle-is f)) ∙ f .second))
+
+  end-is : (end : ℕ) {i : ℕ} → fieldAt 255 (drop after s) ≡ good i (drop end s) → TickFound s at → getD s end 0 ≡ LF
+  end-is end {i} g f =
+      let both : good (f .inputs) (LF ∷ f .rest) ≡ good i (drop end s) = sym (f .second) ∙ ap (fieldAt 255) (middle-is f) ∙ g in
+      let last : LF ∷ f .rest ≡ drop end s = cc in
+      let none : end ≡ end + 0 = omega arith in
+      ap (λ (n : ℕ). getD s n 0) none ∙ sym (getD-drop end s 0 0) ∙ ap (λ (l : List ℕ). getD l 0 0) (sym last)
+
+  pub no-end : (end : ℕ) {i : ℕ} → fieldAt 255 (drop after s) ≡ good i (drop end s) → (getD s end 0 ≡ LF → ⊥) → NoTick s at
+  no-end end g n = no-tick (λ f. n (end-is end g f))

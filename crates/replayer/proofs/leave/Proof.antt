@@ -2,8 +2,8 @@ use mathlib.Core.Path.{sym}
 use borrow.Author.Tests.{lt-ltb, le-ltb}
 use Rattle.laws.specs.Pick.{pick-t, pick-f}
 use borrow.Author.Needs.{needs}
-use Rattle.script.proofs.blocks.leave.Statement.{statement}
-use Rattle.script.proofs.blocks.leave.Tie as tie
+use Rattle.replayer.proofs.leave.Statement.{statement}
+use Rattle.replayer.proofs.leave.Tie as tie
 
 sub-if1 : tie.Need-sub-if1
 sub-if1 c = search needs

@@ -1,20 +1,20 @@
 -- Blocks of an input, run on bytes. Assumes nothing.
 use mathlib.Core.Path.{_≡_, refl}
-use mathlib.Core.Bool.{true, false, _&&_, _||_}
+use mathlib.Core.Bool.{true, false}
 use mathlib.Core.List.{List, [], _∷_, _++_}
 use Prim.Native.Nat.{ℕ}
-use lib.ListN.{length}
 use Rattle.laws.specs.Pick.{pick}
-use Rattle.laws.specs.Decimal.{Parsed, good, bad, numberAt, digitsFrom, isDigit, decimal, digitsOf, glyph}
+use Rattle.laws.specs.Decimal.{numberAt, digitsFrom, isDigit}
 use Rattle.text.specs.Scan.{expect, onGood}
 use Rattle.controller.specs.declared.Controller.{Controller}
 use Rattle.controller.specs.Calls.{linkOf}
+use Rattle.lines.specs.Lines.{linesFrom, lastFrom, tooLong, begunOf}
+use Rattle.lines.specs.Blocks.{Carried, Gave, between, inLong, stopped, begunLine, feedLines}
+use Rattle.lines.specs.Blocks as lines
+use Rattle.answers.specs.Text.{lineText}
 use Rattle.script.specs.Call.{callOf, atEnd, callBy, linkAt, flagField, numberField}
-use Rattle.answers.specs.Text.{numberText, valuesText, lineText}
-use Rattle.script.specs.Answer.{Step, answered, onCall, tooLong, answerTo}
-use Rattle.script.specs.Input.{linesFrom, answersTo, restOf}
-use Rattle.script.specs.Blocks.{begunOf, between, inLong, Gave, stopped, begunLine, feedLines, lastFrom, feedOf, partOf}
-use Rattle.script.specs.declared.blocks.Replay.{Replay}
+use Rattle.script.specs.Answer.{answered, onCall, answerTo}
+use Rattle.replayer.specs.Feed.{feedOf}
 
 -- L 1 and L 0 are two lines
 abbrev on : List ℕ
@@ -23,7 +23,7 @@ on = 76 ∷ 9 ∷ 49 ∷ 10 ∷ []
 abbrev off : List ℕ
 off = 76 ∷ 9 ∷ 48 ∷ 10 ∷ []
 
-abbrev gave : Replay → ℕ → List ℕ → Gave
+abbrev gave : Carried Controller → ℕ → List ℕ → Gave Controller
 gave next used text = record { next = next; used = used; text = text }
 
 -- two lines and the start of a third, which is left; a line cut in two; without room for an answer nothing is done;
@@ -38,5 +38,5 @@ pub blocks : (c : Controller)
     × (feedOf 8192 (inLong c) (49 ∷ 10 ∷ on) ≡ gave (between (linkOf c true)) 6 (63 ∷ 10 ∷ 65 ∷ 10 ∷ []))
     × (feedOf 8192 (inLong c) (76 ∷ 9 ∷ []) ≡ gave (inLong c) 2 [])
     × (feedOf 8192 (between c) (10 ∷ []) ≡ gave (between c) 1 (63 ∷ 10 ∷ []))
-unfolding feedOf feedLines lastFrom linesFrom begunLine begunOf answerTo tooLong onCall answered callOf atEnd callBy linkAt flagField numberField expect onGood numberAt digitsFrom isDigit lineText pick
+unfolding lines.feedOf feedLines lastFrom linesFrom begunLine begunOf answerTo tooLong onCall answered callOf atEnd callBy linkAt flagField numberField expect onGood numberAt digitsFrom isDigit lineText pick
 blocks c = (refl, refl, refl, refl, refl, refl, refl, refl, refl)

@@ -1,23 +1,18 @@
-// An input in blocks: the whole lines of a block are answered, what it leaves is carried over.
-use crate::ENOUGH;
-use crate::LONGEST;
-use crate::Signed;
-use crate::TickLine;
-use crate::answer;
-use crate::calls;
-use crate::read;
+// The calls of the box in blocks of an input: the whole lines of a block are answered, what it leaves is carried over.
 use controller::Controller;
+use lines::LONGEST;
+use script::ENOUGH;
+use script::Signed;
 use text::Num;
 ghost use mathlib.Core.Path.{_≡_};
+ghost use mathlib.Core.Bool.{true, false};
 ghost use Prim.Native.Nat.{_-_, _≤_};
 ghost use lib.Dec.{ltb};
-ghost use lib.ListN.{length, drop};
+ghost use lib.ListN.{length};
 ghost use Rattle.laws.specs.Pick.{pick};
 ghost use Rattle.controller.specs.Sound.{Sound};
-ghost use Rattle.script.specs.Blocks.{between, inLong, feedOf, Starts, Feeds, Carries};
-ghost use Rattle.script.specs.Feeding.{fed, EndsAt, TickAt, FeedsFrom};
-
-const LF: u8 = 10;
+ghost use Rattle.replayer.specs.Ticks.{TickAt};
+ghost use Rattle.replayer.specs.Feed.{fed, given, Starts, Feeds, FeedsFrom};
 
 // What is carried from block to block: the controller, and whether the line that goes on is too long already.
 pub struct Replay {
@@ -32,32 +27,23 @@ pub struct Fed {
     pub len: usize,
 }
 
+// A line of a block that is a tick, and the place of its LF.
+enum TickLine {
+    Tick(i32, u8, usize),
+    Other,
+}
+
+const LF: u8 = 10;
+
 impl Replay {
     // Before the first line: a fresh controller.
     pub fn start() -> Replay
         ensures { λ r. ⌜ Starts r ⌝ }
     {
         let controller = Controller::fresh();
-        Replay {
-            controller,
-            long: false,
-        }
+        let long = false;
+        Replay { controller, long }
     }
-}
-
-// The place of the first LF from `at` on, or the length.
-fn line_end(block: &[u8], at: usize) -> usize
-    requires { ⌜ at ≤ length (now block) ⌝ }
-    ensures { λ r. ⌜ EndsAt (now (block .entry)) at r ⌝ }
-{
-    let mut i = at;
-    while i < block.len() {
-        if block[i] == LF {
-            return i;
-        }
-        i += 1;
-    }
-    i
 }
 
 // The line at a place, read in one pass where it is a tick.
@@ -67,7 +53,7 @@ fn tick_line(block: &[u8], at: usize) -> TickLine
     if text::byte_at(block, at) != b'T' {
         return TickLine::Other;
     }
-    let Signed::Good(sample, after) = read::signed_at(block, at + 1) else {
+    let Signed::Good(sample, after) = script::signed_at(block, at + 1) else {
         return TickLine::Other;
     };
     let Num::Good(inputs, end) = text::field_at(block, after, 255) else {
@@ -82,7 +68,7 @@ fn tick_line(block: &[u8], at: usize) -> TickLine
 // A begun line is left to the next block, or dropped once it is too long.
 fn leave(c: Controller, used: usize, end: usize, len: usize) -> Fed
     requires { ⌜ used ≤ end ⌝ }
-    ensures { λ r. ⌜ r ≡ pick (ltb 4095 (end - used)) (fed (inLong c) end len) (fed (between c) used len) ⌝ }
+    ensures { λ r. ⌜ r ≡ pick (ltb 4095 (end - used)) (fed c true end len) (fed c false used len) ⌝ }
 {
     if LONGEST < end - used {
         return Fed {
@@ -108,7 +94,7 @@ fn leave(c: Controller, used: usize, end: usize, len: usize) -> Fed
 fn feed_from(old: Controller, block: &[u8], at: usize, out: &mut [u8], filled: usize) -> Fed
     requires sound { ⌜ Sound old ⌝ }
     requires places { ⌜ (at ≤ length (now block)) × (filled ≤ length (now out)) ⌝ }
-    ensures { λ r. ⌜ FeedsFrom at filled (feedOf (length (now (out .entry)) - filled) (between old) (drop at (now (block .entry)))) (now (out .entry)) (now (out .exit)) r ⌝ }
+    ensures { λ r. ⌜ FeedsFrom at filled (given (now (block .entry)) (now (out .entry)) old at filled) (now (out .entry)) (now (out .exit)) r ⌝ }
 {
     let mut c = old;
     let mut used = at;
@@ -118,14 +104,14 @@ fn feed_from(old: Controller, block: &[u8], at: usize, out: &mut [u8], filled: u
             let ticked = c.tick(sample, inputs);
             let answer = ticked.answer;
             c = ticked.next;
-            len += calls::put_tick(&mut out[len..], answer);
+            len += script::put_tick(&mut out[len..], answer);
             used = end + 1;
         } else {
-            let end = line_end(block, used);
+            let end = lines::line_end(block, used);
             if block.len() <= end {
                 return leave(c, used, end, len);
             }
-            let answered = answer(c, &block[used..end], &mut out[len..]);
+            let answered = script::aside(c, &block[used..end], &mut out[len..]);
             c = answered.next;
             len += answered.len;
             used = end + 1;
@@ -141,7 +127,7 @@ fn feed_from(old: Controller, block: &[u8], at: usize, out: &mut [u8], filled: u
     }
 }
 
-// The whole lines of a block, as long as their answers have room.
+// The whole lines of a block, as long as their answers have room; a line that is too long is answered as an empty one is.
 pub fn feed(r: Replay, block: &[u8], out: &mut [u8]) -> Fed
     requires { ⌜ Sound (r .controller) ⌝ }
     ensures { λ f. ⌜ Feeds r (now (block .entry)) (now (out .entry)) (now (out .exit)) f ⌝ }
@@ -157,7 +143,7 @@ pub fn feed(r: Replay, block: &[u8], out: &mut [u8]) -> Fed
             len: 0,
         };
     }
-    let end = line_end(block, 0);
+    let end = lines::line_end(block, 0);
     if block.len() <= end {
         return Fed {
             next: r,
@@ -165,23 +151,7 @@ pub fn feed(r: Replay, block: &[u8], out: &mut [u8]) -> Fed
             len: 0,
         };
     }
-    let len = answers::put_values(out, b'?', &[]);
-    feed_from(c, block, end + 1, out, len)
-}
-
-// Moves the bytes from one place to another to the start, and answers how many they are.
-pub fn carry(buffer: &mut [u8], from: usize, to: usize) -> usize
-    ensures { λ r. ⌜ Carries from to (now (buffer .entry)) (now (buffer .exit)) r ⌝ }
-{
-    let mut i = from;
-    let mut n: usize = 0;
-    while i < to {
-        if buffer.len() <= i {
-            return n;
-        }
-        buffer[n] = buffer[i];
-        n += 1;
-        i += 1;
-    }
-    n
+    let answered = script::aside(c, &[], out);
+    let next = answered.next;
+    feed_from(next, block, end + 1, out, answered.len)
 }
