@@ -12,7 +12,7 @@ use Rattle.lines.specs.Lines.{linesFrom, lastFrom, tooLong, begunOf}
 use Rattle.lines.specs.Blocks.{Carried, Gave, between, inLong, stopped, begunLine, feedLines}
 use Rattle.lines.specs.Blocks as lines
 use Rattle.answers.specs.Text.{lineText}
-use Rattle.script.specs.Call.{callOf, atEnd, callBy, linkAt, flagField, numberField}
+use Rattle.calls.specs.Call.{callOf, atEnd, callBy, linkAt, flagField, numberField}
 use Rattle.script.specs.Answer.{answered, onCall, answerTo}
 use Rattle.replayer.specs.Feed.{feedOf}
 

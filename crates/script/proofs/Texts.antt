@@ -1,6 +1,6 @@
 -- The text of each answer of the box as a letter and values, and the controller in use after a restart. Assumes nothing.
 use mathlib.Core.Path.{_≡_, refl, ap}
-use mathlib.Core.List.{List, [], _∷_}
+use mathlib.Core.List.{[], _∷_}
 use Prim.Native.Nat.{ℕ}
 use native.Mathlib.Omega.{arith}
 use Rattle.laws.specs.Pick.{pick}

@@ -1,7 +1,6 @@
 // The line request, with a reply buffer.
+use calls::RoomCall;
 use crate::Answered;
-use crate::RoomCall;
-use crate::tools;
 use crate::unknown;
 use controller::Controller;
 use controller::RequestAnswer;
@@ -10,8 +9,8 @@ ghost use Prim.Native.Nat.{_≤_};
 ghost use lib.ListN.{length, drop, replicate};
 ghost use Rattle.controller.specs.Sound.{Sound};
 ghost use Rattle.controller.specs.Says.{saysReply};
-ghost use Rattle.script.specs.Call as calls;
-ghost use Rattle.script.specs.Call.{roomAt, atEnd};
+ghost use Rattle.calls.specs.Call as calls;
+ghost use Rattle.calls.specs.Call.{roomAt, atEnd};
 ghost use Rattle.script.specs.Answer.{answered, onCall};
 ghost use Rattle.answers.specs.Print.{Prints};
 ghost use Rattle.script.specs.Reply.{replyText};
@@ -62,8 +61,8 @@ pub(crate) fn request(c: Controller, line: &[u8], out: &mut [u8]) -> Answered
     requires { ⌜ Sound c × (length (now line) ≤ 4095) × (4096 ≤ length (now out)) ⌝ }
     ensures { λ r. ⌜ Answers (onCall c (atEnd (roomAt 64 calls.request (drop 1 (now (line .entry)))))) (now (out .entry)) (now (out .exit)) r ⌝ }
 {
-    let mut bytes = tools::no_bytes();
-    let RoomCall::Room(n, room) = tools::read_room(line, &mut bytes, 64) else {
+    let mut bytes = calls::no_bytes();
+    let RoomCall::Room(n, room) = calls::read_room(line, &mut bytes, 64) else {
         return unknown(c, out);
     };
     let mut buffer = blank_reply();

@@ -14,10 +14,10 @@ use Rattle.controller.specs.Sound.{Sound}
 use Rattle.lines.specs.Lines.{begunOf, tooLong}
 use Rattle.lines.specs.Places.{EndsAt, LineAt, ends-at, ends-line, ends-begun, over-fits}
 use Rattle.lines.specs.Blocks.{Carried, Gave, between, stopped, ahead, dropped, begunLine, feed-whole, feed-begun, feed-stopped}
-use Rattle.script.specs.Call.{callOf}
+use Rattle.calls.specs.Call.{callOf}
 use Rattle.script.specs.Answer.{Step, answerTo, asked, asksTick}
 use Rattle.script.specs.Steps.{Answers, too-long, by-call}
-use Rattle.script.specs.Letters.{aside-answers}
+use Rattle.script.specs.Aside.{aside-answers}
 use Rattle.script.specs.declared.Answered.{Answered}
 use Rattle.replayer.specs.Feed.{nextOf, textOf, carried, feedOf, Feeds, given, FeedsFrom}
 use Rattle.replayer.specs.declared.Replay.{Replay}

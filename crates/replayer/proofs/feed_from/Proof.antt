@@ -20,7 +20,7 @@ use Rattle.lines.specs.Going.{Going, going-none, going-line, going-stopped, goi
 use Rattle.answers.specs.Print.{prints-over}
 use Rattle.script.specs.Answer.{Step, tickText, answered, answerTo}
 use Rattle.script.specs.Steps.{Answers, tickIn, tick-enough}
-use Rattle.script.specs.Letters.{aside-answers}
+use Rattle.script.specs.Aside.{aside-answers}
 use Rattle.replayer.specs.Ticks.{TickStands, NoTick, TickAt}
 use Rattle.replayer.specs.Feed.{nextOf, textOf, fed, given, FeedsFrom}
 use Rattle.replayer.specs.declared.Fed.{Fed}

@@ -7,10 +7,10 @@ use lib.ListN.{length, getD, drop}
 use borrow.Author.Tests.{lt-leb}
 use Rattle.laws.specs.Pick.{pick, pick-f}
 use Rattle.controller.specs.declared.Controller.{Controller}
-use Rattle.script.specs.Call.{callBy, tickAt, atEnd, callOf}
+use Rattle.calls.specs.Call.{callBy, tickAt, atEnd, callOf}
 use Rattle.script.specs.Answer.{onCall, asksTick}
 use Rattle.script.specs.Steps.{answerIn, asideIn, in-enough, too-long, by-call, answers-step, answers-none}
-use Rattle.script.specs.Letters.{other-letter, asked-call, aside-answers}
+use Rattle.script.specs.Aside.{other-letter, asked-call, aside-answers}
 use borrow.Author.Needs.{needs}
 use Rattle.script.proofs.answer.Statement.{statement}
 use Rattle.script.proofs.answer.Tie as tie

@@ -1,12 +1,13 @@
-use mathlib.Core.Path.{_≡_, sym, ap, _∙_}
-use mathlib.Core.List.{List, [], _∷_, _++_}
+use mathlib.Core.Path.{_≡_, ap, _∙_}
+use mathlib.Core.List.{List, [], _∷_}
 use Prim.Native.Nat.{ℕ}
 use lib.ListN.{length, replicate}
 use Rattle.paper.specs.Answer.{Answer, done, refused, fault, told, leaves}
 use Rattle.controller.specs.Line.{Replied}
 use Rattle.controller.specs.Says.{placeAndLength, bytesOf}
-use Rattle.answers.specs.Text.{refusedText, letter, numberText, valuesText, bytesText}
-use Rattle.script.specs.Answer.{answered, requestText, filledText}
+use Rattle.answers.specs.Text.{refusedText, letter, numberText, bytesText}
+use Rattle.tools.specs.Answer.{filledText}
+use Rattle.script.specs.Answer.{answered, requestText}
 use Rattle.answers.specs.Print.{prints-text}
 use Rattle.script.specs.Reply.{replyText}
 use Rattle.script.specs.Steps.{made}
