@@ -15,11 +15,11 @@ use Rattle.controller.specs.declared.Controller.{Controller}
 use Rattle.controller.specs.declared.Fault.{Fault}
 use Rattle.controller.specs.declared.Fault.the-variants as F
 use Rattle.controller.specs.Tick.{saysFault}
-use Rattle.script.specs.Call.{Call, callBy, atEnd, callOf}
+use Rattle.calls.specs.Call.{Call, callBy, atEnd, callOf}
 use Rattle.lines.specs.Lines.{tooLong}
 use Rattle.script.specs.Answer.{Step, onCall, answerTo, asked, asksTick}
 use Rattle.script.specs.Steps.{Answers, asideIn}
-use Rattle.script.specs.Letters.{other-letter, asked-call, by-call, aside-answers}
+use Rattle.script.specs.Aside.{other-letter, asked-call, by-call, aside-answers}
 use Rattle.script.specs.declared.Answered.{Answered}
 use Rattle.recorder.specs.Recording.{heardTick, heardRestart, heardOf, heardIn}
 use Rattle.recorder.specs.Noting.{HearsCall, Hears}

@@ -25,8 +25,8 @@ use Rattle.journal.specs.declared.Line.the-variants.{Dose, On}
 use Rattle.entry.specs.declared.Wrote.{Wrote}
 use Rattle.entry.specs.declared.Wrote.the-variants as W
 use Rattle.controller.specs.declared.Record.{Record}
-use Rattle.script.specs.Answer.{numberText, valuesText, lineText, refusedText}
-use Rattle.script.specs.Print.{Prints, prints-text, prints-as, prints-then, prints-over}
+use Rattle.answers.specs.Text.{numberText, valuesText, lineText, refusedText}
+use Rattle.answers.specs.Print.{Prints, prints-text, prints-as, prints-then, prints-over}
 use Rattle.lines.specs.Places.{put-part, part-length}
 use Rattle.recorder.specs.Recording.{ticksAnHour, greatestHour, note, refuse, doseIn, closing, nextHour, withTicks, oneMore, counted}
 use Rattle.recorder.specs.Noting.{Writes, writes-as}

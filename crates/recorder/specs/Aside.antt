@@ -27,9 +27,11 @@ use Rattle.controller.specs.declared.Record.{Record}
 use Rattle.controller.specs.Tick.{Told, tickOf}
 use Rattle.controller.specs.Calls.{restartOf, settingsOf, resetOf}
 use Rattle.controller.specs.Line.{Replied, requestOf}
-use Rattle.script.specs.Call.{Call, tick, link, settings, reset, counters, restart, request, writeFrame, readFrame, writeField, readField, writeLine, readLine, hour, hours, letterOf, callOf}
-use Rattle.script.specs.Answer.{lineText, refusedText, recordText, tickText, doneText, filledText, requestText, frameText, fieldText, weightText, oneText, readLineText, kindText, hourText, hoursText, answered, onCall}
-use Rattle.script.specs.Letters.{Under, none, asks, line-under}
+use Rattle.calls.specs.Call.{Call, tick, link, settings, reset, counters, restart, request, writeFrame, readFrame, writeField, readField, writeLine, readLine, hour, hours, letterOf, callOf}
+use Rattle.answers.specs.Text.{lineText, refusedText}
+use Rattle.script.specs.Answer.{recordText, tickText, doneText, requestText, answered, onCall}
+use Rattle.tools.specs.Answer.{filledText, frameText, fieldText, weightText, oneText, readLineText, kindText, hourText, hoursText}
+use Rattle.calls.specs.Letters.{Under, none, asks, line-under}
 use Rattle.recorder.specs.Recording.{heardCall, heardOf}
 use Rattle.recorder.specs.declared.Heard.{Heard}
 use Rattle.recorder.specs.declared.Heard.the-variants.{Lost, Other}

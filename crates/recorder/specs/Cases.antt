@@ -22,8 +22,9 @@ use Rattle.controller.specs.Tick.{tickOf, step2, step3, steps4and5, steps6to8, 
 use Rattle.controller.specs.Tick as ticks
 use Rattle.controller.specs.Calls.{freshOf, restartOf, storedBad}
 use Rattle.controller.specs.declared.Controller.{Controller}
-use Rattle.script.specs.Call.{numberField, minus, plus, signedAt, signedField, numbersField, setField, tickAt, linkAt, flagField, restartAt, callBy, atEnd, callOf}
-use Rattle.script.specs.Answer.{numberText, valuesText, lineText, refusedText, kept, answered, onCall, answerTo}
+use Rattle.calls.specs.Call.{numberField, minus, plus, signedAt, signedField, numbersField, setField, tickAt, linkAt, flagField, restartAt, callBy, atEnd, callOf}
+use Rattle.answers.specs.Text.{numberText, valuesText, lineText, refusedText}
+use Rattle.script.specs.Answer.{kept, answered, onCall, answerTo}
 use Rattle.lines.specs.Lines.{linesFrom, tooLong}
 use Rattle.lines.specs.Blocks.{saidTo}
 use Rattle.recorder.specs.Recording.{Note, heardDoses, heardTick, heardRestart, heardCall, heardOf, heardIn, startOf, withBox, withStage, withHour, withTicks, withWhole, refuse, firstOf, doseIn, closing, nextHour, oneMore, counted, heardBy, recorded, noteBy, noteOf, recordOf}

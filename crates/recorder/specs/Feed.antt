@@ -17,9 +17,9 @@ use Rattle.lines.specs.Blocks as lines
 use Rattle.lines.specs.Going.{GaveFrom}
 use Rattle.lines.specs.Going as going
 use Rattle.lines.specs.Fed.{Puts, puts-determined}
-use Rattle.script.specs.Call.{callOf}
+use Rattle.calls.specs.Call.{callOf}
 use Rattle.script.specs.Answer.{Step, onCall, answerTo}
-use Rattle.script.specs.Letters.{too-long, by-call}
+use Rattle.script.specs.Aside.{too-long, by-call}
 use Rattle.recorder.specs.Recording.{greatestHour, heardOf, heardIn, Note, startOf, withBox, refuse, firstOf, heardBy, recorded, noteBy, noteOf, nextNote, noteText, recordOf, Carries}
 use Rattle.recorder.specs.declared.Heard.{Heard}
 use Rattle.recorder.specs.declared.Heard.the-variants.{Lost}

@@ -22,7 +22,7 @@ use Rattle.controller.specs.Sound.{Sound}
 use Rattle.controller.specs.Keeps.{tick-sound, fresh-sound, restart-sound, settings-sound, reset-sound, link-sound, request-sound}
 use Rattle.controller.specs.Promises.{Recordable, AllRecordable, tick-recordable}
 use Rattle.lines.specs.Lines.{tooLong}
-use Rattle.script.specs.Call.{Call, tick, link, settings, reset, counters, restart, request, writeFrame, readFrame, writeField, readField, writeLine, readLine, hour, hours, callOf}
+use Rattle.calls.specs.Call.{Call, tick, link, settings, reset, counters, restart, request, writeFrame, readFrame, writeField, readField, writeLine, readLine, hour, hours, callOf}
 use Rattle.script.specs.Answer.{Step, kept, answered, onCall, answerTo}
 use Rattle.recorder.specs.Recording.{ticksAnHour, greatestHour, heardDoses, heardTick, heardRestart, heardCall, heardOf, heardIn, Note, startOf, withBox, withStage, withHour, withTicks, withWhole, refuse, firstOf, nextHour, oneMore, counted, heardBy, recorded, noteBy, noteOf, Carries}
 use Rattle.recorder.specs.Noting.{Writable, noteIn}

@@ -11,7 +11,7 @@ use Rattle.laws.specs.Decimal.{Parsed}
 use Rattle.paper.specs.Answer.{same}
 use Rattle.controller.specs.declared.Controller.{Controller}
 use Rattle.controller.specs.Promises.{Recordable}
-use Rattle.script.specs.Call.{Call}
+use Rattle.calls.specs.Call.{Call}
 use Rattle.script.specs.Answer.{onCall, answerTo}
 use Rattle.recorder.specs.Recording.{heardOf, heardIn, Note, note, startOf, noteOf, Carries}
 use Rattle.recorder.specs.declared.Heard.{Heard}

@@ -23,7 +23,8 @@ use Rattle.journal.specs.Journal.{hourIn, closes, noPast, pastAfter, ordered, j
 use Rattle.journal.specs.JournalLaws.{Keeps, Reads, none, more, Each, each-map, linesFrom, lines-bad, lines-good, journal-lines, journal-reads}
 use Rattle.journal.specs.Order.{Follows, Steps, Ordered, ordered-journal}
 use Rattle.controller.specs.declared.Record.{Record}
-use Rattle.script.specs.Answer.{numberText, valuesText, lineText, refusedText, answerTo}
+use Rattle.answers.specs.Text.{numberText, valuesText, lineText, refusedText}
+use Rattle.script.specs.Answer.{answerTo}
 use Rattle.lines.specs.Lines as input
 use Rattle.lines.specs.Blocks.{saidTo}
 use Rattle.recorder.specs.Recording.{ticksAnHour, greatestHour, heardIn, Note, startOf, withBox, withStage, withHour, withTicks, withWhole, refuse, firstOf, doseIn, closing, nextHour, oneMore, counted, heardBy, recorded, noteBy, noteOf, notesOf, recordOf, Carries}

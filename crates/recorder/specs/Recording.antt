@@ -16,10 +16,11 @@ use Rattle.controller.specs.declared.Record.{Record}
 use Rattle.controller.specs.Tick.{Told, tickOf}
 use Rattle.controller.specs.Calls.{freshOf, restartOf}
 use Rattle.controller.specs.Sound.{Sound}
-use Rattle.script.specs.Call.{Call, tick, link, settings, reset, counters, restart, request, writeFrame, readFrame, writeField, readField, writeLine, readLine, hour, hours, callOf}
+use Rattle.calls.specs.Call.{Call, tick, link, settings, reset, counters, restart, request, writeFrame, readFrame, writeField, readField, writeLine, readLine, hour, hours, callOf}
 use Rattle.lines.specs.Lines.{linesFrom, tooLong}
 use Rattle.lines.specs.Blocks.{saidTo}
-use Rattle.script.specs.Answer.{refusedText, answerTo}
+use Rattle.answers.specs.Text.{refusedText}
+use Rattle.script.specs.Answer.{answerTo}
 use Rattle.recorder.specs.declared.Heard.{Heard}
 use Rattle.recorder.specs.declared.Heard.the-variants.{Ticked, Dosed, Restarted, Lost, Other}
 use Rattle.recorder.specs.declared.Stage.{Stage}

@@ -19,8 +19,8 @@ ghost use Rattle.paper.specs.Numbers.{R10};
 ghost use Rattle.journal.specs.Line.{textOf, inRange};
 ghost use Rattle.journal.specs.declared.Line.the-variants.{On};
 ghost use Rattle.controller.specs.Promises.{Recordable};
-ghost use Rattle.script.specs.Answer.{refusedText};
-ghost use Rattle.script.specs.Print.{Prints};
+ghost use Rattle.answers.specs.Text.{refusedText};
+ghost use Rattle.answers.specs.Print.{Prints};
 ghost use Rattle.recorder.specs.Recording.{ticksAnHour, greatestHour, refuse, doseIn, oneMore, counted, heardBy, Carries};
 ghost use Rattle.recorder.specs.Noting.{Writable, Writes};
 

@@ -1,19 +1,19 @@
 // What a line was.
 use crate::Heard;
 use crate::Hearing;
+use calls::RestartCall;
+use calls::TickCall;
 use controller::Controller;
 use controller::RestartAnswer;
 use controller::TickAnswer;
 use lines::LONGEST;
-use script::RestartCall;
-use script::TickCall;
 ghost use mathlib.Core.Path.{_≡_};
 ghost use Prim.Native.Nat.{_≤_};
 ghost use lib.ListN.{length, getD, drop, replicate};
 ghost use Rattle.laws.specs.Decimal.{bad};
 ghost use Rattle.controller.specs.Sound.{Sound};
 ghost use Rattle.controller.specs.Says.{saysTick, saysRestart};
-ghost use Rattle.script.specs.Call.{tickAt, restartAt, atEnd, callOf};
+ghost use Rattle.calls.specs.Call.{tickAt, restartAt, atEnd, callOf};
 ghost use Rattle.script.specs.Steps.{inUse};
 ghost use Rattle.recorder.specs.Recording.{heardTick, heardRestart};
 ghost use Rattle.recorder.specs.Noting.{Hears, HearsCall};
@@ -44,7 +44,7 @@ fn hear_tick(c: Controller, line: &[u8]) -> Hearing
     requires { ⌜ Sound c ⌝ }
     ensures { λ r. ⌜ HearsCall c (atEnd (tickAt (drop 1 (now (line .entry))))) r ⌝ }
 {
-    let TickCall::Tick(sample, inputs) = script::read_tick(line) else {
+    let TickCall::Tick(sample, inputs) = calls::read_tick(line) else {
         return lost(c);
     };
     let ticked = c.tick(sample, inputs);
@@ -77,7 +77,7 @@ fn heard_restart(answer: RestartAnswer, old: Controller, new: Controller) -> Hea
 fn hear_restart(c: Controller, line: &[u8]) -> Hearing
     ensures { λ r. ⌜ HearsCall c (atEnd (restartAt (drop 1 (now (line .entry))))) r ⌝ }
 {
-    let RestartCall::Restart(set, count, total) = script::read_restart(line) else {
+    let RestartCall::Restart(set, count, total) = calls::read_restart(line) else {
         return lost(c);
     };
     let restarted = Controller::restart(set, count, total);

@@ -16,10 +16,10 @@ use Rattle.text.specs.Scan.{LF, expect, onGood, fieldAt}
 use Rattle.text.specs.ScanLaws.{byte-inside, bad-good}
 use Rattle.lines.specs.Lines.{Plain, tooLong}
 use Rattle.lines.specs.Places.{LineAt, from-byte}
-use Rattle.script.specs.Call.{Call, tick, minus, plus, signedAt, tickAt, callBy, atEnd, callOf}
+use Rattle.calls.specs.Call.{Call, tick, minus, plus, signedAt, tickAt, callBy, atEnd, callOf}
 use Rattle.script.specs.Answer.{onCall, asked, asksTick}
-use Rattle.script.specs.Reading.{signedFieldAt, on-good, on-bad, tick-direct}
-use Rattle.script.specs.Letters.{other-letter, by-call}
+use Rattle.calls.specs.Reading.{signedFieldAt, on-good, on-bad, tick-direct}
+use Rattle.script.specs.Aside.{other-letter, by-call}
 use Rattle.replayer.specs.Ticks.{TickStands, NoTick}
 
 plain-append : (a b : List ℕ) → Plain a → Plain b → Plain (a ++ b)

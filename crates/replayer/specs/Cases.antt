@@ -11,8 +11,9 @@ use Rattle.controller.specs.Calls.{linkOf}
 use Rattle.lines.specs.Lines.{linesFrom, lastFrom, tooLong, begunOf}
 use Rattle.lines.specs.Blocks.{Carried, Gave, between, inLong, stopped, begunLine, feedLines}
 use Rattle.lines.specs.Blocks as lines
-use Rattle.script.specs.Call.{callOf, atEnd, callBy, linkAt, flagField, numberField}
-use Rattle.script.specs.Answer.{lineText, answered, onCall, answerTo}
+use Rattle.answers.specs.Text.{lineText}
+use Rattle.calls.specs.Call.{callOf, atEnd, callBy, linkAt, flagField, numberField}
+use Rattle.script.specs.Answer.{answered, onCall, answerTo}
 use Rattle.replayer.specs.Feed.{feedOf}
 
 -- L 1 and L 0 are two lines

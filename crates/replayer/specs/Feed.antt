@@ -15,7 +15,7 @@ use Rattle.lines.specs.Going.{GaveFrom}
 use Rattle.lines.specs.Going as going
 use Rattle.lines.specs.Fed.{Puts, puts-determined, puts-inside, puts-leaves}
 use Rattle.script.specs.Answer.{Step, answerTo}
-use Rattle.script.specs.Letters.{too-long}
+use Rattle.script.specs.Aside.{too-long}
 use Rattle.replayer.specs.declared.Replay.{Replay}
 use Rattle.replayer.specs.declared.Fed.{Fed}
 

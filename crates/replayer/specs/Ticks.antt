@@ -6,7 +6,7 @@ use Prim.Native.Nat.{ℕ}
 use lib.IntN.{ℤ}
 use Rattle.controller.specs.declared.Controller.{Controller}
 use Rattle.lines.specs.Places.{LineAt}
-use Rattle.script.specs.Call.{tick}
+use Rattle.calls.specs.Call.{tick}
 use Rattle.script.specs.Answer.{answered, answerTo, asked, asksTick}
 use Rattle.replayer.specs.declared.TickLine.{TickLine}
 use Rattle.replayer.specs.declared.TickLine.the-variants as T

@@ -1,8 +1,8 @@
 // The calls of the box in blocks of an input: the whole lines of a block are answered, what it leaves is carried over.
+use answers::ENOUGH;
+use calls::Signed;
 use controller::Controller;
 use lines::LONGEST;
-use script::ENOUGH;
-use script::Signed;
 use text::Num;
 ghost use mathlib.Core.Path.{_≡_};
 ghost use mathlib.Core.Bool.{true, false};
@@ -53,7 +53,7 @@ fn tick_line(block: &[u8], at: usize) -> TickLine
     if text::byte_at(block, at) != b'T' {
         return TickLine::Other;
     }
-    let Signed::Good(sample, after) = script::signed_at(block, at + 1) else {
+    let Signed::Good(sample, after) = calls::signed_at(block, at + 1) else {
         return TickLine::Other;
     };
     let Num::Good(inputs, end) = text::field_at(block, after, 255) else {

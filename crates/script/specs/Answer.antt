@@ -1,80 +1,20 @@
 -- One answer to a line: what the box and its writers and readers answer, as text. Assumes nothing.
 use mathlib.Core.Bool.{Bool, false}
-use mathlib.Core.List.{List, [], _∷_, _++_}
-use Prim.Native.Nat.{ℕ, suc, _+_}
-use lib.Dec.{ltb, eqb}
-use lib.IntN.{ℤ, pos, negsuc}
-use lib.ListN.{length, replicate}
-use lib.Ieee.{Float, binary64, toBits}
+use mathlib.Core.List.{List, [], _∷_}
+use Prim.Native.Nat.{ℕ}
+use lib.Dec.{eqb}
 use Rattle.laws.specs.Pick.{pick}
-use Rattle.laws.specs.Decimal.{Parsed, good, bad, decimal, hexOf}
-use Rattle.paper.specs.Answer.{Answer, done, refused, fault, leaves}
-use Rattle.field.specs.declared.Field.{Field}
-use Rattle.field.specs.declared.Weight.{Weight}
-use Rattle.field.specs.Field.{writeOf, readOf}
-use Rattle.frame.specs.Frame as frames
-use Rattle.frame.specs.Read.{Finished}
-use Rattle.frame.specs.Read as frames-read
-use Rattle.journal.specs.declared.Line.{Line}
-use Rattle.journal.specs.declared.Line.the-variants.{Dose, On}
-use Rattle.text.specs.Scan.{TAB, LF}
+use Rattle.laws.specs.Decimal.{Parsed, good, bad}
+use Rattle.paper.specs.Answer.{Answer, done, refused, fault}
 use Rattle.lines.specs.Lines.{tooLong}
-use Rattle.journal.specs.Line.{oneLine}
-use Rattle.journal.specs.Line as lines
-use Rattle.hourly.specs.declared.Hour.{Hour}
-use Rattle.hourly.specs.declared.Hour.the-variants.{Measured, Idle, Missing}
-use Rattle.hourly.specs.Hours.{askOf}
-use Rattle.hourly.specs.Text.{printOf}
+use Rattle.answers.specs.Text.{numberText, flagText, letter, valuesText, refusedText, lineNamed}
+use Rattle.calls.specs.Call.{Call, tick, link, settings, reset, counters, restart, request, writeFrame, readFrame, writeField, readField, writeLine, readLine, hour, hours, letterOf, callOf}
+use Rattle.tools.specs.Answer.{filledText, toolText}
 use Rattle.controller.specs.declared.Controller.{Controller}
 use Rattle.controller.specs.declared.Record.{Record}
 use Rattle.controller.specs.Tick.{Told, tickOf}
 use Rattle.controller.specs.Calls.{restartOf, settingsOf, resetOf, linkOf}
 use Rattle.controller.specs.Line.{Replied, requestOf}
-use Rattle.script.specs.Call.{Call, tick, link, settings, reset, counters, restart, request, writeFrame, readFrame, writeField, readField, writeLine, readLine, hour, hours, letterOf, callOf}
-
--- ---- fields of an answer
-
-unfoldable pub numberText : ℕ → List ℕ
-numberText n = decimal n
-
--- a weight may begin with a minus
-unfoldable pub signedText : ℤ → List ℕ
-signedText (pos n) = decimal n
-signedText (negsuc n) = 45 ∷ decimal (suc n)
-
-unfoldable pub flagText : Bool → List ℕ
-flagText on = decimal (pick on 1 0)
-
--- Bytes are written as upper-case hex, two digits a byte
-unfoldable pub bytesText : List ℕ → List ℕ
-bytesText [] = []
-bytesText (b ∷ bs) = hexOf 2 b ++ bytesText bs
-
-unfoldable pub bitsText : Float → List ℕ
-bitsText x = hexOf 16 (toBits binary64 x)
-
--- fields are parted by one tab, and a line ends in LF
-unfoldable pub lineText : List ℕ → List (List ℕ) → List ℕ
-lineText first [] = first ++ LF ∷ []
-lineText first (f ∷ fs) = first ++ TAB ∷ lineText f fs
-
--- the letters O D F R A Q P M I X H, and ? for a line that is no call
-abbrev pub letter : ℕ → List (List ℕ) → List ℕ
-letter b fields = lineText (b ∷ []) fields
-
--- ---- refusals: the number and what it names, then what else is shown
-
-unfoldable pub valuesText : List ℕ → List (List ℕ)
-valuesText [] = []
-valuesText (v ∷ vs) = numberText v ∷ valuesText vs
-
-unfoldable pub refusedText : ℕ → List ℕ → List (List ℕ) → List ℕ
-refusedText n vs more = letter 82 (numberText n ∷ valuesText vs ++ more)
-
--- a journal's refusal shows a line, 0 for R13
-unfoldable pub lineNamed : List ℕ → List ℕ
-lineNamed [] = 0 ∷ []
-lineNamed (v ∷ vs) = v ∷ vs
 
 -- ---- the answers
 
@@ -94,59 +34,10 @@ doneText (done x) = letter 65 []
 doneText (refused n vs) = refusedText n vs []
 doneText (fault n vs) = refusedText n vs []
 
--- P, what is shown of the bytes, and the whole buffer after the call, each byte A5 before it
-unfoldable pub filledText : List (List ℕ) → ℕ → Answer (List ℕ) → List ℕ
-filledText place room (done bytes) = letter 80 (place ++ numberText (length bytes) ∷ bytesText (leaves (done bytes) (replicate room 0xA5)) ∷ [])
-filledText place room (refused n vs) = refusedText n vs (bytesText (replicate room 0xA5) ∷ [])
-filledText place room (fault n vs) = refusedText n vs (bytesText (replicate room 0xA5) ∷ [])
-
 unfoldable pub requestText : ℕ → Answer Replied → List ℕ
 requestText room (done p) = filledText (numberText (p .place) ∷ []) room (done (p .bytes))
 requestText room (refused n vs) = filledText [] room (refused n vs)
 requestText room (fault n vs) = filledText [] room (fault n vs)
-
-unfoldable pub frameText : Answer Finished → List ℕ
-frameText (done f) = letter 80 (numberText (f .place) ∷ numberText (length (f .bytes)) ∷ bytesText (f .bytes) ∷ [])
-frameText (refused n vs) = refusedText n vs []
-frameText (fault n vs) = refusedText n vs []
-
-unfoldable pub fieldText : Answer Field → List ℕ
-fieldText (done f) = letter 80 (bytesText (f .low ∷ f .middle ∷ f .high ∷ f .con ∷ []) ∷ [])
-fieldText (refused n vs) = refusedText n vs []
-fieldText (fault n vs) = refusedText n vs []
-
-unfoldable pub weightText : Answer Weight → List ℕ
-weightText (done w) = letter 80 (signedText (w .value) ∷ flagText (w .stable) ∷ flagText (w .over) ∷ numberText (w .point) ∷ [])
-weightText (refused n vs) = refusedText n vs []
-weightText (fault n vs) = refusedText n vs []
-
-unfoldable pub oneText : Line → List ℕ
-oneText (Dose h c a s) = letter 68 (numberText h ∷ numberText c ∷ numberText a ∷ numberText s ∷ [])
-oneText (On h) = letter 72 (numberText h ∷ [])
-
-unfoldable pub readLineText : Answer Line → List ℕ
-readLineText (done l) = oneText l
-readLineText (refused n vs) = refusedText n vs []
-readLineText (fault n vs) = refusedText n vs []
-
-unfoldable pub kindText : Hour → List ℕ
-kindText (Measured f) = letter 77 (bitsText (f .sum) ∷ bitsText (f .largest) ∷ bitsText (f .mean) ∷ [])
-kindText Idle = letter 73 []
-kindText Missing = letter 88 []
-
-unfoldable pub hourText : Answer Hour → List ℕ
-hourText (done h) = kindText h
-hourText (refused n vs) = refusedText n (lineNamed vs) []
-hourText (fault n vs) = refusedText n vs []
-
--- the journal's refusal names its line, R8 nothing
-unfoldable pub journalNamed : ℕ → List ℕ → List ℕ
-journalNamed n vs = pick (ltb n 10) vs (lineNamed vs)
-
-unfoldable pub hoursText : ℕ → Answer (List ℕ) → List ℕ
-hoursText room (done bytes) = filledText [] room (done bytes)
-hoursText room (refused n vs) = filledText [] room (refused n (journalNamed n vs))
-hoursText room (fault n vs) = filledText [] room (fault n vs)
 
 -- ---- a call on a controller: the next controller, and the line that answers
 
@@ -171,14 +62,14 @@ answered c reset = step (resetOf c .next) (doneText (resetOf c .answer))
 answered c counters = step c (letter 81 (numberText (c .counters .count) ∷ numberText (c .counters .total) ∷ []))
 answered c (restart set count total) = step (kept c (restartOf set count total)) (doneText (restartOf set count total))
 answered c (request s room) = step (requestOf c s room .next) (requestText room (requestOf c s room .answer))
-answered c (writeFrame body room) = step c (filledText [] room (frames.writeOf body room))
-answered c (readFrame s) = step c (frameText (frames-read.readOf s))
-answered c (writeField w) = step c (fieldText (writeOf w))
-answered c (readField f) = step c (weightText (readOf f))
-answered c (writeLine l room) = step c (filledText [] room (lines.writeOf l room))
-answered c (readLine s) = step c (readLineText (oneLine s))
-answered c (hour s h) = step c (hourText (askOf s h))
-answered c (hours s room) = step c (hoursText room (printOf s room))
+answered c (writeFrame body room) = step c (toolText (writeFrame body room))
+answered c (readFrame s) = step c (toolText (readFrame s))
+answered c (writeField w) = step c (toolText (writeField w))
+answered c (readField f) = step c (toolText (readField f))
+answered c (writeLine l room) = step c (toolText (writeLine l room))
+answered c (readLine s) = step c (toolText (readLine s))
+answered c (hour s h) = step c (toolText (hour s h))
+answered c (hours s room) = step c (toolText (hours s room))
 
 -- a line that is none of these is answered ? and calls nothing
 unfoldable pub onCall : Controller → Parsed Call → Step

@@ -11,8 +11,10 @@ use Rattle.paper.specs.Answer.{done, refused, fault, leaves}
 use Rattle.field.specs.Field.{four, weight}
 use Rattle.journal.specs.declared.Line.the-variants.{Dose, On}
 use Rattle.text.specs.Scan.{expect, onGood}
-use Rattle.script.specs.Call.{tick, link, reset, counters, request, writeFrame, readFrame, writeField, readField, writeLine, readLine, hour, numberField, flagField, minus, plus, signedAt, signedField, isHex, hexValue, bytesAt, bytesField, numbersField, setField, fieldFrom, tickAt, linkAt, settingsAt, restartAt, roomAt, bytesCall, writeFieldAt, readFieldAt, doseAt, onAt, hourAt, callBy, atEnd, callOf}
-use Rattle.script.specs.Answer.{numberText, signedText, flagText, bytesText, lineText, valuesText, refusedText, lineNamed, recordText, tickText, doneText, filledText, requestText, frameText, fieldText, weightText, oneText, readLineText, hourText, journalNamed, hoursText}
+use Rattle.calls.specs.Call.{toolBy, tick, link, reset, counters, request, writeFrame, readFrame, writeField, readField, writeLine, readLine, hour, numberField, flagField, minus, plus, signedAt, signedField, isHex, hexValue, bytesAt, bytesField, numbersField, setField, fieldFrom, tickAt, linkAt, settingsAt, restartAt, roomAt, bytesCall, writeFieldAt, readFieldAt, doseAt, onAt, hourAt, callBy, atEnd, callOf}
+use Rattle.answers.specs.Text.{numberText, signedText, flagText, bytesText, lineText, valuesText, refusedText, lineNamed}
+use Rattle.tools.specs.Answer.{filledText, frameText, fieldText, weightText, oneText, readLineText, hourText, journalNamed, hoursText}
+use Rattle.script.specs.Answer.{recordText, tickText, doneText, requestText}
 
 -- the box's own calls; a leading zero, -0, a plus, a value out of range, a field too many or too few are no calls
 pub box-calls :
@@ -32,7 +34,7 @@ pub box-calls :
     × (callOf (81 ∷ []) ≡ good counters [])
     × (callOf ([]) ≡ bad)
     × (callOf (116 ∷ 9 ∷ 53 ∷ 9 ∷ 56 ∷ []) ≡ bad)
-unfolding callOf atEnd callBy tickAt linkAt settingsAt restartAt roomAt bytesCall writeFieldAt readFieldAt doseAt onAt hourAt fieldFrom setField numbersField bytesField bytesAt hexValue isHex signedField signedAt plus minus flagField numberField expect onGood numberAt digitsFrom isDigit pick
+unfolding callOf atEnd callBy toolBy tickAt linkAt settingsAt restartAt roomAt bytesCall writeFieldAt readFieldAt doseAt onAt hourAt fieldFrom setField numbersField bytesField bytesAt hexValue isHex signedField signedAt plus minus flagField numberField expect onGood numberAt digitsFrom isDigit pick
 box-calls = (refl, refl, refl, refl, refl, refl, refl, refl, refl, refl, refl, refl, refl, refl, refl, refl)
 
 -- bytes; the calls with buffers, and those of the writers and readers
@@ -55,7 +57,7 @@ pub tool-calls :
     × (callOf (72 ∷ 9 ∷ 52 ∷ 50 ∷ 57 ∷ 52 ∷ 57 ∷ 54 ∷ 55 ∷ 50 ∷ 57 ∷ 53 ∷ 9 ∷ 48 ∷ []) ≡ good (writeLine (On 4294967295) 0) [])
     × (callOf (108 ∷ 9 ∷ 52 ∷ 56 ∷ 48 ∷ 65 ∷ []) ≡ good (readLine (72 ∷ 10 ∷ [])) [])
     × (callOf (117 ∷ 9 ∷ 9 ∷ 55 ∷ []) ≡ good (hour [] 7) [])
-unfolding callOf atEnd callBy tickAt linkAt settingsAt restartAt roomAt bytesCall writeFieldAt readFieldAt doseAt onAt hourAt fieldFrom setField numbersField bytesField bytesAt hexValue isHex signedField signedAt plus minus flagField numberField expect onGood numberAt digitsFrom isDigit pick
+unfolding callOf atEnd callBy toolBy tickAt linkAt settingsAt restartAt roomAt bytesCall writeFieldAt readFieldAt doseAt onAt hourAt fieldFrom setField numbersField bytesField bytesAt hexValue isHex signedField signedAt plus minus flagField numberField expect onGood numberAt digitsFrom isDigit pick
 tool-calls = (refl, refl, refl, refl, refl, refl, refl, refl, refl, refl, refl, refl, refl, refl, refl, refl, refl, refl)
 
 -- the answers

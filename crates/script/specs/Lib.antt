@@ -1,8 +1,5 @@
-pub mod Call
 pub mod Answer
-pub mod Print
-pub mod Reading
 pub mod Steps
-pub mod Letters
+pub mod Aside
 pub mod Reply
 pub mod Cases

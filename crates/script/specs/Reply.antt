@@ -2,7 +2,7 @@
 use mathlib.Core.List.{List, [], _∷_}
 use Prim.Native.Nat.{ℕ}
 use Rattle.paper.specs.Answer.{Answer, done, refused, fault}
-use Rattle.script.specs.Answer.{numberText, bytesText, letter, refusedText}
+use Rattle.answers.specs.Text.{numberText, bytesText, letter, refusedText}
 
 -- P place length buffer, or R number place buffer
 unfoldable pub replyText : Answer (ℕ × ℕ) → List ℕ → List ℕ

@@ -1,26 +1,16 @@
 // One call to a line: what a line of a script asks, and the line that answers it.
-mod calls;
-mod hours;
-mod print;
-mod read;
 mod request;
-mod tools;
+mod steps;
 
-pub use calls::put_tick;
-pub use calls::read_restart;
-pub use calls::read_tick;
+use answers::ENOUGH;
 use controller::Controller;
-use field::Field;
-use field::Weight;
-use journal::Line;
 use lines::LONGEST;
-pub use read::signed_at;
-use settings::Settings;
+pub use steps::put_tick;
 ghost use Prim.Native.Nat.{_≤_};
 ghost use lib.ListN.{length};
 ghost use Rattle.laws.specs.Decimal.{bad};
 ghost use Rattle.controller.specs.Sound.{Sound};
-ghost use Rattle.script.specs.Call.{callOf};
+ghost use Rattle.calls.specs.Call.{callOf};
 ghost use Rattle.script.specs.Answer.{onCall, asideBy};
 ghost use Rattle.script.specs.Steps.{Answers, asideIn};
 
@@ -30,100 +20,12 @@ pub struct Answered {
     pub len: usize,
 }
 
-// A number that may be below 0, read at a place: its value and the place after it, or none.
-pub enum Signed {
-    Good(i32, usize),
-    Bad,
-}
-
-// 0 or 1 read at a place, and the place after it, or none.
-enum Flag {
-    Good(bool, usize),
-    Bad,
-}
-
-// Bytes read at a place: how many, and the place after them.
-enum Bytes {
-    Good(usize, usize),
-    Bad,
-}
-
-// n numbers read at a place; the others are 0.
-struct Numbers {
-    good: bool,
-    next: usize,
-    values: [u32; 17],
-}
-
-// A set of settings read at a place, and the place after it, or none.
-enum Set {
-    Good(Settings, usize),
-    Bad,
-}
-
-// T sample inputs, or something else.
-pub enum TickCall {
-    Tick(i32, u8),
-    Unknown,
-}
-
-// A line of the letter L: the link start, or no call.
-enum LinkCall {
-    Link(bool),
-    Unknown,
-}
-
-// A line of the letter S: new settings, or no call.
-enum SetCall {
-    Set(Settings),
-    Unknown,
-}
-
-// N SET count total, or something else.
-pub enum RestartCall {
-    Restart(Settings, u32, u32),
-    Unknown,
-}
-
-// A line of the letter G: a weight to write, or no call.
-enum WeightCall {
-    Weight(Weight),
-    Unknown,
-}
-
-// A line of the letter K: a weight field to read, or no call.
-enum FieldCall {
-    Field(Field),
-    Unknown,
-}
-
-// So many bytes, and the room of a buffer or an hour.
-enum RoomCall {
-    Room(usize, usize),
-    Unknown,
-}
-
-// A line of bytes alone: how many, or no call.
-enum BytesCall {
-    Bytes(usize),
-    Unknown,
-}
-
-// A line of the letter D or H: a line of a journal and a room, or no call.
-enum LineCall {
-    Line(Line, usize),
-    Unknown,
-}
-
-// So many bytes hold every answer.
-pub const ENOUGH: usize = 4096;
-
 // A line that is no call is answered ? and calls nothing.
 fn unknown(c: Controller, out: &mut [u8]) -> Answered
     requires { ⌜ Sound c × (4096 ≤ length (now out)) ⌝ }
     ensures { λ r. ⌜ Answers (onCall c bad) (now (out .entry)) (now (out .exit)) r ⌝ }
 {
-    let len = print::put_values(out, b'?', &[]);
+    let len = answers::put_values(out, b'?', &[]);
     Answered { next: c, len }
 }
 
@@ -135,15 +37,15 @@ fn by_letter(c: Controller, line: &[u8], out: &mut [u8]) -> Answered
     ensures { λ r. ⌜ Answers (asideBy c (callOf (now (line .entry)))) (now (out .entry)) (now (out .exit)) r ⌝ }
 {
     match line[0] {
-        b'T' => calls::not_tick(c, line, out),
-        b'L' => calls::link(c, line, out),
-        b'S' => calls::settings(c, line, out),
-        b'C' => calls::reset(c, line, out),
-        b'Q' => calls::counters(c, line, out),
-        b'N' => calls::restart(c, line, out),
+        b'T' => steps::not_tick(c, line, out),
+        b'L' => steps::link(c, line, out),
+        b'S' => steps::settings(c, line, out),
+        b'C' => steps::reset(c, line, out),
+        b'Q' => steps::counters(c, line, out),
+        b'N' => steps::restart(c, line, out),
         b'B' => request::request(c, line, out),
         letter => {
-            let len = tools::by_letter(letter, line, out);
+            let len = tools::answer(letter, line, out);
             Answered { next: c, len }
         }
     }

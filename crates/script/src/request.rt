@@ -1,9 +1,7 @@
 // The line request, with a reply buffer.
 use crate::Answered;
-use crate::RoomCall;
-use crate::print;
-use crate::tools;
 use crate::unknown;
+use calls::RoomCall;
 use controller::Controller;
 use controller::RequestAnswer;
 ghost use mathlib.Core.Path.{_≡_};
@@ -11,10 +9,10 @@ ghost use Prim.Native.Nat.{_≤_};
 ghost use lib.ListN.{length, drop, replicate};
 ghost use Rattle.controller.specs.Sound.{Sound};
 ghost use Rattle.controller.specs.Says.{saysReply};
-ghost use Rattle.script.specs.Call as calls;
-ghost use Rattle.script.specs.Call.{roomAt, atEnd};
+ghost use Rattle.calls.specs.Call as calls;
+ghost use Rattle.calls.specs.Call.{roomAt, atEnd};
 ghost use Rattle.script.specs.Answer.{answered, onCall};
-ghost use Rattle.script.specs.Print.{Prints};
+ghost use Rattle.answers.specs.Print.{Prints};
 ghost use Rattle.script.specs.Reply.{replyText};
 ghost use Rattle.script.specs.Steps.{Answers};
 
@@ -32,15 +30,15 @@ fn put_reply(out: &mut [u8], answer: RequestAnswer, buffer: &[u8]) -> usize
 {
     match answer {
         RequestAnswer::Sent { place, len } => {
-            print::put_shown(out, b'P', &[place as u64, len as u64], buffer)
+            answers::put_shown(out, b'P', &[place as u64, len as u64], buffer)
         }
-        RequestAnswer::R9(place) => print::put_shown(out, b'R', &[9, place as u64], buffer),
-        RequestAnswer::R6(place) => print::put_shown(out, b'R', &[6, place as u64], buffer),
-        RequestAnswer::R5(place) => print::put_shown(out, b'R', &[5, place as u64], buffer),
-        RequestAnswer::R7(place) => print::put_shown(out, b'R', &[7, place as u64], buffer),
-        RequestAnswer::R3(place) => print::put_shown(out, b'R', &[3, place as u64], buffer),
-        RequestAnswer::R4(place) => print::put_shown(out, b'R', &[4, place as u64], buffer),
-        RequestAnswer::R8(place) => print::put_shown(out, b'R', &[8, place as u64], buffer),
+        RequestAnswer::R9(place) => answers::put_shown(out, b'R', &[9, place as u64], buffer),
+        RequestAnswer::R6(place) => answers::put_shown(out, b'R', &[6, place as u64], buffer),
+        RequestAnswer::R5(place) => answers::put_shown(out, b'R', &[5, place as u64], buffer),
+        RequestAnswer::R7(place) => answers::put_shown(out, b'R', &[7, place as u64], buffer),
+        RequestAnswer::R3(place) => answers::put_shown(out, b'R', &[3, place as u64], buffer),
+        RequestAnswer::R4(place) => answers::put_shown(out, b'R', &[4, place as u64], buffer),
+        RequestAnswer::R8(place) => answers::put_shown(out, b'R', &[8, place as u64], buffer),
     }
 }
 
@@ -63,8 +61,8 @@ pub(crate) fn request(c: Controller, line: &[u8], out: &mut [u8]) -> Answered
     requires { ⌜ Sound c × (length (now line) ≤ 4095) × (4096 ≤ length (now out)) ⌝ }
     ensures { λ r. ⌜ Answers (onCall c (atEnd (roomAt 64 calls.request (drop 1 (now (line .entry)))))) (now (out .entry)) (now (out .exit)) r ⌝ }
 {
-    let mut bytes = tools::no_bytes();
-    let RoomCall::Room(n, room) = tools::read_room(line, &mut bytes, 64) else {
+    let mut bytes = calls::no_bytes();
+    let RoomCall::Room(n, room) = calls::read_room(line, &mut bytes, 64) else {
         return unknown(c, out);
     };
     let mut buffer = blank_reply();

@@ -12,10 +12,10 @@ use Rattle.controller.specs.Sound.{Sound}
 use Rattle.lines.specs.Lines.{begunOf, tooLong}
 use Rattle.lines.specs.Places.{EndsAt, LineAt, ends-at, ends-line, over-fits}
 use Rattle.lines.specs.Fed.{Puts, begun-long, puts-between, puts-stopped, puts-on, puts-after}
-use Rattle.script.specs.Call.{callOf}
+use Rattle.calls.specs.Call.{callOf}
 use Rattle.script.specs.Answer.{Step, answerTo, asked, asksTick}
 use Rattle.script.specs.Steps.{Answers}
-use Rattle.script.specs.Letters.{too-long, by-call, aside-answers}
+use Rattle.script.specs.Aside.{too-long, by-call, aside-answers}
 use Rattle.script.specs.declared.Answered.{Answered}
 use Rattle.replayer.specs.Feed.{nextOf, textOf, carried, given, Feeds, FeedsFrom}
 use Rattle.replayer.specs.declared.Replay.{Replay}

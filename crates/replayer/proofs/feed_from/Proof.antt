@@ -17,10 +17,10 @@ use Rattle.controller.specs.Says.{Ticks}
 use Rattle.controller.specs.Sound.{Sound}
 use Rattle.lines.specs.Places.{EndsAt, LineAt, ends-at, ends-line, put-part, part-length, over-fits}
 use Rattle.lines.specs.Going.{Going, going-none, going-line, going-stopped, going-dropped, going-left}
+use Rattle.answers.specs.Print.{prints-over}
 use Rattle.script.specs.Answer.{Step, tickText, answered, answerTo}
-use Rattle.script.specs.Print.{prints-over}
 use Rattle.script.specs.Steps.{Answers, tickIn, tick-enough}
-use Rattle.script.specs.Letters.{aside-answers}
+use Rattle.script.specs.Aside.{aside-answers}
 use Rattle.replayer.specs.Ticks.{TickStands, NoTick, TickAt}
 use Rattle.replayer.specs.Feed.{nextOf, textOf, fed, given, FeedsFrom}
 use Rattle.replayer.specs.declared.Fed.{Fed}

@@ -9,7 +9,7 @@ use mir.Facts.{toZ-ofZ}
 use Rattle.laws.specs.Decimal.{good}
 use Rattle.text.specs.Scan.{fieldAt, leads}
 use Rattle.text.specs.ScanLaws.{byte-inside}
-use Rattle.script.specs.Reading.{leadsSigned, field-most}
+use Rattle.calls.specs.Reading.{leadsSigned, field-most}
 use Rattle.replayer.specs.Ticks.{TickStands}
 use Rattle.replayer.proofs.TickLines.{tick-stands, no-letter, no-sample, no-inputs, no-end}
 use borrow.Author.Needs.{needs}

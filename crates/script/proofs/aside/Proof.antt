@@ -6,10 +6,10 @@ use denote.Ref.{now}
 use lib.ListN.{length}
 use Rattle.laws.specs.Decimal.{bad}
 use Rattle.controller.specs.declared.Controller.{Controller}
-use Rattle.script.specs.Call.{callOf}
+use Rattle.calls.specs.Call.{callOf}
 use Rattle.script.specs.Answer.{onCall, asked, asksTick, asideBy}
 use Rattle.script.specs.Steps.{asideIn, answers-step, answers-none}
-use Rattle.script.specs.Letters.{aside-else, aside-enough, aside-small, asked-long, asked-call}
+use Rattle.script.specs.Aside.{aside-else, aside-enough, aside-small, asked-long, asked-call}
 use borrow.Author.Needs.{needs}
 use Rattle.script.proofs.aside.Statement.{statement}
 use Rattle.script.proofs.aside.Tie as tie

@@ -1,4 +1,4 @@
-use mathlib.Core.Path.{_≡_, refl, sym, ap, _∙_}
+use mathlib.Core.Path.{_≡_, refl, ap, _∙_}
 use mathlib.Core.List.{List, [], _∷_}
 use Prim.Native.Nat.{ℕ, _≤_}
 use native.Mathlib.Omega.{arith}
@@ -8,10 +8,13 @@ use borrow.Author.Tests.{ne-eqb}
 use Rattle.laws.specs.Pick.{pick, pick-f}
 use Rattle.laws.specs.Decimal.{Parsed}
 use Rattle.controller.specs.declared.Controller.{Controller}
-use Rattle.script.specs.Call.{Call, callBy, atEnd, callOf}
+use Rattle.answers.specs.Print.{prints-text}
+use Rattle.calls.specs.Call.{Call, toolBy, callBy, atEnd, callOf}
+use Rattle.calls.specs.Letters.{tool-under, end-under}
+use Rattle.tools.specs.Parts.{tool-in}
 use Rattle.script.specs.Answer.{onCall, asideBy}
-use Rattle.script.specs.Steps.{Answers, toolBy, made, answers-step, answers-as}
-use Rattle.script.specs.Letters.{other-letter, aside-else}
+use Rattle.script.specs.Steps.{Answers, made, answers-step, answers-as, tool-step}
+use Rattle.script.specs.Aside.{other-letter, aside-else}
 use Rattle.script.specs.declared.Answered.{Answered}
 use borrow.Author.Needs.{needs}
 use Rattle.script.proofs.by_letter.Statement.{statement}
@@ -27,7 +30,7 @@ by-key (x ∷ xs) k h e s = ap (λ (n : ℕ). atEnd (callBy n xs)) e ∙ ap atEn
 by-tool : (letter : ℕ) (l : List ℕ)
     → (letter ≡ 84 → ⊥) → (letter ≡ 76 → ⊥) → (letter ≡ 83 → ⊥) → (letter ≡ 67 → ⊥) → (letter ≡ 81 → ⊥) → (letter ≡ 78 → ⊥) → (letter ≡ 66 → ⊥)
     → callBy letter l ≡ toolBy letter l
-unfolding callBy toolBy
+unfolding callBy
 by-tool letter l t i s r q n b =
     pick-f _ _ _ (ne-eqb _ _ t)
     ∙ pick-f _ _ _ (ne-eqb _ _ i)
@@ -65,8 +68,8 @@ restart-requires c κs = search needs
 request-requires : tie.Need-request-requires
 request-requires c κs = search needs
 
-by-letter-requires : tie.Need-by-letter-requires
-by-letter-requires c κs = search needs
+answer-requires : tie.Need-answer-requires
+answer-requires c κs = search needs
 
 same-length : tie.Need-same-length
 same-length c = search needs
@@ -143,12 +146,14 @@ same-length-8 c = search needs
 returns-8 : tie.Need-returns-8
 returns-8 c =
     let a = c .before .before .before .before .before .before .before .before .args in
+    let p = c .before .before .before .before .before .before .before .before .pre in
     let l = now (a .line) in
+    let k = getD l 0 0 in
     let n = c .before .before .before .before .match .rest in
-    let t = c .before .before .by-letter .ensures in
+    let same = tool-step (a .c) k (atEnd (toolBy k (drop 1 l))) (end-under (toolBy k (drop 1 l)) (tool-under k (drop 1 l))) (n .0 .0 .0 .0 .0 .0 .1) (n .0 .0 .0 .0 .0 .1) (n .0 .0 .0 .0 .1) (n .0 .0 .0 .1) (n .0 .0 .1) (n .0 .1) (n .1) in
     no-tick (a .c) l (n .0 .0 .0 .0 .0 .0 .1)
-    (by-key l (getD l 0 0) (c .before .before .before .before .before .before .before .before .pre .1 .0 .0) refl (by-tool (getD l 0 0) (drop 1 l) (n .0 .0 .0 .0 .0 .0 .1) (n .0 .0 .0 .0 .0 .1) (n .0 .0 .0 .0 .1) (n .0 .0 .0 .1) (n .0 .0 .1) (n .0 .1) (n .1)))
-    (made (sym (t .stays (a .c))) (c .before .before .before .before .before .before .before .before .pre .0) (c .before .before .before .before .before .before .before .before .pre .1 .1) (t .text (a .c)))
+    (by-key l k (p .1 .0 .0) refl (by-tool k (drop 1 l) (n .0 .0 .0 .0 .0 .0 .1) (n .0 .0 .0 .0 .0 .1) (n .0 .0 .0 .0 .1) (n .0 .0 .0 .1) (n .0 .0 .1) (n .0 .1) (n .1)))
+    (answers-step same (made refl (p .0) (p .1 .1) (prints-text (tool-in _ k l (p .1 .1) (p .1 .0 .1)) (c .before .before .answer .ensures))))
 
 pub by-letter-spec : {M : Type 1} → statement M
 by-letter-spec =
@@ -162,7 +167,7 @@ by-letter-spec =
     counters-requires
     restart-requires
     request-requires
-    by-letter-requires
+    answer-requires
     same-length
     returns
     same-length-2

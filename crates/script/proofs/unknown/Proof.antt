@@ -1,13 +1,15 @@
 use mathlib.Core.Path.{refl}
-use Rattle.script.specs.Answer.{valuesText, onCall}
+use Rattle.answers.specs.Text.{valuesText}
+use Rattle.script.specs.Answer.{onCall}
 use Rattle.script.specs.Steps.{made}
+use Rattle.answers.specs.Room.{values-in}
 use borrow.Author.Needs.{needs}
 use Rattle.script.proofs.unknown.Statement.{statement}
 use Rattle.script.proofs.unknown.Tie as tie
 
 returns : tie.Need-returns
 unfolding valuesText onCall
-returns c = made refl (c .before .before .before .before .before .before .pre .0) (c .before .before .before .before .before .before .pre .1) (c .before .before .put-values .ensures)
+returns c = made refl (c .before .before .before .before .before .before .pre .0) (c .before .before .before .before .before .before .pre .1) (values-in _ _ (c .before .before .put-values .ensures) (search needs))
 
 slice-aggregate-put-values : tie.Need-slice-aggregate-put-values
 slice-aggregate-put-values c = search needs

@@ -2,7 +2,7 @@ use mathlib.Core.Path.{_≡_, refl, sym, ap, _∙_}
 use denote.Ref.{now}
 use borrow.Author.Tests.{not-true, not-false}
 use Rattle.laws.specs.Pick.{pick-t}
-use Rattle.script.specs.Print.{prints-text}
+use Rattle.answers.specs.Print.{prints-text}
 use Rattle.recorder.specs.Keeps.{on-in-range}
 use Rattle.recorder.proofs.Writing.{closing-none, closing-not, closing-by}
 use mathlib.Core.Bool.{true, false}

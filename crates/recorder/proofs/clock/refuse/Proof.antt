@@ -1,5 +1,5 @@
 use Rattle.recorder.specs.Recording.{refuse, withStage}
-use Rattle.script.specs.Print.{prints-over}
+use Rattle.answers.specs.Print.{prints-over}
 use mathlib.Core.Path.{_≡_, refl, sym, ap, _∙_}
 use borrow.Author.Needs.{needs}
 use Rattle.recorder.proofs.clock.refuse.Statement.{statement}

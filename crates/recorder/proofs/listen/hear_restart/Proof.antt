@@ -1,7 +1,8 @@
 use mathlib.Core.Path.{_≡_, refl, sym, ap, _∙_}
 use Rattle.controller.specs.declared.Controller.{Controller}
 use Rattle.script.specs.Answer.{answered, onCall}
-use Rattle.script.specs.Steps.{asRestart, inUse, restart-kept}
+use Rattle.calls.specs.Reads.{asRestart}
+use Rattle.script.specs.Steps.{inUse, restart-kept}
 use Rattle.recorder.specs.Recording.{heardRestart, heardCall, heardOf}
 use Rattle.recorder.proofs.Listening.{hears-as, restart-heard}
 use borrow.Author.Needs.{needs}

@@ -6,7 +6,7 @@ use mir.Val.{SFits}
 use mir.Facts.{toZ-ofZ}
 use Rattle.controller.specs.Says.{Ticks}
 use Rattle.script.specs.Answer.{answered, onCall}
-use Rattle.script.specs.Steps.{asTick}
+use Rattle.calls.specs.Reads.{asTick}
 use Rattle.recorder.specs.Recording.{heardTick, heardCall, heardOf}
 use Rattle.recorder.proofs.Listening.{hears-as}
 use borrow.Author.Needs.{needs}

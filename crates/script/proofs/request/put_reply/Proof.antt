@@ -3,9 +3,10 @@ use mathlib.Core.List.{List}
 use Prim.Native.Nat.{ℕ}
 use Rattle.controller.specs.declared.RequestAnswer.{RequestAnswer}
 use Rattle.controller.specs.Says.{saysReply}
-use Rattle.script.specs.Answer.{refusedText, valuesText}
-use Rattle.script.specs.Print.{prints-text}
+use Rattle.answers.specs.Text.{refusedText, valuesText}
+use Rattle.answers.specs.Print.{prints-text}
 use Rattle.script.specs.Reply.{replyText}
+use Rattle.answers.specs.Room.{shown-in}
 use borrow.Author.Needs.{needs}
 use Rattle.script.proofs.request.put_reply.Statement.{statement}
 use Rattle.script.proofs.request.put_reply.Tie as tie
@@ -91,56 +92,56 @@ same-length c = search needs
 
 returns : tie.Need-returns
 unfolding replyText refusedText valuesText
-returns c = prints-text (reply-as _ (c .before .before .before .before .before .before .answer .given .1)) (c .before .before .put-shown .ensures)
+returns c = prints-text (reply-as _ (c .before .before .before .before .before .before .answer .given .1)) (shown-in _ _ _ (c .before .before .put-shown .ensures) (search needs))
 
 same-length-2 : tie.Need-same-length-2
 same-length-2 c = search needs
 
 returns-2 : tie.Need-returns-2
 unfolding replyText refusedText valuesText
-returns-2 c = prints-text (reply-as _ (c .before .before .before .before .before .before .answer2 .given .1)) (c .before .before .put-shown2 .ensures)
+returns-2 c = prints-text (reply-as _ (c .before .before .before .before .before .before .answer2 .given .1)) (shown-in _ _ _ (c .before .before .put-shown2 .ensures) (search needs))
 
 same-length-3 : tie.Need-same-length-3
 same-length-3 c = search needs
 
 returns-3 : tie.Need-returns-3
 unfolding replyText refusedText valuesText
-returns-3 c = prints-text (reply-as _ (c .before .before .before .before .before .before .answer3 .given .1)) (c .before .before .put-shown3 .ensures)
+returns-3 c = prints-text (reply-as _ (c .before .before .before .before .before .before .answer3 .given .1)) (shown-in _ _ _ (c .before .before .put-shown3 .ensures) (search needs))
 
 same-length-4 : tie.Need-same-length-4
 same-length-4 c = search needs
 
 returns-4 : tie.Need-returns-4
 unfolding replyText refusedText valuesText
-returns-4 c = prints-text (reply-as _ (c .before .before .before .before .before .before .answer4 .given .1)) (c .before .before .put-shown4 .ensures)
+returns-4 c = prints-text (reply-as _ (c .before .before .before .before .before .before .answer4 .given .1)) (shown-in _ _ _ (c .before .before .put-shown4 .ensures) (search needs))
 
 same-length-5 : tie.Need-same-length-5
 same-length-5 c = search needs
 
 returns-5 : tie.Need-returns-5
 unfolding replyText refusedText valuesText
-returns-5 c = prints-text (reply-as _ (c .before .before .before .before .before .before .answer5 .given .1)) (c .before .before .put-shown5 .ensures)
+returns-5 c = prints-text (reply-as _ (c .before .before .before .before .before .before .answer5 .given .1)) (shown-in _ _ _ (c .before .before .put-shown5 .ensures) (search needs))
 
 same-length-6 : tie.Need-same-length-6
 same-length-6 c = search needs
 
 returns-6 : tie.Need-returns-6
 unfolding replyText refusedText valuesText
-returns-6 c = prints-text (reply-as _ (c .before .before .before .before .before .before .answer6 .given .1)) (c .before .before .put-shown6 .ensures)
+returns-6 c = prints-text (reply-as _ (c .before .before .before .before .before .before .answer6 .given .1)) (shown-in _ _ _ (c .before .before .put-shown6 .ensures) (search needs))
 
 same-length-7 : tie.Need-same-length-7
 same-length-7 c = search needs
 
 returns-7 : tie.Need-returns-7
 unfolding replyText refusedText valuesText
-returns-7 c = prints-text (reply-as _ (c .before .before .before .before .before .before .answer7 .given .1)) (c .before .before .put-shown7 .ensures)
+returns-7 c = prints-text (reply-as _ (c .before .before .before .before .before .before .answer7 .given .1)) (shown-in _ _ _ (c .before .before .put-shown7 .ensures) (search needs))
 
 same-length-8 : tie.Need-same-length-8
 same-length-8 c = search needs
 
 returns-8 : tie.Need-returns-8
 unfolding replyText refusedText valuesText
-returns-8 c = prints-text (reply-as _ (c .before .before .before .before .before .before .answer8 .given .1)) (c .before .before .put-shown8 .ensures)
+returns-8 c = prints-text (reply-as _ (c .before .before .before .before .before .before .answer8 .given .1)) (shown-in _ _ _ (c .before .before .put-shown8 .ensures) (search needs))
 
 pub put-reply-spec : {M : Type 1} → statement M
 put-reply-spec =

@@ -5,19 +5,14 @@ use native.Mathlib.Omega.{arith}
 use denote.Ref.{now}
 use lib.ListN.{length, take, replicate, length-replicate}
 use lib.Seq.{length-take-le}
-use Rattle.script.specs.Call.{request}
+use Rattle.calls.specs.Call.{request}
 use Rattle.script.specs.Answer.{answered, onCall}
-use Rattle.script.specs.Steps.{asRoom, Within, ReadsRoom, Answers, answers-as}
-use Rattle.script.specs.declared.RoomCall.{RoomCall}
-use Rattle.script.specs.declared.RoomCall.the-variants as W
-use Rattle.script.proofs.Shown.{take-replicate}
+use Rattle.calls.specs.Reads.{asRoom, room-within, room-read}
+use Rattle.script.specs.Steps.{Answers, answers-as}
+use Rattle.tools.specs.Parts.{take-replicate}
 use borrow.Author.Needs.{needs}
 use Rattle.script.proofs.request.request.Statement.{statement}
 use Rattle.script.proofs.request.request.Tie as tie
-
--- what was read lies within its bounds
-room-within : {most n room : ℕ} {s bytes old : List ℕ} {r : RoomCall} → ReadsRoom most s bytes old r → r ≡ W.Room n room → (n ≤ length bytes) × (room ≤ most)
-room-within {most} {n} {room} {s} {bytes} {old} {r} h e = subst (λ (x : RoomCall). Within most (length bytes) x) e (h .within)
 
 -- the part of the blank buffer that is lent
 lent : {buffer : List ℕ} (room : ℕ) → buffer ≡ replicate 64 0xA5 → room ≤ 64 → (take room buffer ≡ replicate room 0xA5) × (length (take room buffer) ≡ room)
@@ -49,7 +44,7 @@ same-length c = search needs
 returns : tie.Need-returns
 returns c =
     answers-as (c .before .before .before .before .before .before .before .before .before .before .before .before .args .c)
-    (c .before .before .before .before .before .before .before .read-room .ensures .reads request ∙ ap (asRoom request (c .before .before .before .before .before .before .before .read-room .last .1 .0)) (c .before .before .before .before .enum-told .given .1))
+    (room-read (c .before .before .before .before .before .before .before .read-room .ensures) (omega (arith, c .before .before .before .before .before .before .before .before .before .before .before .before .pre .1, c .before .before .before .before .before .before .before .before .before .no-bytes .ensures .long)) request ∙ ap (asRoom request (c .before .before .before .before .before .before .before .read-room .last .1 .0)) (c .before .before .before .before .enum-told .given .1))
     (c .before .before .unknown .ensures)
 
 blank-reply-requires : tie.Need-blank-reply-requires
@@ -90,7 +85,7 @@ returns-2 : tie.Need-returns-2
 unfolding onCall
 returns-2 c =
     answers-as (c .before .before .before .before .before .before .before .before .before .before .before .before .before .before .before .before .before .args .c)
-    (c .before .before .before .before .before .before .before .before .before .before .before .before .read-room .ensures .reads request ∙ ap (asRoom request (c .before .before .before .before .before .before .before .before .before .before .before .before .read-room .last .1 .0)) (c .before .before .before .before .before .before .before .before .before .n .given .1))
+    (room-read (c .before .before .before .before .before .before .before .before .before .before .before .before .read-room .ensures) (omega (arith, c .before .before .before .before .before .before .before .before .before .before .before .before .before .before .before .before .before .pre .1, c .before .before .before .before .before .before .before .before .before .before .before .before .before .before .no-bytes .ensures .long)) request ∙ ap (asRoom request (c .before .before .before .before .before .before .before .before .before .before .before .before .read-room .last .1 .0)) (c .before .before .before .before .before .before .before .before .before .n .given .1))
     (subst
     (λ (k : ℕ). Answers (answered (c .before .before .before .before .before .before .before .before .before .before .before .before .before .before .before .before .before .args .c) (request (take (c .before .before .before .before .before .before .before .before .before .n .given .0 .0) (c .before .before .before .before .before .before .before .before .before .before .before .before .read-room .last .1 .0)) k)) (now (c .before .before .before .before .before .before .before .before .before .before .before .before .before .before .before .before .before .args .out)) (c .before .before .before .show-reply .last .1 .1 .1 .0) (c .before .before .before .show-reply .result))
     (part (c .before .before .before .before .before .before .before) .1)

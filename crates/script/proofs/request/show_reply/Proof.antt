@@ -5,8 +5,10 @@ use lib.ListN.{length, replicate}
 use Rattle.paper.specs.Answer.{Answer, done, refused, fault, told, leaves}
 use Rattle.controller.specs.Line.{Replied}
 use Rattle.controller.specs.Says.{placeAndLength, bytesOf}
-use Rattle.script.specs.Answer.{answered, requestText, filledText, refusedText, letter, numberText, bytesText}
-use Rattle.script.specs.Print.{prints-text}
+use Rattle.answers.specs.Text.{refusedText, letter, numberText, bytesText}
+use Rattle.tools.specs.Answer.{filledText}
+use Rattle.script.specs.Answer.{answered, requestText}
+use Rattle.answers.specs.Print.{prints-text}
 use Rattle.script.specs.Reply.{replyText}
 use Rattle.script.specs.Steps.{made}
 use borrow.Author.Needs.{needs}

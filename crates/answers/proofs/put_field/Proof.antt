@@ -1,0 +1,19 @@
+use Rattle.answers.specs.Print.{prints-then}
+use borrow.Author.Needs.{needs}
+use Rattle.answers.proofs.put_field.Statement.{statement}
+use Rattle.answers.proofs.put_field.Tie as tie
+
+returns : tie.Need-returns
+returns c = prints-then (c .before .before .before .before .before .before .put-byte .ensures) (c .before .before .put-number .ensures)
+
+put-byte-requires : tie.Need-put-byte-requires
+put-byte-requires c κs = search needs
+
+put-number-requires : tie.Need-put-number-requires
+put-number-requires c κs = search needs
+
+same-length : tie.Need-same-length
+same-length c = search needs
+
+pub put-field-spec : {M : Type 1} → statement M
+put-field-spec = tie.close (tie.spec put-byte-requires put-number-requires same-length returns)

@@ -1,0 +1,104 @@
+-- Numbers read at a place: their bounds, their signs, and a row of them. Assumes nothing.
+use mathlib.Core.Path.{_≡_, refl, sym, ap, _∙_}
+use mathlib.Core.List.{List, [], _∷_, _++_, append-assoc, append-nil}
+use Prim.Native.Nat.{ℕ, zero, suc, _+_, _-_, _≤_, _<_}
+use native.Mathlib.Omega.{arith}
+use native.Mathlib.Numerals.{add-one}
+use lib.IntN.{pos, _-ℤ_, negℤ, +ℤ-idl}
+use lib.ListN.{length, getD, take, drop, set}
+use lib.Seq.{take-suc-set}
+use borrow.Author.Tests.{eq-eqb, ne-eqb}
+use mir.Syntax.{w32, w64}
+use mir.Val.{toZ, ofZ, SFits}
+use mir.Facts.{toZ-ofZ, toZ-pos}
+use Rattle.laws.specs.Pick.{pick-t, pick-f}
+use Rattle.laws.specs.Whole.{fits64, abs-neg}
+use Rattle.laws.specs.Decimal.{Parsed, good, bad, numberAt}
+use Rattle.text.specs.Scan.{onGood, fieldAt}
+use Rattle.text.specs.ScanLaws.{from-place}
+use Rattle.calls.specs.Call.{greatest32, minus, plus, signedAt}
+use Rattle.calls.specs.Reading.{on-good, on-bad, on-on, on-same, numbersAt, on-id}
+
+-- ---- signs
+
+-- a number below 0 that an i32 holds, by way of an i64
+minus-fits : (n : ℕ) → 1 ≤ n → n ≤ 2147483648 → SFits w32 (negℤ (pos n))
+minus-fits zero h k = absurd (omega arith)
+minus-fits (suc n) h k = record { sfits = omega arith }
+
+module _ (v : ℕ) (some : 1 ≤ v) (most : v ≤ 2147483648) where
+  away : pos 0 -ℤ toZ w64 v ≡ negℤ (pos v)
+  away = rw (toZ-pos w64 {n = v} (omega arith)) (+ℤ-idl (negℤ (pos v)))
+
+  wide-fits : SFits w64 (negℤ (pos v))
+  wide-fits = fits64 (negℤ (pos v)) (omega (arith, abs-neg (pos v)))
+
+  pub away-fits : SFits w64 (pos 0 -ℤ toZ w64 v)
+  away-fits = rw away wide-fits
+
+  narrow : toZ w64 (ofZ w64 (pos 0 -ℤ toZ w64 v)) ≡ negℤ (pos v)
+  narrow = rw away (toZ-ofZ wide-fits)
+
+  pub narrow-fits : SFits w32 (toZ w64 (ofZ w64 (pos 0 -ℤ toZ w64 v)))
+  narrow-fits = rw narrow (minus-fits v some most)
+
+  pub below : toZ w32 (ofZ w32 (toZ w64 (ofZ w64 (pos 0 -ℤ toZ w64 v)))) ≡ negℤ (pos v)
+  below = rw narrow (toZ-ofZ (minus-fits v some most))
+
+pub minus-some : (n : ℕ) (rest : List ℕ) → 1 ≤ n → minus (good n rest) ≡ good (negℤ (pos n)) rest
+unfolding minus
+minus-some zero rest h = absurd (omega arith)
+minus-some (suc n) rest h = refl
+
+pub signed-minus : (s : List ℕ) (p : ℕ) → getD s p 0 ≡ 45 → signedAt (drop p s) ≡ minus (numberAt 2147483648 (drop (p + 1) s))
+unfolding signedAt
+signed-minus s p e =
+    from-place (λ l. signedAt l ≡ minus (numberAt 2147483648 (drop (p + 1) s))) s p (λ l. pick-t _ _ _ (eq-eqb _ _ e)) (λ z. absurd (omega arith))
+
+pub signed-plus : (s : List ℕ) (p : ℕ) → (getD s p 0 ≡ 45 → ⊥) → signedAt (drop p s) ≡ plus (numberAt 2147483647 (drop p s))
+unfolding signedAt numberAt plus
+signed-plus s p n =
+    from-place (λ l. signedAt l ≡ plus (numberAt 2147483647 l)) s p (λ l. pick-f _ _ _ (ne-eqb _ _ n)) (λ z. refl)
+
+-- ---- k numbers are in `values`, and what is left from place p on gives the whole
+
+abbrev pub Left : List ℕ → ℕ → ℕ → List ℕ → ℕ → ℕ → Type 0
+Left s at n values k p = onGood (numbersAt (n - k) (drop p s)) (λ vs rest. good (take k values ++ vs) rest) ≡ numbersAt n (drop at s)
+
+module _ (s : List ℕ) (at n : ℕ) (values : List ℕ) (k p : ℕ) (left : Left s at n values k p) where
+  next-of : k < n → numbersAt (n - k) (drop p s) ≡ onGood (fieldAt greatest32 (drop p s)) (λ v rest. onGood (numbersAt (n - (k + 1)) rest) (λ vs rest'. good (v ∷ vs) rest'))
+  unfolding numbersAt
+  next-of h = let e : n - k ≡ suc (n - (k + 1)) = omega arith in ap (λ (m : ℕ). numbersAt m (drop p s)) e
+
+  pub left-bad : k < n → fieldAt greatest32 (drop p s) ≡ bad → numbersAt n (drop at s) ≡ bad
+  left-bad h e = sym left ∙ on-bad _ (next-of h ∙ on-bad _ e)
+
+  pub left-more : (v next : ℕ) → k < n → k < length values → fieldAt greatest32 (drop p s) ≡ good v (drop next s) → Left s at n (set values k v) (k + 1) next
+  unfolding onGood
+  left-more v next h l e =
+      on-same (numbersAt (n - (k + 1)) (drop next s)) (λ vs rest. ap (λ (r : List ℕ). good r rest) (grown v l vs))
+      ∙ sym (on-on (numbersAt (n - (k + 1)) (drop next s)) (λ vs rest. good (v ∷ vs) rest) (λ vs rest. good (take k values ++ vs) rest))
+      ∙ ap (λ (r : Parsed (List ℕ)). onGood r (λ vs rest. good (take k values ++ vs) rest)) (sym (next-of h ∙ on-good _ e))
+      ∙ left
+    where
+      grown : (v : ℕ) → k < length values → (vs : List ℕ) → take (k + 1) (set values k v) ++ vs ≡ take k values ++ v ∷ vs
+      grown v l vs =
+          ap (λ (i : ℕ). take i (set values k v) ++ vs) (add-one k)
+          ∙ ap (λ (r : List ℕ). r ++ vs) (take-suc-set values k v l)
+          ∙ append-assoc (take k values) (v ∷ []) vs
+
+  pub left-all : n ≤ k → k ≤ n → numbersAt n (drop at s) ≡ good (take n values) (drop p s)
+  unfolding numbersAt onGood
+  left-all h g =
+      let z : n - k ≡ 0 = omega arith in
+      let e : k ≡ n = omega arith in
+      sym left
+      ∙ ap (λ (m : ℕ). onGood (numbersAt m (drop p s)) (λ vs rest. good (take k values ++ vs) rest)) z
+      ∙ ap (λ (r : List ℕ). good r (drop p s)) (append-nil (take k values))
+      ∙ ap (λ (m : ℕ). good (take m values) (drop p s)) e
+
+pub left-none : (s : List ℕ) (at n : ℕ) (values : List ℕ) → Left s at n values 0 at
+unfolding onGood
+left-none s at n values =
+    let z : n - 0 ≡ n = omega arith in
+    ap (λ (m : ℕ). onGood (numbersAt m (drop at s)) (λ vs rest. good vs rest)) z ∙ on-id (numbersAt n (drop at s))

@@ -1,0 +1,4 @@
+pub mod Call
+pub mod Letters
+pub mod Reading
+pub mod Reads

@@ -1,0 +1,203 @@
+// Numbers and bytes, read at a place of a line.
+use crate::Bytes;
+use crate::Flag;
+use crate::GREATEST;
+use crate::Numbers;
+use crate::Set;
+use crate::Signed;
+use settings::Settings;
+use text::Num;
+ghost use mathlib.Core.Path.{_≡_};
+ghost use mathlib.Core.Bool.{true};
+ghost use Prim.Native.Nat.{_*_, _≤_};
+ghost use lib.Dec.{leb};
+ghost use lib.ListN.{length, drop};
+ghost use Rattle.laws.specs.Pick.{pick};
+ghost use Rattle.laws.specs.Decimal.{bad, numberAt};
+ghost use Rattle.settings.specs.Cases.{setOf};
+ghost use Rattle.calls.specs.Call.{minus, plus, isHex, hexValue, bytesAt};
+ghost use Rattle.calls.specs.Reading.{ScansSigned, leadsFlag, leadsSet, Decodes, Counts, signedFieldAt, flagAt, bytesFieldAt, leadingBytes, fits, bytesLeft, numbersAt, setAt};
+
+const TAB: u8 = 9;
+
+const MINUS: u8 = 45;
+
+// A tab and 0 or 1 at a place.
+pub(crate) fn flag_at(s: &[u8], at: usize) -> Flag
+    ensures { λ r. ⌜ flagAt (drop at (now (s .entry))) ≡ leadsFlag (now (s .entry)) r ⌝ }
+{
+    let Num::Good(v, next) = text::field_at(s, at, 1) else {
+        return Flag::Bad;
+    };
+    Flag::Good(v == 1, next)
+}
+
+// What follows a minus: a number that is not 0.
+fn minus_at(s: &[u8], at: usize) -> Signed
+    ensures { λ r. ⌜ ScansSigned (now (s .entry)) (minus (numberAt 2147483648 (drop at (now (s .entry))))) r ⌝ }
+{
+    let Num::Good(v, next) = text::number_at(s, at, 2147483648) else {
+        return Signed::Bad;
+    };
+    if v == 0 {
+        return Signed::Bad;
+    }
+    Signed::Good((0 - v as i64) as i32, next)
+}
+
+// A number without a minus.
+fn plus_at(s: &[u8], at: usize) -> Signed
+    ensures { λ r. ⌜ ScansSigned (now (s .entry)) (plus (numberAt 2147483647 (drop at (now (s .entry))))) r ⌝ }
+{
+    let Num::Good(v, next) = text::number_at(s, at, 2147483647) else {
+        return Signed::Bad;
+    };
+    Signed::Good(v as i32, next)
+}
+
+// A tab and a number that may begin with a minus, at a place.
+pub fn signed_at(s: &[u8], at: usize) -> Signed
+    ensures { λ r. ⌜ ScansSigned (now (s .entry)) (signedFieldAt (drop at (now (s .entry)))) r ⌝ }
+{
+    if text::byte_at(s, at) != TAB {
+        return Signed::Bad;
+    }
+    if text::byte_at(s, at + 1) == MINUS {
+        return minus_at(s, at + 2);
+    }
+    plus_at(s, at + 1)
+}
+
+// Whether a byte is a hexadecimal digit, in upper case.
+fn is_hex(b: u8) -> bool
+    ensures { λ r. ⌜ r ≡ isHex b ⌝ }
+{
+    if text::is_digit(b) {
+        return true;
+    }
+    if b < 65 {
+        return false;
+    }
+    b <= 70
+}
+
+// The value of a hexadecimal digit.
+fn hex_value(b: u8) -> u8
+    requires { ⌜ isHex b ≡ true ⌝ }
+    ensures { λ r. ⌜ (r ≡ hexValue b) × (r ≤ 15) ⌝ }
+{
+    if text::is_digit(b) { b - 48 } else { b - 55 }
+}
+
+// The bytes up to the next tab or the end, decoded into `out`.
+fn bytes_from(s: &[u8], at: usize, out: &mut [u8]) -> Bytes
+    requires { ⌜ length (now s) ≤ 2 * length (now out) ⌝ }
+    ensures { λ r. ⌜ Decodes (now (s .entry)) (bytesAt (drop at (now (s .entry)))) (leadingBytes (drop at (now (s .entry)))) (now (out .exit)) (now (out .entry)) r ⌝ }
+{
+    let mut p = at;
+    let mut n: usize = 0;
+    while p < s.len() {
+        let high = s[p];
+        if high == TAB {
+            return Bytes::Good(n, p);
+        }
+        let low = text::byte_at(s, p + 1);
+        if !is_hex(high) {
+            return Bytes::Bad;
+        }
+        if !is_hex(low) {
+            return Bytes::Bad;
+        }
+        out[n] = hex_value(high) * 16 + hex_value(low);
+        n += 1;
+        p += 2;
+    }
+    Bytes::Good(n, p)
+}
+
+// Whether two digits a byte, of `len` in all, have room in `room` bytes.
+fn has_room(len: usize, room: usize) -> bool
+    ensures { λ r. ⌜ r ≡ leb len (2 * room) ⌝ }
+{
+    if len <= room {
+        return true;
+    }
+    len - room <= room
+}
+
+// A tab and bytes at a place; where they have no room `out` is left as it was.
+pub(crate) fn bytes_at(s: &[u8], at: usize, out: &mut [u8]) -> Bytes
+    ensures { λ r. ⌜ Decodes (now (s .entry)) (pick (fits (now (s .entry)) (now (out .entry))) (bytesFieldAt (drop at (now (s .entry)))) bad) (bytesLeft (fits (now (s .entry)) (now (out .entry))) (drop at (now (s .entry)))) (now (out .exit)) (now (out .entry)) r ⌝ }
+{
+    if !has_room(s.len(), out.len()) {
+        return Bytes::Bad;
+    }
+    if text::byte_at(s, at) != TAB {
+        return Bytes::Bad;
+    }
+    bytes_from(s, at + 1, out)
+}
+
+// n numbers, a tab before each.
+pub(crate) fn numbers_at(s: &[u8], at: usize, n: usize) -> Numbers
+    requires { ⌜ n ≤ 17 ⌝ }
+    ensures { λ r. ⌜ Counts (now (s .entry)) n (numbersAt n (drop at (now (s .entry)))) r ⌝ }
+{
+    let mut values = [0u32; 17];
+    let mut k: usize = 0;
+    let mut p = at;
+    while k < n {
+        let Num::Good(v, next) = text::field_at(s, p, GREATEST) else {
+            return Numbers {
+                good: false,
+                next: 0,
+                values,
+            };
+        };
+        values[k] = v;
+        p = next;
+        k += 1;
+    }
+    Numbers {
+        good: true,
+        next: p,
+        values,
+    }
+}
+
+// The set of 17 values in the table's order.
+fn set_of(v: [u32; 17]) -> Settings
+    ensures { λ r. ⌜ r ≡ setOf v ⌝ }
+{
+    Settings {
+        algorithm: v[0],
+        capacity: v[1],
+        dose: v[2],
+        pc: v[3],
+        pf: v[4],
+        level: v[5],
+        p7: v[6],
+        p8: v[7],
+        p9: v[8],
+        p11: v[9],
+        o: v[10],
+        in1: v[11],
+        in2: v[12],
+        in3: v[13],
+        address: v[14],
+        serial: v[15],
+        point: v[16],
+    }
+}
+
+// A set at a place.
+pub(crate) fn set_at(s: &[u8], at: usize) -> Set
+    ensures { λ r. ⌜ setAt (drop at (now (s .entry))) ≡ leadsSet (now (s .entry)) r ⌝ }
+{
+    let numbers = numbers_at(s, at, 17);
+    if !numbers.good {
+        return Set::Bad;
+    }
+    let values = numbers.values;
+    Set::Good(set_of(values), numbers.next)
+}
