@@ -102,7 +102,8 @@ impl Controller {
     pub fn counters(self) -> Counters
         ensures { λ r. ⌜ r ≡ self .counters ⌝ }
     {
-        self.counters
+        let kept = self.counters;
+        kept
     }
 
     // Sets or clears the link start, at any time.
