@@ -199,6 +199,10 @@ abbrev pub Each : (Line → Type 0) → List Line → Type 0
 Each P [] = Unit
 Each P (l ∷ ls) = P l × Each P ls
 
+pub each-map : {P Q : Line → Type 0} (ls : List Line) → ((l : Line) → P l → Q l) → Each P ls → Each Q ls
+each-map [] f e = tt
+each-map (l ∷ ls) f e = (f l (e .0), each-map ls f (e .1))
+
 -- the bytes are the lines' text
 reads-text : {p : Past} {s : List ℕ} {ls : List Line} → Reads p s ls → s ≡ journalText ls
 unfolding journalText

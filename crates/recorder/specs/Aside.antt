@@ -30,7 +30,7 @@ use Rattle.controller.specs.Line.{Replied, requestOf}
 use Rattle.calls.specs.Call.{Call, tick, link, settings, reset, counters, restart, request, writeFrame, readFrame, writeField, readField, writeLine, readLine, hour, hours, letterOf, callOf}
 use Rattle.answers.specs.Text.{lineText, refusedText}
 use Rattle.script.specs.Answer.{recordText, tickText, doneText, requestText, answered, onCall}
-use Rattle.tools.specs.Answer.{filledText, frameText, fieldText, weightText, oneText, readLineText, kindText, hourText, hoursText}
+use Rattle.tools.specs.Answer.{filledText, frameText, fieldText, weightText, oneText, readLineText, kindText, hourText, hoursText, toolText}
 use Rattle.calls.specs.Letters.{Under, none, asks, line-under}
 use Rattle.recorder.specs.Recording.{heardCall, heardOf}
 use Rattle.recorder.specs.declared.Heard.{Heard}
@@ -133,7 +133,7 @@ hours-ask room (fault n vs) = filled-asks [] room (fault n vs)
 
 -- no call is answered ?
 pub call-answered : (c : Controller) (call : Call) → questioned (answered c call .text) ≡ false
-unfolding answered
+unfolding answered toolText
 call-answered c (tick x i) = tick-asks (tickOf c x i .answer)
 call-answered c (link on) = letter-asks 65 []
 call-answered c (settings set) = done-asks (settingsOf c set .answer)

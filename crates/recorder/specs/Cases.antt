@@ -10,7 +10,7 @@ use Rattle.paper.specs.Answer.{Answer, done, refused, fault, onDone}
 use Rattle.settings.specs.Table.{firstBad, firstFrom, table, leastLevel, mostLevel, defaultSet, Wc, Wf}
 use Rattle.settings.specs.Table as ranges
 use Rattle.settings.specs.Cases.{setOf}
-use Rattle.window.specs.Mean.{meanOf, roundAway, nearest, sum}
+use Rattle.window.specs.Mean.{meanOf, roundAway, halfUp, sumOf}
 use Rattle.window.specs.Window.{samplesOf, pushOf, emptyWindow}
 use Rattle.dosing.specs.Rules.{units, stepOf, ready, readyToFill, readyToDose, waits, zeroed, nearZero, fillBegins, coarseStage, fineStage, fill, full, hold, settle, settleEnds, dischargeOpens, discharge, amountOf, load, calm, doseCoarse, doseFine, doseSettle, reachedWf, reachedWc, notBelowZero}
 use Rattle.dosing.specs.declared.Phase.the-variants.{Discharge}
@@ -87,7 +87,7 @@ pub ticks-counted :
     × (leaves (noteOf (at freshOf 5 1 true) (84 ∷ 9 ∷ 48 ∷ 9 ∷ 49 ∷ 54 ∷ [])) ≡ left Recording 5 1 true [])
     × (leaves (noteOf (at freshOf 5 449999 true) (84 ∷ 9 ∷ 48 ∷ 9 ∷ 49 ∷ 54 ∷ [])) ≡ left Recording 5 449999 true [])
     × (leaves (noteOf (at freshOf 5 1 true) (76 ∷ 9 ∷ 49 ∷ [])) ≡ left Recording 5 1 true [])
-unfolding noteOf noteBy recorded answerTo onCall answered kept tooLong heardIn heardOf heardCall heardTick heardDoses heardRestart heardBy counted oneMore refuse nextHour closing doseIn withBox withStage withHour withTicks withWhole journalText textOf fieldsText refusedText valuesText lineText numberText decimal digitsOf glyph pick callOf atEnd callBy tickAt linkAt flagField restartAt setField setOf numbersField signedField signedAt plus minus numberField expect onGood numberAt digitsFrom isDigit restartOf onDone firstBad firstFrom table ranges.inRange leastLevel mostLevel storedBad tickOf step2 step3 steps4and5 steps6to8 mismatched runsAfter runAfter expected xor step7 step8 seenOf wOf stableOf filterOf equalZ none calmRun ticks.startOf outside faulted saysFault outputsOf worth input overCapacity changed countersAfter countedOf recordsOf stepOf ready readyToFill readyToDose waits zeroed nearZero fillBegins coarseStage fineStage fill full hold settle settleEnds dischargeOpens discharge amountOf load calm doseCoarse doseFine doseSettle reachedWf reachedWc notBelowZero Wc Wf samplesOf pushOf emptyWindow meanOf roundAway nearest sum freshOf restarted defaultSet
+unfolding noteOf noteBy recorded answerTo onCall answered kept tooLong heardIn heardOf heardCall heardTick heardDoses heardRestart heardBy counted oneMore refuse nextHour closing doseIn withBox withStage withHour withTicks withWhole journalText textOf fieldsText refusedText valuesText lineText numberText decimal digitsOf glyph pick callOf atEnd callBy tickAt linkAt flagField restartAt setField setOf numbersField signedField signedAt plus minus numberField expect onGood numberAt digitsFrom isDigit restartOf onDone firstBad firstFrom table ranges.inRange leastLevel mostLevel storedBad tickOf step2 step3 steps4and5 steps6to8 mismatched runsAfter runAfter expected xor step7 step8 seenOf wOf stableOf filterOf equalZ none calmRun ticks.startOf outside faulted saysFault outputsOf worth input overCapacity changed countersAfter countedOf recordsOf stepOf ready readyToFill readyToDose waits zeroed nearZero fillBegins coarseStage fineStage fill full hold settle settleEnds dischargeOpens discharge amountOf load calm doseCoarse doseFine doseSettle reachedWf reachedWc notBelowZero Wc Wf samplesOf pushOf emptyWindow meanOf roundAway halfUp sumOf freshOf restarted defaultSet
 ticks-counted = (refl, refl, refl, refl, refl, refl)
 
 -- a restart before the first tick of an hour or after its last changes nothing, one among its ticks breaks the hour, a refused one does not; a line that is no call breaks it at any place
@@ -100,14 +100,14 @@ pub hours-broken :
     × (leaves (noteOf (at freshOf 5 1 true) refusedRestart) ≡ left Recording 5 1 true [])
     × (leaves (noteOf (at freshOf 5 0 true) (84 ∷ 9 ∷ 48 ∷ [])) ≡ left Recording 5 0 false [])
     × (leaves (noteOf (at freshOf 5 1 true) ([])) ≡ left Recording 5 1 false [])
-unfolding noteOf noteBy recorded answerTo onCall answered kept tooLong heardIn heardOf heardCall heardTick heardDoses heardRestart heardBy counted oneMore refuse nextHour closing doseIn withBox withStage withHour withTicks withWhole journalText textOf fieldsText refusedText valuesText lineText numberText decimal digitsOf glyph pick callOf atEnd callBy tickAt linkAt flagField restartAt setField setOf numbersField signedField signedAt plus minus numberField expect onGood numberAt digitsFrom isDigit restartOf onDone firstBad firstFrom table ranges.inRange leastLevel mostLevel storedBad tickOf step2 step3 steps4and5 steps6to8 mismatched runsAfter runAfter expected xor step7 step8 seenOf wOf stableOf filterOf equalZ none calmRun ticks.startOf outside faulted saysFault outputsOf worth input overCapacity changed countersAfter countedOf recordsOf stepOf ready readyToFill readyToDose waits zeroed nearZero fillBegins coarseStage fineStage fill full hold settle settleEnds dischargeOpens discharge amountOf load calm doseCoarse doseFine doseSettle reachedWf reachedWc notBelowZero Wc Wf samplesOf pushOf emptyWindow meanOf roundAway nearest sum freshOf restarted defaultSet
+unfolding noteOf noteBy recorded answerTo onCall answered kept tooLong heardIn heardOf heardCall heardTick heardDoses heardRestart heardBy counted oneMore refuse nextHour closing doseIn withBox withStage withHour withTicks withWhole journalText textOf fieldsText refusedText valuesText lineText numberText decimal digitsOf glyph pick callOf atEnd callBy tickAt linkAt flagField restartAt setField setOf numbersField signedField signedAt plus minus numberField expect onGood numberAt digitsFrom isDigit restartOf onDone firstBad firstFrom table ranges.inRange leastLevel mostLevel storedBad tickOf step2 step3 steps4and5 steps6to8 mismatched runsAfter runAfter expected xor step7 step8 seenOf wOf stableOf filterOf equalZ none calmRun ticks.startOf outside faulted saysFault outputsOf worth input overCapacity changed countersAfter countedOf recordsOf stepOf ready readyToFill readyToDose waits zeroed nearZero fillBegins coarseStage fineStage fill full hold settle settleEnds dischargeOpens discharge amountOf load calm doseCoarse doseFine doseSettle reachedWf reachedWc notBelowZero Wc Wf samplesOf pushOf emptyWindow meanOf roundAway halfUp sumOf freshOf restarted defaultSet
 hours-broken = (refl, refl, refl, refl, refl, refl, refl, refl)
 
 -- the restart is made, and a refused one leaves the controller
 pub restarts-made :
     (noteOf (at freshOf 5 0 true) restartLine .next .controller .counters .count ≡ 7)
     × (noteOf (at freshOf 5 1 true) refusedRestart .next .controller .counters .count ≡ 0)
-unfolding noteOf noteBy recorded answerTo onCall answered kept tooLong heardIn heardOf heardCall heardTick heardDoses heardRestart heardBy counted oneMore refuse nextHour closing doseIn withBox withStage withHour withTicks withWhole journalText textOf fieldsText refusedText valuesText lineText numberText decimal digitsOf glyph pick callOf atEnd callBy tickAt linkAt flagField restartAt setField setOf numbersField signedField signedAt plus minus numberField expect onGood numberAt digitsFrom isDigit restartOf onDone firstBad firstFrom table ranges.inRange leastLevel mostLevel storedBad tickOf step2 step3 steps4and5 steps6to8 mismatched runsAfter runAfter expected xor step7 step8 seenOf wOf stableOf filterOf equalZ none calmRun ticks.startOf outside faulted saysFault outputsOf worth input overCapacity changed countersAfter countedOf recordsOf stepOf ready readyToFill readyToDose waits zeroed nearZero fillBegins coarseStage fineStage fill full hold settle settleEnds dischargeOpens discharge amountOf load calm doseCoarse doseFine doseSettle reachedWf reachedWc notBelowZero Wc Wf samplesOf pushOf emptyWindow meanOf roundAway nearest sum freshOf restarted defaultSet
+unfolding noteOf noteBy recorded answerTo onCall answered kept tooLong heardIn heardOf heardCall heardTick heardDoses heardRestart heardBy counted oneMore refuse nextHour closing doseIn withBox withStage withHour withTicks withWhole journalText textOf fieldsText refusedText valuesText lineText numberText decimal digitsOf glyph pick callOf atEnd callBy tickAt linkAt flagField restartAt setField setOf numbersField signedField signedAt plus minus numberField expect onGood numberAt digitsFrom isDigit restartOf onDone firstBad firstFrom table ranges.inRange leastLevel mostLevel storedBad tickOf step2 step3 steps4and5 steps6to8 mismatched runsAfter runAfter expected xor step7 step8 seenOf wOf stableOf filterOf equalZ none calmRun ticks.startOf outside faulted saysFault outputsOf worth input overCapacity changed countersAfter countedOf recordsOf stepOf ready readyToFill readyToDose waits zeroed nearZero fillBegins coarseStage fineStage fill full hold settle settleEnds dischargeOpens discharge amountOf load calm doseCoarse doseFine doseSettle reachedWf reachedWc notBelowZero Wc Wf samplesOf pushOf emptyWindow meanOf roundAway halfUp sumOf freshOf restarted defaultSet
 restarts-made = (refl, refl)
 
 -- a dose is written with the hour of its tick; the last tick of an hour writes its H, after its D, where nothing of the hour was missed; then the next hour begins
@@ -118,7 +118,7 @@ pub hours-closed :
     × (leaves (noteOf (at nearlyDone 5 449999 true) (84 ∷ 9 ∷ 48 ∷ 9 ∷ 55 ∷ [])) ≡ left Recording 6 0 true (68 ∷ 9 ∷ 53 ∷ 9 ∷ 56 ∷ 9 ∷ 52 ∷ 56 ∷ 48 ∷ 9 ∷ 49 ∷ 10 ∷ 72 ∷ 9 ∷ 53 ∷ 10 ∷ []))
     × (leaves (noteOf (at nearlyDone 5 449999 false) (84 ∷ 9 ∷ 48 ∷ 9 ∷ 55 ∷ [])) ≡ left Recording 6 0 true (68 ∷ 9 ∷ 53 ∷ 9 ∷ 56 ∷ 9 ∷ 52 ∷ 56 ∷ 48 ∷ 9 ∷ 49 ∷ 10 ∷ []))
     × (leaves (noteOf (at freshOf 5 449999 false) (84 ∷ 9 ∷ 48 ∷ 9 ∷ 48 ∷ [])) ≡ left Recording 6 0 true [])
-unfolding noteOf noteBy recorded answerTo onCall answered kept tooLong heardIn heardOf heardCall heardTick heardDoses heardRestart heardBy counted oneMore refuse nextHour closing doseIn withBox withStage withHour withTicks withWhole journalText textOf fieldsText refusedText valuesText lineText numberText decimal digitsOf glyph pick callOf atEnd callBy tickAt linkAt flagField restartAt setField setOf numbersField signedField signedAt plus minus numberField expect onGood numberAt digitsFrom isDigit restartOf onDone firstBad firstFrom table ranges.inRange leastLevel mostLevel storedBad tickOf step2 step3 steps4and5 steps6to8 mismatched runsAfter runAfter expected xor step7 step8 seenOf wOf stableOf filterOf equalZ none calmRun ticks.startOf outside faulted saysFault outputsOf worth input overCapacity changed countersAfter countedOf recordsOf stepOf ready readyToFill readyToDose waits zeroed nearZero fillBegins coarseStage fineStage fill full hold settle settleEnds dischargeOpens discharge amountOf load calm doseCoarse doseFine doseSettle reachedWf reachedWc notBelowZero Wc Wf samplesOf pushOf emptyWindow meanOf roundAway nearest sum freshOf restarted defaultSet
+unfolding noteOf noteBy recorded answerTo onCall answered kept tooLong heardIn heardOf heardCall heardTick heardDoses heardRestart heardBy counted oneMore refuse nextHour closing doseIn withBox withStage withHour withTicks withWhole journalText textOf fieldsText refusedText valuesText lineText numberText decimal digitsOf glyph pick callOf atEnd callBy tickAt linkAt flagField restartAt setField setOf numbersField signedField signedAt plus minus numberField expect onGood numberAt digitsFrom isDigit restartOf onDone firstBad firstFrom table ranges.inRange leastLevel mostLevel storedBad tickOf step2 step3 steps4and5 steps6to8 mismatched runsAfter runAfter expected xor step7 step8 seenOf wOf stableOf filterOf equalZ none calmRun ticks.startOf outside faulted saysFault outputsOf worth input overCapacity changed countersAfter countedOf recordsOf stepOf ready readyToFill readyToDose waits zeroed nearZero fillBegins coarseStage fineStage fill full hold settle settleEnds dischargeOpens discharge amountOf load calm doseCoarse doseFine doseSettle reachedWf reachedWc notBelowZero Wc Wf samplesOf pushOf emptyWindow meanOf roundAway halfUp sumOf freshOf restarted defaultSet
 hours-closed = (refl, refl, refl, refl, refl, refl)
 
 -- hour 9,999,999 is written; the first tick above it is R10 with line 0, and then nothing more; a call that is no counted tick is not
@@ -128,7 +128,7 @@ pub hours-end :
     × (leaves (noteOf (at nearlyDone 10000000 0 true) (84 ∷ 9 ∷ 48 ∷ 9 ∷ 55 ∷ [])) ≡ left Over 10000000 0 true (82 ∷ 9 ∷ 49 ∷ 48 ∷ 9 ∷ 48 ∷ 10 ∷ []))
     × (leaves (noteOf (at freshOf 10000000 0 true) (84 ∷ 9 ∷ 48 ∷ 9 ∷ 49 ∷ 54 ∷ [])) ≡ left Recording 10000000 0 true [])
     × (noteOf (record { controller = freshOf; stage = Over; hour = 5; ticks = 449999; whole = true }) (84 ∷ 9 ∷ 48 ∷ 9 ∷ 48 ∷ []) .text ≡ [])
-unfolding noteOf noteBy recorded answerTo onCall answered kept tooLong heardIn heardOf heardCall heardTick heardDoses heardRestart heardBy counted oneMore refuse nextHour closing doseIn withBox withStage withHour withTicks withWhole journalText textOf fieldsText refusedText valuesText lineText numberText decimal digitsOf glyph pick callOf atEnd callBy tickAt linkAt flagField restartAt setField setOf numbersField signedField signedAt plus minus numberField expect onGood numberAt digitsFrom isDigit restartOf onDone firstBad firstFrom table ranges.inRange leastLevel mostLevel storedBad tickOf step2 step3 steps4and5 steps6to8 mismatched runsAfter runAfter expected xor step7 step8 seenOf wOf stableOf filterOf equalZ none calmRun ticks.startOf outside faulted saysFault outputsOf worth input overCapacity changed countersAfter countedOf recordsOf stepOf ready readyToFill readyToDose waits zeroed nearZero fillBegins coarseStage fineStage fill full hold settle settleEnds dischargeOpens discharge amountOf load calm doseCoarse doseFine doseSettle reachedWf reachedWc notBelowZero Wc Wf samplesOf pushOf emptyWindow meanOf roundAway nearest sum freshOf restarted defaultSet
+unfolding noteOf noteBy recorded answerTo onCall answered kept tooLong heardIn heardOf heardCall heardTick heardDoses heardRestart heardBy counted oneMore refuse nextHour closing doseIn withBox withStage withHour withTicks withWhole journalText textOf fieldsText refusedText valuesText lineText numberText decimal digitsOf glyph pick callOf atEnd callBy tickAt linkAt flagField restartAt setField setOf numbersField signedField signedAt plus minus numberField expect onGood numberAt digitsFrom isDigit restartOf onDone firstBad firstFrom table ranges.inRange leastLevel mostLevel storedBad tickOf step2 step3 steps4and5 steps6to8 mismatched runsAfter runAfter expected xor step7 step8 seenOf wOf stableOf filterOf equalZ none calmRun ticks.startOf outside faulted saysFault outputsOf worth input overCapacity changed countersAfter countedOf recordsOf stepOf ready readyToFill readyToDose waits zeroed nearZero fillBegins coarseStage fineStage fill full hold settle settleEnds dischargeOpens discharge amountOf load calm doseCoarse doseFine doseSettle reachedWf reachedWc notBelowZero Wc Wf samplesOf pushOf emptyWindow meanOf roundAway halfUp sumOf freshOf restarted defaultSet
 hours-end = (refl, refl, refl, refl, refl)
 
 -- whole inputs: a first line, calls and a begun line; nothing after a bad first line; no LF, no line
@@ -138,5 +138,5 @@ pub inputs :
     × (recordOf (10 ∷ []) ≡ 82 ∷ 9 ∷ 49 ∷ 48 ∷ 9 ∷ 49 ∷ 10 ∷ [])
     × (recordOf (55 ∷ []) ≡ [])
     × (recordOf [] ≡ [])
-unfolding noteOf noteBy recorded answerTo onCall answered kept tooLong heardIn heardOf heardCall heardTick heardDoses heardRestart heardBy counted oneMore refuse nextHour closing doseIn withBox withStage withHour withTicks withWhole journalText textOf fieldsText refusedText valuesText lineText numberText decimal digitsOf glyph pick callOf atEnd callBy tickAt linkAt flagField restartAt setField setOf numbersField signedField signedAt plus minus numberField expect onGood numberAt digitsFrom isDigit restartOf onDone firstBad firstFrom table ranges.inRange leastLevel mostLevel storedBad tickOf step2 step3 steps4and5 steps6to8 mismatched runsAfter runAfter expected xor step7 step8 seenOf wOf stableOf filterOf equalZ none calmRun ticks.startOf outside faulted saysFault outputsOf worth input overCapacity changed countersAfter countedOf recordsOf stepOf ready readyToFill readyToDose waits zeroed nearZero fillBegins coarseStage fineStage fill full hold settle settleEnds dischargeOpens discharge amountOf load calm doseCoarse doseFine doseSettle reachedWf reachedWc notBelowZero Wc Wf samplesOf pushOf emptyWindow meanOf roundAway nearest sum freshOf restarted defaultSet recordOf saidTo linesFrom startOf firstOf
+unfolding noteOf noteBy recorded answerTo onCall answered kept tooLong heardIn heardOf heardCall heardTick heardDoses heardRestart heardBy counted oneMore refuse nextHour closing doseIn withBox withStage withHour withTicks withWhole journalText textOf fieldsText refusedText valuesText lineText numberText decimal digitsOf glyph pick callOf atEnd callBy tickAt linkAt flagField restartAt setField setOf numbersField signedField signedAt plus minus numberField expect onGood numberAt digitsFrom isDigit restartOf onDone firstBad firstFrom table ranges.inRange leastLevel mostLevel storedBad tickOf step2 step3 steps4and5 steps6to8 mismatched runsAfter runAfter expected xor step7 step8 seenOf wOf stableOf filterOf equalZ none calmRun ticks.startOf outside faulted saysFault outputsOf worth input overCapacity changed countersAfter countedOf recordsOf stepOf ready readyToFill readyToDose waits zeroed nearZero fillBegins coarseStage fineStage fill full hold settle settleEnds dischargeOpens discharge amountOf load calm doseCoarse doseFine doseSettle reachedWf reachedWc notBelowZero Wc Wf samplesOf pushOf emptyWindow meanOf roundAway halfUp sumOf freshOf restarted defaultSet recordOf saidTo linesFrom startOf firstOf
 inputs = (refl, refl, refl, refl, refl)
