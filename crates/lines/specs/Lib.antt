@@ -3,3 +3,4 @@ pub mod Places
 pub mod Blocks
 pub mod Going
 pub mod Fed
+pub mod Cases
