@@ -132,6 +132,9 @@ pub record Carries (from to : ℕ) (old new : List ℕ) (r : ℕ) : Type 0 where
   pub left : new ≡ over (partOf from to old) old
 
 -- two results that both meet the contract are equal
+pub end-determined : (block : List ℕ) (at : ℕ) {r s : ℕ} → r ≡ endOf block at → s ≡ endOf block at → r ≡ s
+end-determined block at p q = same p q
+
 pub carry-determined : {from to r s : ℕ} {old new new' : List ℕ} → Carries from to old new r → Carries from to old new' s → (r ≡ s) × (new ≡ new')
 carry-determined p q = (same (p .len) (q .len), same (p .left) (q .left))
 
