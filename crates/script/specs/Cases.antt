@@ -1,86 +1,171 @@
--- What lines ask, and answers, run on bytes. Assumes nothing.
+-- The answers of the box, run on bytes. Assumes nothing.
 use mathlib.Core.Path.{_≡_, refl}
 use mathlib.Core.Bool.{true, false}
-use mathlib.Core.List.{[], _∷_}
+use mathlib.Core.List.{List, [], _∷_, _++_}
 use Prim.Native.Nat.{ℕ}
-use lib.IntN.{negsuc}
+use lib.IntN.{pos}
+use lib.ListN.{replicate}
 use Rattle.laws.specs.Pick.{pick}
 use Rattle.laws.specs.Over.{over}
-use Rattle.laws.specs.Decimal.{good, bad, numberAt, digitsFrom, isDigit, decimal, digitsOf, glyph, hexOf}
+use Rattle.laws.specs.Decimal.{good, bad, decimal, digitsOf, glyph, hexOf}
 use Rattle.paper.specs.Answer.{done, refused, fault, leaves}
-use Rattle.field.specs.Field.{four, weight}
-use Rattle.journal.specs.declared.Line.the-variants.{Dose, On}
-use Rattle.text.specs.Scan.{expect, onGood}
-use Rattle.calls.specs.Call.{toolBy, tick, link, reset, counters, request, writeFrame, readFrame, writeField, readField, writeLine, readLine, hour, numberField, flagField, minus, plus, signedAt, signedField, isHex, hexValue, bytesAt, bytesField, numbersField, setField, fieldFrom, tickAt, linkAt, settingsAt, restartAt, roomAt, bytesCall, writeFieldAt, readFieldAt, doseAt, onAt, hourAt, callBy, atEnd, callOf}
-use Rattle.answers.specs.Text.{numberText, signedText, flagText, bytesText, lineText, valuesText, refusedText, lineNamed}
-use Rattle.tools.specs.Answer.{filledText, frameText, fieldText, weightText, oneText, readLineText, hourText, journalNamed, hoursText}
-use Rattle.script.specs.Answer.{recordText, tickText, doneText, requestText}
+use Rattle.settings.specs.Cases.{setOf}
+use Rattle.window.specs.Window.{samplesOf}
+use Rattle.lines.specs.Lines.{tooLong}
+use Rattle.answers.specs.Text.{numberText, flagText, bytesText, lineText, valuesText, refusedText, lineNamed}
+use Rattle.calls.specs.Call.{request, letterOf}
+use Rattle.calls.specs.Cases.{readings}
+use Rattle.tools.specs.Answer.{filledText}
+use Rattle.controller.specs.declared.Controller.{Controller}
+use Rattle.controller.specs.declared.TickAnswer.the-variants as T
+use Rattle.controller.specs.State.{restarted}
+use Rattle.controller.specs.Calls.{freshOf, linkOf}
+use Rattle.controller.specs.Line.{requestOf}
+use Rattle.controller.specs.Cases.{rules}
+use Rattle.script.specs.Answer.{Step, recordText, tickText, doneText, requestText, kept, answered, onCall, answerTo, asked, asksTick, asideBy}
+use Rattle.script.specs.Steps.{asideIn, tickIn}
+use Rattle.script.specs.Reply.{replyText}
 
--- the box's own calls; a leading zero, -0, a plus, a value out of range, a field too many or too few are no calls
-pub box-calls :
-    (callOf (84 ∷ 9 ∷ 45 ∷ 53 ∷ 9 ∷ 56 ∷ []) ≡ good (tick (negsuc 4) 8) [])
-    × (callOf (84 ∷ 9 ∷ 45 ∷ 50 ∷ 49 ∷ 52 ∷ 55 ∷ 52 ∷ 56 ∷ 51 ∷ 54 ∷ 52 ∷ 56 ∷ 9 ∷ 50 ∷ 53 ∷ 53 ∷ []) ≡ good (tick (negsuc 2147483647) 255) [])
-    × (callOf (84 ∷ 9 ∷ 50 ∷ 49 ∷ 52 ∷ 55 ∷ 52 ∷ 56 ∷ 51 ∷ 54 ∷ 52 ∷ 56 ∷ 9 ∷ 48 ∷ []) ≡ bad)
-    × (callOf (84 ∷ 9 ∷ 45 ∷ 48 ∷ 9 ∷ 48 ∷ []) ≡ bad)
-    × (callOf (84 ∷ 9 ∷ 48 ∷ 53 ∷ 9 ∷ 48 ∷ []) ≡ bad)
-    × (callOf (84 ∷ 9 ∷ 43 ∷ 53 ∷ 9 ∷ 48 ∷ []) ≡ bad)
-    × (callOf (84 ∷ 9 ∷ 53 ∷ 9 ∷ 50 ∷ 53 ∷ 54 ∷ []) ≡ bad)
-    × (callOf (84 ∷ 9 ∷ 53 ∷ 9 ∷ 56 ∷ 9 ∷ []) ≡ bad)
-    × (callOf (84 ∷ 9 ∷ 53 ∷ []) ≡ bad)
-    × (callOf (76 ∷ 9 ∷ 49 ∷ []) ≡ good (link true) [])
-    × (callOf (76 ∷ 9 ∷ 50 ∷ []) ≡ bad)
-    × (callOf (67 ∷ []) ≡ good reset [])
-    × (callOf (67 ∷ 9 ∷ []) ≡ bad)
-    × (callOf (81 ∷ []) ≡ good counters [])
-    × (callOf ([]) ≡ bad)
-    × (callOf (116 ∷ 9 ∷ 53 ∷ 9 ∷ 56 ∷ []) ≡ bad)
-unfolding callOf atEnd callBy toolBy tickAt linkAt settingsAt restartAt roomAt bytesCall writeFieldAt readFieldAt doseAt onAt hourAt fieldFrom setField numbersField bytesField bytesAt hexValue isHex signedField signedAt plus minus flagField numberField expect onGood numberAt digitsFrom isDigit pick
-box-calls = (refl, refl, refl, refl, refl, refl, refl, refl, refl, refl, refl, refl, refl, refl, refl, refl)
+-- to unfold this is to unfold every rule of an answer's text
+unfoldable pub texts : Unit {0}
+unfolding tickText recordText doneText requestText filledText replyText lineNamed refusedText valuesText lineText bytesText flagText numberText decimal digitsOf glyph hexOf leaves over pick
+texts = tt
 
--- bytes; the calls with buffers, and those of the writers and readers
-pub tool-calls :
-    (callOf (88 ∷ 9 ∷ []) ≡ good (readFrame []) [])
-    × (callOf (88 ∷ []) ≡ bad)
-    × (callOf (88 ∷ 9 ∷ 70 ∷ 70 ∷ 48 ∷ 65 ∷ []) ≡ good (readFrame (255 ∷ 10 ∷ [])) [])
-    × (callOf (88 ∷ 9 ∷ 70 ∷ 102 ∷ []) ≡ bad)
-    × (callOf (88 ∷ 9 ∷ 70 ∷ []) ≡ bad)
-    × (callOf (66 ∷ 9 ∷ 9 ∷ 54 ∷ 52 ∷ []) ≡ good (request [] 64) [])
-    × (callOf (66 ∷ 9 ∷ 9 ∷ 54 ∷ 53 ∷ []) ≡ bad)
-    × (callOf (87 ∷ 9 ∷ 48 ∷ 49 ∷ 67 ∷ 51 ∷ 9 ∷ 54 ∷ 48 ∷ 48 ∷ []) ≡ good (writeFrame (1 ∷ 195 ∷ []) 600) [])
-    × (callOf (106 ∷ 9 ∷ 9 ∷ 50 ∷ 48 ∷ 48 ∷ 49 ∷ []) ≡ bad)
-    × (callOf (71 ∷ 9 ∷ 45 ∷ 53 ∷ 9 ∷ 49 ∷ 9 ∷ 48 ∷ 9 ∷ 50 ∷ 53 ∷ 53 ∷ []) ≡ good (writeField (weight (negsuc 4) true false 255)) [])
-    × (callOf (71 ∷ 9 ∷ 53 ∷ 9 ∷ 50 ∷ 9 ∷ 48 ∷ 9 ∷ 49 ∷ []) ≡ bad)
-    × (callOf (75 ∷ 9 ∷ 48 ∷ 53 ∷ 48 ∷ 48 ∷ 48 ∷ 48 ∷ 57 ∷ 49 ∷ []) ≡ good (readField (four 5 0 0 145)) [])
-    × (callOf (75 ∷ 9 ∷ 48 ∷ 53 ∷ 48 ∷ 48 ∷ 48 ∷ 48 ∷ []) ≡ bad)
-    × (callOf (68 ∷ 9 ∷ 49 ∷ 9 ∷ 50 ∷ 9 ∷ 51 ∷ 9 ∷ 52 ∷ 9 ∷ 54 ∷ 52 ∷ []) ≡ good (writeLine (Dose 1 2 3 4) 64) [])
-    × (callOf (68 ∷ 9 ∷ 49 ∷ 9 ∷ 50 ∷ 9 ∷ 51 ∷ 9 ∷ 52 ∷ 50 ∷ 57 ∷ 52 ∷ 57 ∷ 54 ∷ 55 ∷ 50 ∷ 57 ∷ 54 ∷ 9 ∷ 54 ∷ 52 ∷ []) ≡ bad)
-    × (callOf (72 ∷ 9 ∷ 52 ∷ 50 ∷ 57 ∷ 52 ∷ 57 ∷ 54 ∷ 55 ∷ 50 ∷ 57 ∷ 53 ∷ 9 ∷ 48 ∷ []) ≡ good (writeLine (On 4294967295) 0) [])
-    × (callOf (108 ∷ 9 ∷ 52 ∷ 56 ∷ 48 ∷ 65 ∷ []) ≡ good (readLine (72 ∷ 10 ∷ [])) [])
-    × (callOf (117 ∷ 9 ∷ 9 ∷ 55 ∷ []) ≡ good (hour [] 7) [])
-unfolding callOf atEnd callBy toolBy tickAt linkAt settingsAt restartAt roomAt bytesCall writeFieldAt readFieldAt doseAt onAt hourAt fieldFrom setField numbersField bytesField bytesAt hexValue isHex signedField signedAt plus minus flagField numberField expect onGood numberAt digitsFrom isDigit pick
-tool-calls = (refl, refl, refl, refl, refl, refl, refl, refl, refl, refl, refl, refl, refl, refl, refl, refl, refl, refl)
+-- and this, every rule of a call of the box
+unfoldable pub boxCalls : Unit {0}
+unfolding texts readings rules answerTo onCall answered asked kept tooLong
+boxCalls = tt
 
--- the answers
-pub answers :
+-- O outputs; D outputs count amount settled; F number channel, 0 for F21; R1
+pub ticks-shown :
     (tickText (done (record { outputs = 5; doses = [] })) ≡ 79 ∷ 9 ∷ 53 ∷ 10 ∷ [])
     × (tickText (done (record { outputs = 12; doses = record { count = 7; amount = 480; settled = true } ∷ [] })) ≡ 68 ∷ 9 ∷ 49 ∷ 50 ∷ 9 ∷ 55 ∷ 9 ∷ 52 ∷ 56 ∷ 48 ∷ 9 ∷ 49 ∷ 10 ∷ [])
+    × (tickText (done (record { outputs = 0; doses = record { count = 999999; amount = 3; settled = false } ∷ [] })) ≡ 68 ∷ 9 ∷ 48 ∷ 9 ∷ 57 ∷ 57 ∷ 57 ∷ 57 ∷ 57 ∷ 57 ∷ 9 ∷ 51 ∷ 9 ∷ 48 ∷ 10 ∷ [])
     × (tickText (refused 1 []) ≡ 82 ∷ 9 ∷ 49 ∷ 10 ∷ [])
     × (tickText (fault 14 (2 ∷ [])) ≡ 70 ∷ 9 ∷ 49 ∷ 52 ∷ 9 ∷ 50 ∷ 10 ∷ [])
     × (tickText (fault 21 []) ≡ 70 ∷ 9 ∷ 50 ∷ 49 ∷ 9 ∷ 48 ∷ 10 ∷ [])
-    × (doneText {X = ℕ} (done 0) ≡ 65 ∷ 10 ∷ [])
+unfolding texts
+ticks-shown = (refl, refl, refl, refl, refl, refl)
+
+-- A, or the refusal with the row that it names
+pub calls-shown :
+    (doneText {X = ℕ} (done 0) ≡ 65 ∷ 10 ∷ [])
+    × (doneText {X = ℕ} (refused 3 []) ≡ 82 ∷ 9 ∷ 51 ∷ 10 ∷ [])
     × (doneText {X = ℕ} (refused 2 (17 ∷ [])) ≡ 82 ∷ 9 ∷ 50 ∷ 9 ∷ 49 ∷ 55 ∷ 10 ∷ [])
-    × (filledText [] 3 (done (1 ∷ 255 ∷ [])) ≡ 80 ∷ 9 ∷ 50 ∷ 9 ∷ 48 ∷ 49 ∷ 70 ∷ 70 ∷ 65 ∷ 53 ∷ 10 ∷ [])
-    × (filledText [] 2 (refused 14 []) ≡ 82 ∷ 9 ∷ 49 ∷ 52 ∷ 9 ∷ 65 ∷ 53 ∷ 65 ∷ 53 ∷ 10 ∷ [])
-    × (filledText [] 0 (refused 10 (0 ∷ [])) ≡ 82 ∷ 9 ∷ 49 ∷ 48 ∷ 9 ∷ 48 ∷ 9 ∷ 10 ∷ [])
-    × (requestText 2 (done (record { place = 4; bytes = 170 ∷ [] })) ≡ 80 ∷ 9 ∷ 52 ∷ 9 ∷ 49 ∷ 9 ∷ 65 ∷ 65 ∷ 65 ∷ 53 ∷ 10 ∷ [])
+    × (doneText {X = ℕ} (refused 15 []) ≡ 82 ∷ 9 ∷ 49 ∷ 53 ∷ 10 ∷ [])
+unfolding texts
+calls-shown = (refl, refl, refl, refl)
+
+-- P place length buffer, or R number place buffer: the place before the length
+pub replies-shown :
+    (requestText 2 (done (record { place = 4; bytes = 170 ∷ [] })) ≡ 80 ∷ 9 ∷ 52 ∷ 9 ∷ 49 ∷ 9 ∷ 65 ∷ 65 ∷ 65 ∷ 53 ∷ 10 ∷ [])
+    × (requestText 0 (done (record { place = 9; bytes = [] })) ≡ 80 ∷ 9 ∷ 57 ∷ 9 ∷ 48 ∷ 9 ∷ 10 ∷ [])
     × (requestText 1 (refused 5 (4 ∷ [])) ≡ 82 ∷ 9 ∷ 53 ∷ 9 ∷ 52 ∷ 9 ∷ 65 ∷ 53 ∷ 10 ∷ [])
-    × (frameText (refused 9 (3 ∷ [])) ≡ 82 ∷ 9 ∷ 57 ∷ 9 ∷ 51 ∷ 10 ∷ [])
-    × (fieldText (done (four 5 0 0 145)) ≡ 80 ∷ 9 ∷ 48 ∷ 53 ∷ 48 ∷ 48 ∷ 48 ∷ 48 ∷ 57 ∷ 49 ∷ 10 ∷ [])
-    × (weightText (done (weight (negsuc 4) true false 1)) ≡ 80 ∷ 9 ∷ 45 ∷ 53 ∷ 9 ∷ 49 ∷ 9 ∷ 48 ∷ 9 ∷ 49 ∷ 10 ∷ [])
-    × (readLineText (done (On 13)) ≡ 72 ∷ 9 ∷ 49 ∷ 51 ∷ 10 ∷ [])
-    × (hourText (refused 13 []) ≡ 82 ∷ 9 ∷ 49 ∷ 51 ∷ 9 ∷ 48 ∷ 10 ∷ [])
-    × (hourText (refused 11 (2 ∷ [])) ≡ 82 ∷ 9 ∷ 49 ∷ 49 ∷ 9 ∷ 50 ∷ 10 ∷ [])
-    × (hoursText 1 (refused 13 []) ≡ 82 ∷ 9 ∷ 49 ∷ 51 ∷ 9 ∷ 48 ∷ 9 ∷ 65 ∷ 53 ∷ 10 ∷ [])
-    × (hoursText 0 (refused 8 []) ≡ 82 ∷ 9 ∷ 56 ∷ 9 ∷ 10 ∷ [])
-unfolding tickText recordText doneText filledText requestText frameText fieldText weightText readLineText oneText hourText hoursText journalNamed lineNamed refusedText valuesText lineText bytesText flagText signedText numberText decimal digitsOf glyph hexOf leaves over pick
-answers = (refl, refl, refl, refl, refl, refl, refl, refl, refl, refl, refl, refl, refl, refl, refl, refl, refl, refl, refl, refl)
+    × (requestText 0 (refused 9 (0 ∷ [])) ≡ 82 ∷ 9 ∷ 57 ∷ 9 ∷ 48 ∷ 9 ∷ 10 ∷ [])
+    × (replyText (done (4, 1)) (170 ∷ 165 ∷ []) ≡ 80 ∷ 9 ∷ 52 ∷ 9 ∷ 49 ∷ 9 ∷ 65 ∷ 65 ∷ 65 ∷ 53 ∷ 10 ∷ [])
+    × (replyText (refused 5 (4 ∷ [])) (165 ∷ []) ≡ 82 ∷ 9 ∷ 53 ∷ 9 ∷ 52 ∷ 9 ∷ 65 ∷ 53 ∷ 10 ∷ [])
+unfolding texts
+replies-shown = (refl, refl, refl, refl, refl, refl)
+
+-- a refused restart leaves the old controller in use, an accepted one the new one
+pub restarts-kept : (old new : Controller) → (kept old (done new) ≡ new) × (kept old (refused 2 (1 ∷ [])) ≡ old) × (kept old (refused 15 []) ≡ old)
+unfolding kept
+restarts-kept old new = (refl, refl, refl)
+
+abbrev step : Controller → List ℕ → Step
+step c text = record { next = c; text = text }
+
+-- what is no call is answered ? and calls nothing, a call of the writers and readers leaves the controller, as Q does; the link start is set and cleared
+pub controllers-left : (c : Controller)
+    → (answerTo c [] ≡ step c (63 ∷ 10 ∷ []))
+    × (answerTo c (84 ∷ 9 ∷ 53 ∷ []) ≡ step c (63 ∷ 10 ∷ []))
+    × (answerTo c (88 ∷ 9 ∷ []) .next ≡ c)
+    × (answerTo c (75 ∷ 9 ∷ 48 ∷ 53 ∷ 48 ∷ 48 ∷ 48 ∷ 48 ∷ 57 ∷ 49 ∷ []) .next ≡ c)
+    × (answerTo c (81 ∷ []) .next ≡ c)
+    × (answerTo c (76 ∷ 9 ∷ 49 ∷ []) ≡ step (linkOf c true) (65 ∷ 10 ∷ []))
+    × (answerTo c (76 ∷ 9 ∷ 48 ∷ []) ≡ step (linkOf c false) (65 ∷ 10 ∷ []))
+unfolding answerTo tooLong onCall answered readings lineText
+controllers-left c = (refl, refl, refl, refl, refl, refl, refl)
+
+-- a call of 4,096 bytes, its LF counted, is a call; one of 4,097 is answered ? and calls nothing
+pub longest : (c : Controller)
+    → (asked (66 ∷ 9 ∷ replicate 4090 48 ++ 9 ∷ 54 ∷ 52 ∷ []) ≡ good (request (replicate 2045 0) 64) [])
+    × (asked (88 ∷ 9 ∷ replicate 4094 48) ≡ bad)
+    × (answerTo c (88 ∷ 9 ∷ replicate 4094 48) ≡ step c (63 ∷ 10 ∷ []))
+unfolding asked answerTo tooLong onCall readings lineText
+longest c = (refl, refl, refl)
+
+-- S SET, N SET 7 900, N SET 1000000 0 and N with a first setting of 4, where SET is AL1 with C 1,000
+abbrev fields : List ℕ
+fields = 9 ∷ 49 ∷ 48 ∷ 48 ∷ 48 ∷ 9 ∷ 53 ∷ 48 ∷ 48 ∷ 9 ∷ 49 ∷ 48 ∷ 48 ∷ 9 ∷ 50 ∷ 48 ∷ 9 ∷ 53 ∷ 48 ∷ 9 ∷ 52 ∷ 9 ∷ 56 ∷ 9 ∷ 49 ∷ 9 ∷ 48 ∷ 9 ∷ 48 ∷ 9 ∷ 49 ∷ 9 ∷ 49 ∷ 9 ∷ 49 ∷ 9 ∷ 49 ∷ 9 ∷ 48 ∷ 9 ∷ 48 ∷ []
+
+abbrev newSet : List ℕ
+newSet = 83 ∷ 9 ∷ 49 ∷ fields
+
+abbrev newBox : List ℕ
+newBox = 78 ∷ 9 ∷ 49 ∷ fields ++ 9 ∷ 55 ∷ 9 ∷ 57 ∷ 48 ∷ 48 ∷ []
+
+abbrev badCount : List ℕ
+badCount = 78 ∷ 9 ∷ 49 ∷ fields ++ 9 ∷ 49 ∷ 48 ∷ 48 ∷ 48 ∷ 48 ∷ 48 ∷ 48 ∷ 9 ∷ 48 ∷ []
+
+abbrev badRow : List ℕ
+badRow = 78 ∷ 9 ∷ 52 ∷ fields ++ 9 ∷ 55 ∷ 9 ∷ 57 ∷ 48 ∷ 48 ∷ []
+
+-- the box of that set with count 7 and total 900
+abbrev box : Controller
+box = restarted (setOf (1 ∷ 1000 ∷ 500 ∷ 100 ∷ 20 ∷ 50 ∷ 4 ∷ 8 ∷ 1 ∷ 0 ∷ 0 ∷ 1 ∷ 1 ∷ 1 ∷ 1 ∷ 0 ∷ 0 ∷ [])) 7 900
+
+abbrev after : Controller → List ℕ → Controller
+after c l = answerTo c l .next
+
+abbrev said : Controller → List ℕ → List ℕ
+said c l = answerTo c l .text
+
+-- each call is made: a tick keeps its sample and inputs, new settings are in use, counters are put to 0, and a restart makes a box of its own settings and counters
+pub calls-made :
+    (samplesOf (after freshOf (84 ∷ 9 ∷ 53 ∷ 9 ∷ 51 ∷ []) .window) ≡ pos 5 ∷ [])
+    × (after freshOf (84 ∷ 9 ∷ 53 ∷ 9 ∷ 51 ∷ []) .inputs ≡ 3)
+    × (after freshOf newSet .set .capacity ≡ 1000)
+    × (said freshOf newSet ≡ 65 ∷ 10 ∷ [])
+    × (after box (67 ∷ []) .counters .count ≡ 0)
+    × (after box (67 ∷ []) .counters .total ≡ 0)
+    × (said box (67 ∷ []) ≡ 65 ∷ 10 ∷ [])
+    × (after freshOf newBox ≡ box)
+    × (said freshOf newBox ≡ 65 ∷ 10 ∷ [])
+    × (after box badCount ≡ box)
+    × (said box badCount ≡ 82 ∷ 9 ∷ 49 ∷ 53 ∷ 10 ∷ [])
+    × (after box badRow ≡ box)
+    × (said box badRow ≡ 82 ∷ 9 ∷ 50 ∷ 9 ∷ 49 ∷ 10 ∷ [])
+    × (said box (81 ∷ []) ≡ 81 ∷ 9 ∷ 55 ∷ 9 ∷ 57 ∷ 48 ∷ 48 ∷ 10 ∷ [])
+unfolding boxCalls samplesOf
+calls-made = (refl, refl, refl, refl, refl, refl, refl, refl, refl, refl, refl, refl, refl, refl)
+
+-- in Fill S and C are R3 and leave the controller, whose fill goes on; inputs above 15 are R1; a sample outside is F21
+pub refusals-shown :
+    (said (after freshOf (84 ∷ 9 ∷ 48 ∷ 9 ∷ 56 ∷ [])) newSet ≡ 82 ∷ 9 ∷ 51 ∷ 10 ∷ [])
+    × (said (after freshOf (84 ∷ 9 ∷ 48 ∷ 9 ∷ 56 ∷ [])) (67 ∷ []) ≡ 82 ∷ 9 ∷ 51 ∷ 10 ∷ [])
+    × (said (after (after freshOf (84 ∷ 9 ∷ 48 ∷ 9 ∷ 56 ∷ [])) newSet) (84 ∷ 9 ∷ 48 ∷ 9 ∷ 56 ∷ []) ≡ 79 ∷ 9 ∷ 49 ∷ 10 ∷ [])
+    × (said freshOf (84 ∷ 9 ∷ 48 ∷ 9 ∷ 49 ∷ 54 ∷ []) ≡ 82 ∷ 9 ∷ 49 ∷ 10 ∷ [])
+    × (said freshOf (84 ∷ 9 ∷ 57 ∷ 48 ∷ 48 ∷ 48 ∷ 48 ∷ 49 ∷ 9 ∷ 48 ∷ []) ≡ 70 ∷ 9 ∷ 50 ∷ 49 ∷ 9 ∷ 48 ∷ 10 ∷ [])
+    × (said freshOf (84 ∷ 9 ∷ 45 ∷ 57 ∷ 48 ∷ 48 ∷ 48 ∷ 48 ∷ 49 ∷ 9 ∷ 48 ∷ []) ≡ 70 ∷ 9 ∷ 50 ∷ 49 ∷ 9 ∷ 48 ∷ 10 ∷ [])
+unfolding boxCalls
+refusals-shown = (refl, refl, refl, refl, refl, refl)
+
+-- B: the request is made of the box, which comes to the next controller, and its reply or refusal is shown
+pub requests-made : (c : Controller)
+    → (answerTo c (66 ∷ 9 ∷ 70 ∷ 70 ∷ 48 ∷ 49 ∷ 9 ∷ 54 ∷ []) ≡ step (requestOf c (255 ∷ 1 ∷ []) 6 .next) (requestText 6 (requestOf c (255 ∷ 1 ∷ []) 6 .answer)))
+    × (answerTo c (66 ∷ 9 ∷ 9 ∷ 48 ∷ []) ≡ step (requestOf c [] 0 .next) (requestText 0 (requestOf c [] 0 .answer)))
+unfolding answerTo tooLong onCall answered readings
+requests-made c = (refl, refl)
+
+-- 4,096 bytes hold every answer, with fewer nothing is called and nothing written; a line that asks a tick is left to its own call
+pub rooms : (c : Controller)
+    → (asideIn 4096 c (76 ∷ 9 ∷ 49 ∷ []) ≡ step (linkOf c true) (65 ∷ 10 ∷ []))
+    × (asideIn 4095 c (76 ∷ 9 ∷ 49 ∷ []) ≡ step c [])
+    × (asideIn 4096 c (84 ∷ 9 ∷ 53 ∷ 9 ∷ 56 ∷ []) ≡ step c [])
+    × (asideIn 4096 c (84 ∷ 9 ∷ 53 ∷ []) ≡ step c (63 ∷ 10 ∷ []))
+    × (tickIn 4096 (T.Outputs 5) ≡ 79 ∷ 9 ∷ 53 ∷ 10 ∷ [])
+    × (tickIn 4095 (T.Outputs 5) ≡ [])
+    × (tickIn 4096 T.R1 ≡ 82 ∷ 9 ∷ 49 ∷ 10 ∷ [])
+unfolding asideIn tickIn asideBy asksTick asked letterOf tooLong onCall answered readings texts
+rooms c = (refl, refl, refl, refl, refl, refl, refl)
