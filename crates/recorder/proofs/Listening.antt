@@ -9,7 +9,7 @@ use lib.ListN.{length, getD, drop, replicate, length-replicate}
 use borrow.Author.Tests.{lt-ltb, le-ltb}
 use Rattle.laws.specs.Pick.{pick, pick-t, pick-f}
 use Rattle.laws.specs.Over.{over}
-use Rattle.laws.specs.Decimal.{Parsed, good, bad}
+use Rattle.laws.specs.Decimal.{Parsed, bad}
 use Rattle.paper.specs.Answer.{Answer, done, refused, fault, told}
 use Rattle.controller.specs.declared.Controller.{Controller}
 use Rattle.controller.specs.declared.Fault.{Fault}

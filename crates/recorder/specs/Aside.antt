@@ -1,7 +1,7 @@
 -- No call is answered ?; so the answer to a line of any letter but T and N tells whether it is a call. Assumes nothing.
 use mathlib.Core.Path.{_≡_, refl, sym, ap, _∙_}
-use mathlib.Core.Bool.{Bool, true, false}
-use mathlib.Core.List.{List, [], _∷_, _++_}
+use mathlib.Core.Bool.{Bool, false}
+use mathlib.Core.List.{List, [], _∷_}
 use Prim.Native.Nat.{ℕ}
 use lib.Dec.{eqb}
 use lib.ListN.{getD}
@@ -33,7 +33,6 @@ use Rattle.script.specs.Answer.{recordText, tickText, doneText, requestText, an
 use Rattle.tools.specs.Answer.{filledText, frameText, fieldText, weightText, oneText, readLineText, kindText, hourText, hoursText, toolText}
 use Rattle.calls.specs.Letters.{Under, none, asks, line-under}
 use Rattle.recorder.specs.Recording.{heardCall, heardOf}
-use Rattle.recorder.specs.declared.Heard.{Heard}
 use Rattle.recorder.specs.declared.Heard.the-variants.{Lost, Other}
 
 -- ---- a line that is no call is answered ?, and no other line is

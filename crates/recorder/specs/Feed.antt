@@ -2,7 +2,7 @@
 use mathlib.Core.Path.{_≡_, refl, sym, ap, _∙_}
 use mathlib.Core.Bool.{Bool}
 use mathlib.Core.List.{List, [], _∷_, _++_}
-use Prim.Native.Nat.{ℕ, _≤_, _<_}
+use Prim.Native.Nat.{ℕ, _<_}
 use native.Mathlib.Omega.{arith}
 use lib.ListN.{length, drop, length-append}
 use borrow.Author.Tests.{lt-ltb, le-ltb}
@@ -21,7 +21,6 @@ use Rattle.calls.specs.Call.{callOf}
 use Rattle.script.specs.Answer.{Step, onCall, answerTo}
 use Rattle.script.specs.Aside.{too-long, by-call}
 use Rattle.recorder.specs.Recording.{greatestHour, heardOf, heardIn, Note, startOf, withBox, refuse, firstOf, heardBy, recorded, noteBy, noteOf, nextNote, noteText, recordOf, Carries}
-use Rattle.recorder.specs.declared.Heard.{Heard}
 use Rattle.recorder.specs.declared.Heard.the-variants.{Lost}
 use Rattle.recorder.specs.declared.Stage.{Stage}
 use Rattle.recorder.specs.declared.Stage.the-variants.{First, Recording, Over}

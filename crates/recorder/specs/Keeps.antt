@@ -1,11 +1,10 @@
 -- What every line keeps: a sound controller, doses that can be written, and a clock within its bounds. Assumes nothing.
-use mathlib.Core.Path.{_≡_, refl, sym, ap, _∙_}
+use mathlib.Core.Path.{_≡_, refl}
 use mathlib.Core.Bool.{Bool, true, false, _&&_}
 use mathlib.Core.List.{List, [], _∷_}
-use Prim.Native.Nat.{ℕ, _+_, _≤_, _<_}
+use Prim.Native.Nat.{ℕ, _+_, _≤_}
 use native.Mathlib.Omega.{arith}
 use lib.Dec.{eqb, leb, ltb}
-use lib.IntN.{ℤ}
 use borrow.Author.Tests.{eqb-false, ltb-false, le-leb}
 use Rattle.laws.specs.Pick.{pick, pick-all, pick-if}
 use Rattle.laws.specs.Decimal.{Parsed, good, bad, numberAt}

@@ -3,37 +3,36 @@ use mathlib.Core.Path.{_≡_, refl, sym, ap, _∙_, subst}
 use mathlib.Core.Bool.{Bool, true, false}
 use mathlib.Core.List.{List, [], _∷_, _++_, append-assoc, append-nil}
 use Prim.Native.Nat.{ℕ, suc, _+_, _≤_, _<_}
-use native.Mathlib.Nat.{add-suc, suc-add, add-zero}
+use native.Mathlib.Nat.{add-zero}
 use native.Mathlib.Omega.{arith}
 use lib.Dec.{eqb, ltb}
 use lib.ListN.{length, length-append}
-use borrow.Author.Tests.{ltb-false, eqb-false}
+use borrow.Author.Tests.{ltb-false}
 use Rattle.laws.specs.Pick.{pick, pick-f, pick-if}
 use Rattle.laws.specs.Whole.{false-true}
 use Rattle.laws.specs.Decimal.{Parsed, good, bad, numberAt}
-use Rattle.laws.specs.DecimalLaws.{number-only}
-use Rattle.paper.specs.Answer.{Answer, done, refused, told}
+use Rattle.paper.specs.Answer.{done, refused, told}
 use Rattle.paper.specs.Numbers.{R10}
 use Rattle.journal.specs.declared.Line.{Line}
-use Rattle.journal.specs.declared.Line.the-variants.{Dose, On}
+use Rattle.journal.specs.declared.Line.the-variants.{On}
 use Rattle.journal.specs.declared.Past.{Past}
 use Rattle.journal.specs.Line.{textOf, inRange, lineOf}
 use Rattle.journal.specs.LineLaws.{read-text, text-only}
-use Rattle.journal.specs.Journal.{hourIn, closes, noPast, pastAfter, ordered, journalOf, firstHour, journalText}
-use Rattle.journal.specs.JournalLaws.{Keeps, Reads, none, more, Each, each-map, linesFrom, lines-bad, lines-good, journal-lines, journal-reads}
-use Rattle.journal.specs.Order.{Follows, Steps, Ordered, ordered-journal}
+use Rattle.journal.specs.Journal.{hourIn, closes, noPast, ordered, journalOf, firstHour, journalText}
+use Rattle.journal.specs.JournalLaws.{Reads, none, more, Each, each-map, linesFrom, lines-bad, lines-good, journal-lines, journal-reads}
+use Rattle.journal.specs.Order.{Steps, ordered-journal}
 use Rattle.controller.specs.declared.Record.{Record}
-use Rattle.answers.specs.Text.{numberText, valuesText, lineText, refusedText}
+use Rattle.answers.specs.Text.{lineText, refusedText}
 use Rattle.script.specs.Answer.{answerTo}
 use Rattle.lines.specs.Lines as input
 use Rattle.lines.specs.Blocks.{saidTo}
 use Rattle.recorder.specs.Recording.{ticksAnHour, greatestHour, heardIn, Note, startOf, withBox, withStage, withHour, withTicks, withWhole, refuse, firstOf, doseIn, closing, nextHour, oneMore, counted, heardBy, recorded, noteBy, noteOf, notesOf, recordOf, Carries}
 use Rattle.recorder.specs.Noting.{Writable}
-use Rattle.recorder.specs.Keeps.{answer-sound, heard-writable, on-in-range, dose-in-range, start-carries, box-carries, note-carries, first-carries, ticks-carries, next-carries, whole-carries}
+use Rattle.recorder.specs.Keeps.{answer-sound, heard-writable, on-in-range, dose-in-range, start-carries, box-carries, note-carries, ticks-carries, next-carries, whole-carries}
 use Rattle.recorder.specs.declared.Heard.{Heard}
 use Rattle.recorder.specs.declared.Heard.the-variants.{Ticked, Dosed, Restarted, Lost, Other}
 use Rattle.recorder.specs.declared.Stage.{Stage}
-use Rattle.recorder.specs.declared.Stage.the-variants.{First, Recording, Over}
+use Rattle.recorder.specs.declared.Stage.the-variants.{Recording, Over}
 use Rattle.recorder.specs.declared.Recorder.{Recorder}
 
 -- ---- the statement

@@ -9,7 +9,6 @@ pub use blocks::feed;
 use controller::Controller;
 use controller::Record;
 use text::Num;
-ghost use mathlib.Core.Path.{_≡_};
 ghost use Prim.Native.Nat.{_≤_};
 ghost use lib.ListN.{length};
 ghost use Rattle.laws.specs.Decimal.{numberAt};

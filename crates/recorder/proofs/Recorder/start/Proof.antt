@@ -1,4 +1,4 @@
-use mathlib.Core.Path.{_≡_, refl, sym, ap, _∙_}
+use mathlib.Core.Path.{_≡_, sym, ap}
 use mathlib.Core.Path.{subst}
 use mathlib.Core.Bool.{true}
 use Rattle.controller.specs.declared.Controller.{Controller}

@@ -1,6 +1,6 @@
-use mathlib.Core.Path.{_≡_, refl, sym, ap, _∙_}
+use mathlib.Core.Path.{sym, ap, _∙_}
 use mathlib.Core.Path.{subst}
-use mathlib.Core.Bool.{Bool, false}
+use mathlib.Core.Bool.{Bool}
 use mathlib.Core.List.{[]}
 use Rattle.recorder.specs.Noting.{Writable, writes-as, writes-none}
 use Rattle.recorder.specs.Recording.{note, withWhole, heardBy}

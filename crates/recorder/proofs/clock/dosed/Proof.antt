@@ -1,10 +1,9 @@
-use mathlib.Core.Path.{_≡_, refl, sym, ap, _∙_}
+use mathlib.Core.Path.{ap, _∙_}
 use Rattle.recorder.specs.Noting.{writes-as}
 use Rattle.recorder.proofs.Writing.{counted-refuses, dosed-writes}
 use Rattle.recorder.specs.Keeps.{dose-in-range}
 use Rattle.journal.specs.Line.{inRange}
 use Rattle.journal.specs.declared.Line.the-variants.{Dose}
-use mathlib.Core.Bool.{Bool, true}
 use Prim.Native.Nat.{ℕ}
 use native.Mathlib.Omega.{arith}
 use borrow.Author.Needs.{needs}

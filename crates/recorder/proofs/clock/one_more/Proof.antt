@@ -1,4 +1,4 @@
-use mathlib.Core.Path.{_≡_, refl, sym, ap, _∙_}
+use mathlib.Core.Path.{sym, ap}
 use Rattle.laws.specs.Pick.{pick-t, pick-f}
 use borrow.Author.Tests.{eq-eqb, ne-eqb}
 use Rattle.recorder.specs.Recording.{Note, oneMore, nextHour, withHour, withTicks, withWhole}

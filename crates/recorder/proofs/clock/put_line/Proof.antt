@@ -1,5 +1,5 @@
 use denote.Ref.{now}
-use mathlib.Core.Path.{_≡_, refl, sym, ap, _∙_}
+use mathlib.Core.Path.{ap}
 use native.Mathlib.Omega.{arith}
 use Rattle.entry.specs.Says.{saysWrote}
 use Rattle.recorder.proofs.Writing.{wrote-line, wrote-always}

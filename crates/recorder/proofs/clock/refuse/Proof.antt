@@ -1,6 +1,6 @@
 use Rattle.recorder.specs.Recording.{refuse, withStage}
 use Rattle.answers.specs.Print.{prints-over}
-use mathlib.Core.Path.{_≡_, refl, sym, ap, _∙_}
+use mathlib.Core.Path.{refl}
 use borrow.Author.Needs.{needs}
 use Rattle.recorder.proofs.clock.refuse.Statement.{statement}
 use Rattle.recorder.proofs.clock.refuse.Tie as tie

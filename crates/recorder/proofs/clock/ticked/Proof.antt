@@ -1,4 +1,3 @@
-use mathlib.Core.Path.{_≡_, refl, sym, ap, _∙_}
 use Rattle.recorder.specs.Noting.{writes-as}
 use Rattle.recorder.proofs.Writing.{counted-refuses, ticked-writes}
 use borrow.Author.Needs.{needs}

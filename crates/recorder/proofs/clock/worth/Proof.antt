@@ -1,4 +1,4 @@
-use mathlib.Core.Path.{_≡_, refl, sym, ap, _∙_}
+use mathlib.Core.Path.{sym}
 use Rattle.laws.specs.Pick.{pick-t, pick-f}
 use Rattle.recorder.proofs.clock.worth.Statement.{statement}
 use Rattle.recorder.proofs.clock.worth.Tie as tie

@@ -1,7 +1,7 @@
-use mathlib.Core.Path.{_≡_, refl, sym, ap, _∙_}
+use mathlib.Core.Path.{refl}
 use native.Mathlib.Omega.{arith}
 use denote.Ref.{now}
-use Rattle.calls.specs.Call.{callBy, callOf}
+use Rattle.calls.specs.Call.{callBy}
 use Rattle.laws.specs.Pick.{pick}
 use Rattle.recorder.proofs.Listening.{hears-long, hears-call, no-letter, by-letter}
 use borrow.Author.Needs.{needs}

@@ -1,5 +1,4 @@
-use mathlib.Core.Path.{_≡_, refl, sym, ap, _∙_}
-use Rattle.controller.specs.declared.Controller.{Controller}
+use mathlib.Core.Path.{ap, _∙_}
 use Rattle.script.specs.Answer.{answered, onCall}
 use Rattle.calls.specs.Reads.{asRestart}
 use Rattle.script.specs.Steps.{inUse, restart-kept}

@@ -1,4 +1,4 @@
-use mathlib.Core.Path.{_≡_, refl, sym, ap, _∙_}
+use mathlib.Core.Path.{sym, ap, _∙_}
 use Rattle.controller.specs.declared.TickAnswer.{TickAnswer}
 use Rattle.controller.specs.Says.{saysTick}
 use Rattle.recorder.specs.Recording.{heardDoses, heardTick}

@@ -1,4 +1,4 @@
-use mathlib.Core.Path.{_≡_, refl, sym, ap, _∙_}
+use mathlib.Core.Path.{refl}
 use Rattle.script.specs.Answer.{onCall}
 use Rattle.recorder.specs.Recording.{heardOf}
 use Rattle.recorder.proofs.listen.lost.Statement.{statement}
