@@ -1,36 +1,34 @@
 -- Recordings run on bytes. Assumes nothing.
 use mathlib.Core.Path.{_≡_, refl}
-use mathlib.Core.Bool.{Bool, true, false, _&&_, _||_, xor, not}
-use mathlib.Core.List.{List, [], _∷_, _++_}
+use mathlib.Core.Bool.{Bool, true, false}
+use mathlib.Core.List.{List, [], _∷_}
 use Prim.Native.Nat.{ℕ}
-use lib.IntN.{ℤ, pos}
+use lib.IntN.{pos}
+use lib.ListN.{replicate}
 use Rattle.laws.specs.Pick.{pick}
-use Rattle.laws.specs.Decimal.{Parsed, good, bad, numberAt, digitsFrom, isDigit, decimal, digitsOf, glyph}
-use Rattle.paper.specs.Answer.{Answer, done, refused, fault, onDone}
-use Rattle.settings.specs.Table.{firstBad, firstFrom, table, leastLevel, mostLevel, defaultSet, Wc, Wf}
-use Rattle.settings.specs.Table as ranges
+use Rattle.laws.specs.Decimal.{numberAt, digitsFrom, isDigit, decimal, digitsOf, glyph}
 use Rattle.settings.specs.Cases.{setOf}
-use Rattle.window.specs.Mean.{meanOf, roundAway, halfUp, sumOf}
-use Rattle.window.specs.Window.{samplesOf, pushOf, emptyWindow}
-use Rattle.dosing.specs.Rules.{units, stepOf, ready, readyToFill, readyToDose, waits, zeroed, nearZero, fillBegins, coarseStage, fineStage, fill, full, hold, settle, settleEnds, dischargeOpens, discharge, amountOf, load, calm, doseCoarse, doseFine, doseSettle, reachedWf, reachedWc, notBelowZero}
+use Rattle.window.specs.Window.{samplesOf}
+use Rattle.dosing.specs.Rules.{units}
 use Rattle.dosing.specs.declared.Phase.the-variants.{Discharge}
-use Rattle.text.specs.Scan.{expect, onGood}
 use Rattle.journal.specs.Line.{textOf, fieldsText}
 use Rattle.journal.specs.Journal.{journalText}
 use Rattle.controller.specs.State.{restarted, withPhase}
-use Rattle.controller.specs.Tick.{tickOf, step2, step3, steps4and5, steps6to8, mismatched, runsAfter, runAfter, expected, step7, step8, seenOf, wOf, stableOf, filterOf, equalZ, none, calmRun, outside, faulted, saysFault, outputsOf, worth, input, overCapacity, changed, countersAfter, countedOf, recordsOf}
-use Rattle.controller.specs.Tick as ticks
-use Rattle.controller.specs.Calls.{freshOf, restartOf, storedBad}
+use Rattle.controller.specs.Calls.{freshOf}
 use Rattle.controller.specs.declared.Controller.{Controller}
-use Rattle.calls.specs.Call.{numberField, minus, plus, signedAt, signedField, numbersField, setField, tickAt, linkAt, flagField, restartAt, callBy, atEnd, callOf}
 use Rattle.answers.specs.Text.{numberText, valuesText, lineText, refusedText}
-use Rattle.script.specs.Answer.{kept, answered, onCall, answerTo}
-use Rattle.lines.specs.Lines.{linesFrom, tooLong}
+use Rattle.script.specs.Cases.{boxCalls}
+use Rattle.lines.specs.Lines.{linesFrom}
 use Rattle.lines.specs.Blocks.{saidTo}
 use Rattle.recorder.specs.Recording.{Note, heardDoses, heardTick, heardRestart, heardCall, heardOf, heardIn, startOf, withBox, withStage, withHour, withTicks, withWhole, refuse, firstOf, doseIn, closing, nextHour, oneMore, counted, heardBy, recorded, noteBy, noteOf, recordOf}
 use Rattle.recorder.specs.declared.Stage.{Stage}
-use Rattle.recorder.specs.declared.Stage.the-variants.{First, Recording, Over}
+use Rattle.recorder.specs.declared.Stage.the-variants.{Recording, Over}
 use Rattle.recorder.specs.declared.Recorder.{Recorder}
+
+-- to unfold this is to unfold every rule of a recording, and of the calls of the box
+unfoldable recordings : Unit {0}
+unfolding boxCalls startOf noteOf noteBy firstOf recorded heardIn heardOf heardCall heardTick heardDoses heardRestart heardBy counted oneMore refuse nextHour closing doseIn withBox withStage withHour withTicks withWhole journalText textOf fieldsText recordOf saidTo linesFrom
+recordings = tt
 
 -- what a line leaves of the clock: the stage, the hour, how many of its ticks have come, whether nothing of it was missed; and its text
 pub record Left : Type 0 where
@@ -87,7 +85,7 @@ pub ticks-counted :
     × (leaves (noteOf (at freshOf 5 1 true) (84 ∷ 9 ∷ 48 ∷ 9 ∷ 49 ∷ 54 ∷ [])) ≡ left Recording 5 1 true [])
     × (leaves (noteOf (at freshOf 5 449999 true) (84 ∷ 9 ∷ 48 ∷ 9 ∷ 49 ∷ 54 ∷ [])) ≡ left Recording 5 449999 true [])
     × (leaves (noteOf (at freshOf 5 1 true) (76 ∷ 9 ∷ 49 ∷ [])) ≡ left Recording 5 1 true [])
-unfolding noteOf noteBy recorded answerTo onCall answered kept tooLong heardIn heardOf heardCall heardTick heardDoses heardRestart heardBy counted oneMore refuse nextHour closing doseIn withBox withStage withHour withTicks withWhole journalText textOf fieldsText refusedText valuesText lineText numberText decimal digitsOf glyph pick callOf atEnd callBy tickAt linkAt flagField restartAt setField setOf numbersField signedField signedAt plus minus numberField expect onGood numberAt digitsFrom isDigit restartOf onDone firstBad firstFrom table ranges.inRange leastLevel mostLevel storedBad tickOf step2 step3 steps4and5 steps6to8 mismatched runsAfter runAfter expected xor step7 step8 seenOf wOf stableOf filterOf equalZ none calmRun ticks.startOf outside faulted saysFault outputsOf worth input overCapacity changed countersAfter countedOf recordsOf stepOf ready readyToFill readyToDose waits zeroed nearZero fillBegins coarseStage fineStage fill full hold settle settleEnds dischargeOpens discharge amountOf load calm doseCoarse doseFine doseSettle reachedWf reachedWc notBelowZero Wc Wf samplesOf pushOf emptyWindow meanOf roundAway halfUp sumOf freshOf restarted defaultSet
+unfolding recordings
 ticks-counted = (refl, refl, refl, refl, refl, refl)
 
 -- a restart before the first tick of an hour or after its last changes nothing, one among its ticks breaks the hour, a refused one does not; a line that is no call breaks it at any place
@@ -100,15 +98,46 @@ pub hours-broken :
     × (leaves (noteOf (at freshOf 5 1 true) refusedRestart) ≡ left Recording 5 1 true [])
     × (leaves (noteOf (at freshOf 5 0 true) (84 ∷ 9 ∷ 48 ∷ [])) ≡ left Recording 5 0 false [])
     × (leaves (noteOf (at freshOf 5 1 true) ([])) ≡ left Recording 5 1 false [])
-unfolding noteOf noteBy recorded answerTo onCall answered kept tooLong heardIn heardOf heardCall heardTick heardDoses heardRestart heardBy counted oneMore refuse nextHour closing doseIn withBox withStage withHour withTicks withWhole journalText textOf fieldsText refusedText valuesText lineText numberText decimal digitsOf glyph pick callOf atEnd callBy tickAt linkAt flagField restartAt setField setOf numbersField signedField signedAt plus minus numberField expect onGood numberAt digitsFrom isDigit restartOf onDone firstBad firstFrom table ranges.inRange leastLevel mostLevel storedBad tickOf step2 step3 steps4and5 steps6to8 mismatched runsAfter runAfter expected xor step7 step8 seenOf wOf stableOf filterOf equalZ none calmRun ticks.startOf outside faulted saysFault outputsOf worth input overCapacity changed countersAfter countedOf recordsOf stepOf ready readyToFill readyToDose waits zeroed nearZero fillBegins coarseStage fineStage fill full hold settle settleEnds dischargeOpens discharge amountOf load calm doseCoarse doseFine doseSettle reachedWf reachedWc notBelowZero Wc Wf samplesOf pushOf emptyWindow meanOf roundAway halfUp sumOf freshOf restarted defaultSet
+unfolding recordings
 hours-broken = (refl, refl, refl, refl, refl, refl, refl, refl)
 
--- the restart is made, and a refused one leaves the controller
-pub restarts-made :
-    (noteOf (at freshOf 5 0 true) restartLine .next .controller .counters .count ≡ 7)
-    × (noteOf (at freshOf 5 1 true) refusedRestart .next .controller .counters .count ≡ 0)
-unfolding noteOf noteBy recorded answerTo onCall answered kept tooLong heardIn heardOf heardCall heardTick heardDoses heardRestart heardBy counted oneMore refuse nextHour closing doseIn withBox withStage withHour withTicks withWhole journalText textOf fieldsText refusedText valuesText lineText numberText decimal digitsOf glyph pick callOf atEnd callBy tickAt linkAt flagField restartAt setField setOf numbersField signedField signedAt plus minus numberField expect onGood numberAt digitsFrom isDigit restartOf onDone firstBad firstFrom table ranges.inRange leastLevel mostLevel storedBad tickOf step2 step3 steps4and5 steps6to8 mismatched runsAfter runAfter expected xor step7 step8 seenOf wOf stableOf filterOf equalZ none calmRun ticks.startOf outside faulted saysFault outputsOf worth input overCapacity changed countersAfter countedOf recordsOf stepOf ready readyToFill readyToDose waits zeroed nearZero fillBegins coarseStage fineStage fill full hold settle settleEnds dischargeOpens discharge amountOf load calm doseCoarse doseFine doseSettle reachedWf reachedWc notBelowZero Wc Wf samplesOf pushOf emptyWindow meanOf roundAway halfUp sumOf freshOf restarted defaultSet
-restarts-made = (refl, refl)
+-- in Discharge after 480, which Settle left by its time
+abbrev unsettled : Controller
+unsettled = withPhase (Discharge (units (pos 0)) (units (pos 480)) false) nearlyDone
+
+-- N SET 7 900 with a first setting of 4 is R2
+abbrev badRow : List ℕ
+badRow = 78 ∷ 9 ∷ 52 ∷ 9 ∷ 49 ∷ 48 ∷ 48 ∷ 48 ∷ 9 ∷ 53 ∷ 48 ∷ 48 ∷ 9 ∷ 49 ∷ 48 ∷ 48 ∷ 9 ∷ 50 ∷ 48 ∷ 9 ∷ 53 ∷ 48 ∷ 9 ∷ 52 ∷ 9 ∷ 56 ∷ 9 ∷ 49 ∷ 9 ∷ 48 ∷ 9 ∷ 48 ∷ 9 ∷ 49 ∷ 9 ∷ 49 ∷ 9 ∷ 49 ∷ 9 ∷ 49 ∷ 9 ∷ 48 ∷ 9 ∷ 48 ∷ 9 ∷ 55 ∷ 9 ∷ 57 ∷ 48 ∷ 48 ∷ []
+
+abbrev box : Recorder → List ℕ → Controller
+box r l = noteOf r l .next .controller
+
+-- every call is made, not only heard; the restart is made, and a refused one leaves the controller; the first line and a line that is no call make none
+pub calls-made :
+    (box (at freshOf 5 1 true) (76 ∷ 9 ∷ 49 ∷ []) .link ≡ true)
+    × (samplesOf (box (at freshOf 5 1 true) (84 ∷ 9 ∷ 55 ∷ 9 ∷ 51 ∷ []) .window) ≡ pos 7 ∷ [])
+    × (box (at freshOf 5 1 true) (84 ∷ 9 ∷ 55 ∷ 9 ∷ 51 ∷ []) .inputs ≡ 3)
+    × (box (at nearlyDone 5 1 true) (84 ∷ 9 ∷ 48 ∷ 9 ∷ 55 ∷ []) .counters .count ≡ 8)
+    × (box (at freshOf 5 0 true) restartLine .counters .count ≡ 7)
+    × (box (at freshOf 5 1 true) restartLine .counters .total ≡ 900)
+    × (box (at nearlyDone 5 1 true) refusedRestart ≡ nearlyDone)
+    × (box (at nearlyDone 5 1 true) badRow ≡ nearlyDone)
+    × (box (at nearlyDone 5 1 true) [] ≡ nearlyDone)
+    × (box startOf (53 ∷ []) ≡ freshOf)
+unfolding recordings samplesOf
+calls-made = (refl, refl, refl, refl, refl, refl, refl, refl, refl, refl)
+
+-- a tick keeps that its hour was broken, with a dose or without; a dose that is not settled is written 0; a line too long breaks the hour, a restart that is refused with R2 does not
+pub hours-kept :
+    (leaves (noteOf (at freshOf 5 1 false) (84 ∷ 9 ∷ 48 ∷ 9 ∷ 48 ∷ [])) ≡ left Recording 5 2 false [])
+    × (leaves (noteOf (at nearlyDone 5 1 false) (84 ∷ 9 ∷ 48 ∷ 9 ∷ 55 ∷ [])) ≡ left Recording 5 2 false (68 ∷ 9 ∷ 53 ∷ 9 ∷ 56 ∷ 9 ∷ 52 ∷ 56 ∷ 48 ∷ 9 ∷ 49 ∷ 10 ∷ []))
+    × (leaves (noteOf (at unsettled 5 1 true) (84 ∷ 9 ∷ 48 ∷ 9 ∷ 55 ∷ [])) ≡ left Recording 5 2 true (68 ∷ 9 ∷ 53 ∷ 9 ∷ 56 ∷ 9 ∷ 52 ∷ 56 ∷ 48 ∷ 9 ∷ 48 ∷ 10 ∷ []))
+    × (leaves (noteOf (at freshOf 5 1 false) (76 ∷ 9 ∷ 49 ∷ [])) ≡ left Recording 5 1 false [])
+    × (leaves (noteOf (at freshOf 5 1 true) (replicate 4096 48)) ≡ left Recording 5 1 false [])
+    × (leaves (noteOf (at freshOf 5 1 true) (badRow)) ≡ left Recording 5 1 true [])
+    × (leaves (noteOf (at freshOf 5 1 false) (refusedRestart)) ≡ left Recording 5 1 false [])
+unfolding recordings
+hours-kept = (refl, refl, refl, refl, refl, refl, refl)
 
 -- a dose is written with the hour of its tick; the last tick of an hour writes its H, after its D, where nothing of the hour was missed; then the next hour begins
 pub hours-closed :
@@ -118,7 +147,7 @@ pub hours-closed :
     × (leaves (noteOf (at nearlyDone 5 449999 true) (84 ∷ 9 ∷ 48 ∷ 9 ∷ 55 ∷ [])) ≡ left Recording 6 0 true (68 ∷ 9 ∷ 53 ∷ 9 ∷ 56 ∷ 9 ∷ 52 ∷ 56 ∷ 48 ∷ 9 ∷ 49 ∷ 10 ∷ 72 ∷ 9 ∷ 53 ∷ 10 ∷ []))
     × (leaves (noteOf (at nearlyDone 5 449999 false) (84 ∷ 9 ∷ 48 ∷ 9 ∷ 55 ∷ [])) ≡ left Recording 6 0 true (68 ∷ 9 ∷ 53 ∷ 9 ∷ 56 ∷ 9 ∷ 52 ∷ 56 ∷ 48 ∷ 9 ∷ 49 ∷ 10 ∷ []))
     × (leaves (noteOf (at freshOf 5 449999 false) (84 ∷ 9 ∷ 48 ∷ 9 ∷ 48 ∷ [])) ≡ left Recording 6 0 true [])
-unfolding noteOf noteBy recorded answerTo onCall answered kept tooLong heardIn heardOf heardCall heardTick heardDoses heardRestart heardBy counted oneMore refuse nextHour closing doseIn withBox withStage withHour withTicks withWhole journalText textOf fieldsText refusedText valuesText lineText numberText decimal digitsOf glyph pick callOf atEnd callBy tickAt linkAt flagField restartAt setField setOf numbersField signedField signedAt plus minus numberField expect onGood numberAt digitsFrom isDigit restartOf onDone firstBad firstFrom table ranges.inRange leastLevel mostLevel storedBad tickOf step2 step3 steps4and5 steps6to8 mismatched runsAfter runAfter expected xor step7 step8 seenOf wOf stableOf filterOf equalZ none calmRun ticks.startOf outside faulted saysFault outputsOf worth input overCapacity changed countersAfter countedOf recordsOf stepOf ready readyToFill readyToDose waits zeroed nearZero fillBegins coarseStage fineStage fill full hold settle settleEnds dischargeOpens discharge amountOf load calm doseCoarse doseFine doseSettle reachedWf reachedWc notBelowZero Wc Wf samplesOf pushOf emptyWindow meanOf roundAway halfUp sumOf freshOf restarted defaultSet
+unfolding recordings
 hours-closed = (refl, refl, refl, refl, refl, refl)
 
 -- hour 9,999,999 is written; the first tick above it is R10 with line 0, and then nothing more; a call that is no counted tick is not
@@ -128,8 +157,18 @@ pub hours-end :
     × (leaves (noteOf (at nearlyDone 10000000 0 true) (84 ∷ 9 ∷ 48 ∷ 9 ∷ 55 ∷ [])) ≡ left Over 10000000 0 true (82 ∷ 9 ∷ 49 ∷ 48 ∷ 9 ∷ 48 ∷ 10 ∷ []))
     × (leaves (noteOf (at freshOf 10000000 0 true) (84 ∷ 9 ∷ 48 ∷ 9 ∷ 49 ∷ 54 ∷ [])) ≡ left Recording 10000000 0 true [])
     × (noteOf (record { controller = freshOf; stage = Over; hour = 5; ticks = 449999; whole = true }) (84 ∷ 9 ∷ 48 ∷ 9 ∷ 48 ∷ []) .text ≡ [])
-unfolding noteOf noteBy recorded answerTo onCall answered kept tooLong heardIn heardOf heardCall heardTick heardDoses heardRestart heardBy counted oneMore refuse nextHour closing doseIn withBox withStage withHour withTicks withWhole journalText textOf fieldsText refusedText valuesText lineText numberText decimal digitsOf glyph pick callOf atEnd callBy tickAt linkAt flagField restartAt setField setOf numbersField signedField signedAt plus minus numberField expect onGood numberAt digitsFrom isDigit restartOf onDone firstBad firstFrom table ranges.inRange leastLevel mostLevel storedBad tickOf step2 step3 steps4and5 steps6to8 mismatched runsAfter runAfter expected xor step7 step8 seenOf wOf stableOf filterOf equalZ none calmRun ticks.startOf outside faulted saysFault outputsOf worth input overCapacity changed countersAfter countedOf recordsOf stepOf ready readyToFill readyToDose waits zeroed nearZero fillBegins coarseStage fineStage fill full hold settle settleEnds dischargeOpens discharge amountOf load calm doseCoarse doseFine doseSettle reachedWf reachedWc notBelowZero Wc Wf samplesOf pushOf emptyWindow meanOf roundAway halfUp sumOf freshOf restarted defaultSet
+unfolding recordings
 hours-end = (refl, refl, refl, refl, refl)
+
+-- the last tick of hour 9,999,999 has its D and H; above it a restart and a line that is no call are not refused, and a tick in a fault is
+pub last-hour :
+    (leaves (noteOf (at nearlyDone 9999999 449999 true) (84 ∷ 9 ∷ 48 ∷ 9 ∷ 55 ∷ [])) ≡ left Recording 10000000 0 true (68 ∷ 9 ∷ 57 ∷ 57 ∷ 57 ∷ 57 ∷ 57 ∷ 57 ∷ 57 ∷ 9 ∷ 56 ∷ 9 ∷ 52 ∷ 56 ∷ 48 ∷ 9 ∷ 49 ∷ 10 ∷ 72 ∷ 9 ∷ 57 ∷ 57 ∷ 57 ∷ 57 ∷ 57 ∷ 57 ∷ 57 ∷ 10 ∷ []))
+    × (leaves (noteOf (at nearlyDone 9999999 449998 true) (84 ∷ 9 ∷ 48 ∷ 9 ∷ 55 ∷ [])) ≡ left Recording 9999999 449999 true (68 ∷ 9 ∷ 57 ∷ 57 ∷ 57 ∷ 57 ∷ 57 ∷ 57 ∷ 57 ∷ 9 ∷ 56 ∷ 9 ∷ 52 ∷ 56 ∷ 48 ∷ 9 ∷ 49 ∷ 10 ∷ []))
+    × (leaves (noteOf (at freshOf 10000000 0 true) (restartLine)) ≡ left Recording 10000000 0 true [])
+    × (leaves (noteOf (at freshOf 10000000 0 true) ([])) ≡ left Recording 10000000 0 false [])
+    × (leaves (noteOf (at (noteOf (at freshOf 5 1 true) (84 ∷ 9 ∷ 57 ∷ 48 ∷ 48 ∷ 48 ∷ 48 ∷ 49 ∷ 9 ∷ 48 ∷ []) .next .controller) 10000000 0 true) (84 ∷ 9 ∷ 48 ∷ 9 ∷ 48 ∷ [])) ≡ left Over 10000000 0 true (82 ∷ 9 ∷ 49 ∷ 48 ∷ 9 ∷ 48 ∷ 10 ∷ []))
+unfolding recordings
+last-hour = (refl, refl, refl, refl, refl)
 
 -- whole inputs: a first line, calls and a begun line; nothing after a bad first line; no LF, no line
 pub inputs :
@@ -138,5 +177,5 @@ pub inputs :
     × (recordOf (10 ∷ []) ≡ 82 ∷ 9 ∷ 49 ∷ 48 ∷ 9 ∷ 49 ∷ 10 ∷ [])
     × (recordOf (55 ∷ []) ≡ [])
     × (recordOf [] ≡ [])
-unfolding noteOf noteBy recorded answerTo onCall answered kept tooLong heardIn heardOf heardCall heardTick heardDoses heardRestart heardBy counted oneMore refuse nextHour closing doseIn withBox withStage withHour withTicks withWhole journalText textOf fieldsText refusedText valuesText lineText numberText decimal digitsOf glyph pick callOf atEnd callBy tickAt linkAt flagField restartAt setField setOf numbersField signedField signedAt plus minus numberField expect onGood numberAt digitsFrom isDigit restartOf onDone firstBad firstFrom table ranges.inRange leastLevel mostLevel storedBad tickOf step2 step3 steps4and5 steps6to8 mismatched runsAfter runAfter expected xor step7 step8 seenOf wOf stableOf filterOf equalZ none calmRun ticks.startOf outside faulted saysFault outputsOf worth input overCapacity changed countersAfter countedOf recordsOf stepOf ready readyToFill readyToDose waits zeroed nearZero fillBegins coarseStage fineStage fill full hold settle settleEnds dischargeOpens discharge amountOf load calm doseCoarse doseFine doseSettle reachedWf reachedWc notBelowZero Wc Wf samplesOf pushOf emptyWindow meanOf roundAway halfUp sumOf freshOf restarted defaultSet recordOf saidTo linesFrom startOf firstOf
+unfolding recordings
 inputs = (refl, refl, refl, refl, refl)
