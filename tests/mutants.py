@@ -404,11 +404,13 @@ def run(folder):
 
 
 def cases():
-    """Name and bytes of each stored case, the small ones first."""
-    paths = [os.path.join(CASES, name) for name in os.listdir(CASES)]
-    for path in sorted(paths, key=lambda path: (os.path.getsize(path), path)):
-        with open(path, 'rb') as file:
-            yield os.path.basename(path), file.read()
+    """Name and bytes of each stored case, the small ones first; the input of
+    the program `record` is one."""
+    paths = {name: os.path.join(CASES, name) for name in os.listdir(CASES)}
+    paths['stdin.record'] = os.path.join(ROOT, 'crates', 'record', 'stdin')
+    for name in sorted(paths, key=lambda name: (os.path.getsize(paths[name]), name)):
+        with open(paths[name], 'rb') as file:
+            yield name, file.read()
 
 
 def outputs():
