@@ -112,20 +112,26 @@ badRow = 78 ∷ 9 ∷ 52 ∷ 9 ∷ 49 ∷ 48 ∷ 48 ∷ 48 ∷ 9 ∷ 53 ∷ 48 �
 abbrev box : Recorder → List ℕ → Controller
 box r l = noteOf r l .next .controller
 
--- every call is made, not only heard; the restart is made, and a refused one leaves the controller; the first line and a line that is no call make none
+-- every call is made, not only heard; the first line and a line that is no call make none, and the controller is fresh at the start
 pub calls-made :
     (box (at freshOf 5 1 true) (76 ∷ 9 ∷ 49 ∷ []) ≡ linkOf freshOf true)
     × (samplesOf (box (at freshOf 5 1 true) (84 ∷ 9 ∷ 55 ∷ 9 ∷ 51 ∷ []) .window) ≡ pos 7 ∷ [])
     × (box (at freshOf 5 1 true) (84 ∷ 9 ∷ 55 ∷ 9 ∷ 51 ∷ []) .inputs ≡ 3)
     × (box (at nearlyDone 5 1 true) (84 ∷ 9 ∷ 48 ∷ 9 ∷ 55 ∷ []) .counters .count ≡ 8)
-    × (box (at freshOf 5 0 true) restartLine .counters .count ≡ 7)
+    × (box (at nearlyDone 5 1 true) [] ≡ nearlyDone)
+    × (startOf .controller ≡ freshOf)
+    × (box startOf (53 ∷ []) ≡ freshOf)
+unfolding recordings samplesOf
+calls-made = (refl, refl, refl, refl, refl, refl, refl)
+
+-- the restart is made, and a refused one leaves the controller
+pub restarts-made :
+    (box (at freshOf 5 0 true) restartLine .counters .count ≡ 7)
     × (box (at freshOf 5 1 true) restartLine .counters .total ≡ 900)
     × (box (at nearlyDone 5 1 true) refusedRestart ≡ nearlyDone)
     × (box (at nearlyDone 5 1 true) badRow ≡ nearlyDone)
-    × (box (at nearlyDone 5 1 true) [] ≡ nearlyDone)
-    × (box startOf (53 ∷ []) ≡ freshOf)
-unfolding recordings samplesOf
-calls-made = (refl, refl, refl, refl, refl, refl, refl, refl, refl, refl)
+unfolding recordings
+restarts-made = (refl, refl, refl, refl)
 
 -- a tick keeps that its hour was broken, with a dose or without; a dose that is not settled is written 0; a line too long breaks the hour, a restart that is refused with R2 does not
 pub hours-kept :
