@@ -64,7 +64,7 @@ refusedRestart = 78 ∷ 9 ∷ 49 ∷ 9 ∷ 49 ∷ 48 ∷ 48 ∷ 48 ∷ 9 ∷ 53 
 pub first-lines :
     (leaves (noteOf startOf (48 ∷ [])) ≡ left Recording 0 0 true [])
     × (leaves (noteOf startOf (57 ∷ 57 ∷ 57 ∷ 57 ∷ 57 ∷ 57 ∷ 57 ∷ [])) ≡ left Recording 9999999 0 true [])
-    × (leaves (noteOf startOf ([])) ≡ left Over 0 0 true (82 ∷ 9 ∷ 49 ∷ 48 ∷ 9 ∷ 49 ∷ 10 ∷ []))
+    × (leaves (noteOf startOf []) ≡ left Over 0 0 true (82 ∷ 9 ∷ 49 ∷ 48 ∷ 9 ∷ 49 ∷ 10 ∷ []))
     × (leaves (noteOf startOf (49 ∷ 48 ∷ 48 ∷ 48 ∷ 48 ∷ 48 ∷ 48 ∷ 48 ∷ [])) ≡ left Over 0 0 true (82 ∷ 9 ∷ 49 ∷ 48 ∷ 9 ∷ 49 ∷ 10 ∷ []))
     × (leaves (noteOf startOf (48 ∷ 53 ∷ [])) ≡ left Over 0 0 true (82 ∷ 9 ∷ 49 ∷ 48 ∷ 9 ∷ 49 ∷ 10 ∷ []))
     × (leaves (noteOf startOf (48 ∷ 48 ∷ [])) ≡ left Over 0 0 true (82 ∷ 9 ∷ 49 ∷ 48 ∷ 9 ∷ 49 ∷ 10 ∷ []))
@@ -97,7 +97,7 @@ pub hours-broken :
     × (leaves (noteOf (noteOf (at freshOf 5 449999 true) (84 ∷ 9 ∷ 48 ∷ 9 ∷ 48 ∷ []) .next) restartLine) ≡ left Recording 6 0 true [])
     × (leaves (noteOf (at freshOf 5 1 true) refusedRestart) ≡ left Recording 5 1 true [])
     × (leaves (noteOf (at freshOf 5 0 true) (84 ∷ 9 ∷ 48 ∷ [])) ≡ left Recording 5 0 false [])
-    × (leaves (noteOf (at freshOf 5 1 true) ([])) ≡ left Recording 5 1 false [])
+    × (leaves (noteOf (at freshOf 5 1 true) []) ≡ left Recording 5 1 false [])
 unfolding recordings
 hours-broken = (refl, refl, refl, refl, refl, refl, refl, refl)
 
@@ -140,8 +140,8 @@ pub hours-kept :
     × (leaves (noteOf (at unsettled 5 1 true) (84 ∷ 9 ∷ 48 ∷ 9 ∷ 55 ∷ [])) ≡ left Recording 5 2 true (68 ∷ 9 ∷ 53 ∷ 9 ∷ 56 ∷ 9 ∷ 52 ∷ 56 ∷ 48 ∷ 9 ∷ 48 ∷ 10 ∷ []))
     × (leaves (noteOf (at freshOf 5 1 false) (76 ∷ 9 ∷ 49 ∷ [])) ≡ left Recording 5 1 false [])
     × (leaves (noteOf (at freshOf 5 1 true) (replicate 4096 48)) ≡ left Recording 5 1 false [])
-    × (leaves (noteOf (at freshOf 5 1 true) (badRow)) ≡ left Recording 5 1 true [])
-    × (leaves (noteOf (at freshOf 5 1 false) (refusedRestart)) ≡ left Recording 5 1 false [])
+    × (leaves (noteOf (at freshOf 5 1 true) badRow) ≡ left Recording 5 1 true [])
+    × (leaves (noteOf (at freshOf 5 1 false) refusedRestart) ≡ left Recording 5 1 false [])
 unfolding recordings
 hours-kept = (refl, refl, refl, refl, refl, refl, refl)
 
@@ -151,8 +151,8 @@ newSet = 83 ∷ 9 ∷ 49 ∷ 9 ∷ 49 ∷ 48 ∷ 48 ∷ 48 ∷ 9 ∷ 53 ∷ 48 �
 
 -- a call that is no tick and no restart changes nothing of the hour, nor does an S or C that is refused; a D or H of the script is no line of the journal
 pub other-calls :
-    (leaves (noteOf (at freshOf 5 1 true) (newSet)) ≡ left Recording 5 1 true [])
-    × (leaves (noteOf (at nearlyDone 5 1 true) (newSet)) ≡ left Recording 5 1 true [])
+    (leaves (noteOf (at freshOf 5 1 true) newSet) ≡ left Recording 5 1 true [])
+    × (leaves (noteOf (at nearlyDone 5 1 true) newSet) ≡ left Recording 5 1 true [])
     × (leaves (noteOf (at freshOf 5 0 true) (67 ∷ [])) ≡ left Recording 5 0 true [])
     × (leaves (noteOf (at nearlyDone 5 449999 true) (67 ∷ [])) ≡ left Recording 5 449999 true [])
     × (leaves (noteOf (at freshOf 5 1 true) (81 ∷ [])) ≡ left Recording 5 1 true [])
@@ -196,8 +196,8 @@ hours-end = (refl, refl, refl, refl, refl, refl, refl)
 pub last-hour :
     (leaves (noteOf (at nearlyDone 9999999 449999 true) (84 ∷ 9 ∷ 48 ∷ 9 ∷ 55 ∷ [])) ≡ left Recording 10000000 0 true (68 ∷ 9 ∷ 57 ∷ 57 ∷ 57 ∷ 57 ∷ 57 ∷ 57 ∷ 57 ∷ 9 ∷ 56 ∷ 9 ∷ 52 ∷ 56 ∷ 48 ∷ 9 ∷ 49 ∷ 10 ∷ 72 ∷ 9 ∷ 57 ∷ 57 ∷ 57 ∷ 57 ∷ 57 ∷ 57 ∷ 57 ∷ 10 ∷ []))
     × (leaves (noteOf (at nearlyDone 9999999 449998 true) (84 ∷ 9 ∷ 48 ∷ 9 ∷ 55 ∷ [])) ≡ left Recording 9999999 449999 true (68 ∷ 9 ∷ 57 ∷ 57 ∷ 57 ∷ 57 ∷ 57 ∷ 57 ∷ 57 ∷ 9 ∷ 56 ∷ 9 ∷ 52 ∷ 56 ∷ 48 ∷ 9 ∷ 49 ∷ 10 ∷ []))
-    × (leaves (noteOf (at freshOf 10000000 0 true) (restartLine)) ≡ left Recording 10000000 0 true [])
-    × (leaves (noteOf (at freshOf 10000000 0 true) ([])) ≡ left Recording 10000000 0 false [])
+    × (leaves (noteOf (at freshOf 10000000 0 true) restartLine) ≡ left Recording 10000000 0 true [])
+    × (leaves (noteOf (at freshOf 10000000 0 true) []) ≡ left Recording 10000000 0 false [])
     × (leaves (noteOf (at (noteOf (at freshOf 5 1 true) (84 ∷ 9 ∷ 57 ∷ 48 ∷ 48 ∷ 48 ∷ 48 ∷ 49 ∷ 9 ∷ 48 ∷ []) .next .controller) 10000000 0 true) (84 ∷ 9 ∷ 48 ∷ 9 ∷ 48 ∷ [])) ≡ left Over 10000000 0 true (82 ∷ 9 ∷ 49 ∷ 48 ∷ 9 ∷ 48 ∷ 10 ∷ []))
 unfolding recordings
 last-hour = (refl, refl, refl, refl, refl)
