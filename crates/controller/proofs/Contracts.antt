@@ -17,7 +17,7 @@ use Rattle.controller.specs.Calls.{atReady, isReady, restartOf, controll
 use Rattle.controller.specs.Sound.{Sound}
 use Rattle.paper.specs.AnswerLaws.{refused-done, fault-done}
 use Rattle.controller.specs.Keeps.{restart-sound, settings-sound, reset-sound}
-use Rattle.controller.specs.Says.{saysSet, saysReset, saysRestart, Sets, Resets, Restarts}
+use Rattle.controller.specs.Says.{saysSet, saysReset, saysRestart, noValue, Sets, Resets, Restarts}
 use Rattle.controller.specs.declared.Controller.{Controller}
 use Rattle.controller.proofs.SetAnswer.{the-type as set-type}
 use Rattle.controller.specs.declared.SetAnswer.{SetAnswer}
@@ -39,9 +39,6 @@ not-ready (Calm n) h = refl
 not-ready (DoseCoarse wH) h = refl
 not-ready (DoseFine wH) h = refl
 not-ready (DoseSettle wH n) h = refl
-
-abbrev noValue : Controller → Unit {0}
-noValue c = tt
 
 restarted-sound : (set : Settings) (count total : ℕ) (x : Answer Controller) → restartOf set count total ≡ x → told noValue x ≡ done tt → Sound (controllerIn x)
 unfolding told controllerIn

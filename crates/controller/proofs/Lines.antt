@@ -50,7 +50,7 @@ use Rattle.controller.specs.Sound.{Sound}
 use Rattle.controller.specs.Says.{saysReply, placeAndLength, bytesOf, Replies}
 use Rattle.controller.specs.Stages.{unreadOf, addressedBy, codedBy, timedBy, zeroingBy, stagesOf, Holds}
 use Rattle.controller.specs.Parts.{Small}
-use Rattle.paper.specs.AnswerLaws.{refused-done, fault-done, done-refused, fault-refused}
+use Rattle.paper.specs.AnswerLaws.{refused-done, fault-done, done-refused, fault-refused, told-refused}
 use Rattle.controller.specs.Bounds.{filtered-within}
 use Rattle.controller.specs.Keeps.{request-sound}
 use Rattle.controller.specs.declared.Controller.{Controller}
@@ -169,12 +169,6 @@ told-done f (done x) y e go = go x refl (cc)
 told-done f (refused n vs) y e go = done-refused e
 told-done f (fault n vs) y e go = fault-done (sym e)
 
-told-refused : {X Y : Type 0} (f : X → Y) (a : Answer X) (n : ℕ) (vs : List ℕ) → refused n vs ≡ told f a → a ≡ refused n vs
-unfolding told
-told-refused f (done x) n vs e = refused-done e
-told-refused f (refused m us) n vs e = cc
-told-refused f (fault m us) n vs e = fault-refused (sym e)
-
 pub found-body : (s : List ℕ) (r : Read) {place len : ℕ} → Reads s r → r .found ≡ F.Body place len → Finds s (r .body) place len
 unfolding told bytesIn
 found-body s r {place} {len} reads e =
@@ -269,8 +263,8 @@ module _ (c : Controller) (s old : List ℕ) (sound : Sound c) where
       → r .next ≡ c → r .answer ≡ unreadOf f → Replies c s old old r
   unfolding unreadOf
   unread-refuses (F.Body place len) k e n a = absurd (miss (1 ∷ 2 ∷ []) 0 tt k)
-  unread-refuses (F.R9 place) k e n a = refuses (read-refused (told-refused placeAndSize (readOf s) _ _ e)) n (ap saysReply a)
-  unread-refuses (F.R6 place) k e n a = refuses (read-refused (told-refused placeAndSize (readOf s) _ _ e)) n (ap saysReply a)
+  unread-refuses (F.R9 place) k e n a = refuses (read-refused (told-refused placeAndSize (readOf s) _ _ (sym e))) n (ap saysReply a)
+  unread-refuses (F.R6 place) k e n a = refuses (read-refused (told-refused placeAndSize (readOf s) _ _ (sym e))) n (ap saysReply a)
 
   -- what the writer gives
   module _ {a : Asked} (w : Wrote) {new : List ℕ} (e : askedOf c s ≡ done a) (fills : Fills (saysWrote w) (inRoom [] (length old) (replyFrame c a)) old new) where

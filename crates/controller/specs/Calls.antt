@@ -88,6 +88,12 @@ controllerIn (done c) = c
 controllerIn (refused n vs) = noController
 controllerIn (fault n vs) = noController
 
+-- a refused restart makes no controller: the old one stays in use
+unfoldable pub restartedFrom : Controller → Answer Controller → Controller
+restartedFrom c (done c') = c'
+restartedFrom c (refused n vs) = c
+restartedFrom c (fault n vs) = c
+
 -- ---- settings
 
 -- Taking a set empties the filter, puts the zero Z to 0, keeps counters, link start, inputs and output 4. New settings clear the runs

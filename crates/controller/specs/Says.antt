@@ -79,7 +79,8 @@ pub record Resets (c : Controller) (r : ResetTo) : Type 0 where
   pub says : saysReset (r .answer) ≡ resetOf c .answer
   pub sound : Sound (r .next)
 
-abbrev noValue : Controller → Unit {0}
+-- nothing but that it is done
+abbrev pub noValue : Controller → Unit {0}
 noValue c = tt
 
 -- a refused restart makes no controller, so only beside the accepted answer is the next one sound

@@ -11,6 +11,7 @@ use lib.ListN.{length, getD, take, drop, length-append, List·getD-append, List�
 use lib.Seq.{take-at, drop-at}
 use borrow.Author.Tests.{lt-ltb, le-ltb, le-leb, lt-leb, leb-true}
 use Rattle.laws.specs.Pick.{pick, pick-t, pick-f}
+use Rattle.laws.specs.Bools.{and-left, and-right}
 use Rattle.laws.specs.Tests.{both, each, each-at, both-left, both-right}
 use Rattle.laws.specs.Decimal.{glyph, digitsOf, decimal, hexOf, good, bad, isDigit, digitsFrom, numberAt}
 
@@ -100,14 +101,6 @@ digit-is b h k = rw (le-leb 48 b h, le-leb b 57 k)
 pub digit-range : (b : ℕ) → isDigit b ≡ true → (48 ≤ b) × (b ≤ 57)
 unfolding isDigit
 digit-range b e = (leb-true 48 b (and-left (leb 48 b) (leb b 57) e), leb-true b 57 (and-right (leb 48 b) (leb b 57) e))
-  where
-    and-left : (c d : Bool) → (c && d) ≡ true → c ≡ true
-    and-left true d e = refl
-    and-left false d e = e
-
-    and-right : (c d : Bool) → (c && d) ≡ true → d ≡ true
-    and-right true d e = e
-    and-right false d e = let z : _≡_ {A = ℕ} 0 1 = cc in absurd (omega arith)
 
 -- a byte that is a digit, as a test that holds
 digit-test : (b : ℕ) → 48 ≤ b → b ≤ 57 → T (isDigit b)

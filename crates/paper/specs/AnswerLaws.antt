@@ -32,6 +32,13 @@ on-done (done x) next y e go = go x refl e
 on-done (refused n vs) next y e go = refused-done e
 on-done (fault n vs) next y e go = fault-done e
 
+-- a refusal that was told was the answer's own
+pub told-refused : {A B : Type 0} (f : A → B) (a : Answer A) (n : ℕ) (vs : List ℕ) → told f a ≡ refused n vs → a ≡ refused n vs
+unfolding told
+told-refused f (done x) n vs e = done-refused e
+told-refused f (refused m us) n vs e = let p : m ≡ n = cc in let q : us ≡ vs = cc in cc
+told-refused f (fault m us) n vs e = fault-refused e
+
 -- a test before a refusal passed
 pub passed : {X : Type 0} (b : Bool) (a : Answer X) (n : ℕ) (vs : List ℕ) (y : X) → pick b a (refused n vs) ≡ done y → (b ≡ true) × (a ≡ done y)
 unfolding pick

@@ -11,6 +11,7 @@ use Rattle.laws.specs.Pick.{pick, pick-t, pick-f}
 use Rattle.laws.specs.Over.{over}
 use Rattle.laws.specs.Decimal.{Parsed, bad}
 use Rattle.paper.specs.Answer.{Answer, done, refused, fault, told}
+use Rattle.controller.specs.Says.{noValue}
 use Rattle.controller.specs.declared.Controller.{Controller}
 use Rattle.controller.specs.declared.Fault.{Fault}
 use Rattle.controller.specs.declared.Fault.the-variants as F
@@ -64,9 +65,6 @@ pub fault-heard : (f : Fault) → heardTick (saysFault f) ≡ Ticked
 unfolding saysFault heardTick
 fault-heard (F.F14 channel) = refl
 fault-heard F.F21 = refl
-
-abbrev noValue : Controller → Unit {0}
-noValue c = tt
 
 pub restart-heard : (a : Answer Controller) → heardRestart (told noValue a) ≡ heardRestart a
 unfolding told heardRestart

@@ -16,13 +16,13 @@ use Rattle.journal.specs.declared.Line.the-variants.{Dose, On}
 use Rattle.controller.specs.declared.Controller.{Controller}
 use Rattle.controller.specs.declared.Record.{Record}
 use Rattle.controller.specs.Tick.{Told, tickOf}
-use Rattle.controller.specs.Calls.{restartOf}
+use Rattle.controller.specs.Calls.{restartOf, restartedFrom}
 use Rattle.controller.specs.Sound.{Sound}
 use Rattle.controller.specs.Keeps.{tick-sound, fresh-sound, restart-sound, settings-sound, reset-sound, link-sound, request-sound}
 use Rattle.controller.specs.Promises.{Recordable, AllRecordable, tick-recordable}
 use Rattle.lines.specs.Lines.{tooLong}
 use Rattle.calls.specs.Call.{Call, tick, link, settings, reset, counters, restart, request, writeFrame, readFrame, writeField, readField, writeLine, readLine, hour, hours, callOf}
-use Rattle.script.specs.Answer.{Step, kept, answered, onCall, answerTo}
+use Rattle.script.specs.Answer.{Step, answered, onCall, answerTo}
 use Rattle.recorder.specs.Recording.{ticksAnHour, greatestHour, heardDoses, heardTick, heardRestart, heardCall, heardOf, heardIn, Note, startOf, withBox, withStage, withHour, withTicks, withWhole, refuse, firstOf, nextHour, oneMore, counted, heardBy, recorded, noteBy, noteOf, Carries}
 use Rattle.recorder.specs.Noting.{Writable, noteIn}
 use Rattle.recorder.specs.declared.Heard.{Heard}
@@ -33,8 +33,8 @@ use Rattle.recorder.specs.declared.Recorder.{Recorder}
 
 -- ---- the controller
 
-kept-sound : (c : Controller) (a : Answer Controller) → Sound c → ((d : Controller) → a ≡ done d → Sound d) → Sound (kept c a)
-unfolding kept
+kept-sound : (c : Controller) (a : Answer Controller) → Sound c → ((d : Controller) → a ≡ done d → Sound d) → Sound (restartedFrom c a)
+unfolding restartedFrom
 kept-sound c (done d) s made = made d refl
 kept-sound c (refused n vs) s made = s
 kept-sound c (fault n vs) s made = s

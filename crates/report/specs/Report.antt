@@ -14,7 +14,7 @@ use Rattle.laws.specs.Over.{over, sets-over}
 use Rattle.laws.specs.Decimal.{decimal, digitsOf, glyph, Parsed, good, bad}
 use Rattle.laws.specs.DecimalLaws.{decimal-length}
 use Rattle.paper.specs.Answer.{Answer, done, refused, fault, told}
-use Rattle.paper.specs.AnswerLaws.{refused-done, fault-refused}
+use Rattle.paper.specs.AnswerLaws.{refused-done, told-refused}
 use Rattle.paper.specs.Numbers.{R10, R11, R12, R13}
 use Rattle.text.specs.Put.{Puts, puts-determined}
 use Rattle.text.specs.PutLaws.{room-is, room-not, puts-fit, puts-none, puts-length}
@@ -71,12 +71,6 @@ named m r ws k vs o h l e =
     let p : r ≡ k = cc in
     let q : ws ≡ vs = cc in
     record { least = omega arith; number = omega arith; line = omega (arith, ap (λ (x : List ℕ). getD x 0 0) q) }
-
-told-refused : {A B : Type 0} (g : A → B) (a : Answer A) (n : ℕ) (vs : List ℕ) → told g a ≡ refused n vs → a ≡ refused n vs
-unfolding told
-told-refused g (done x) n vs e = refused-done (sym e)
-told-refused g (refused m ws) n vs e = let p : m ≡ n = cc in let q : ws ≡ vs = cc in cc
-told-refused g (fault m ws) n vs e = fault-refused e
 
 read-named : (f : ℕ) (p : Past) (n : ℕ) (s : List ℕ) (k : ℕ) (vs : List ℕ) → readFrom f p n s ≡ refused k vs → Named (n + f) k vs
 unfolding readFrom onLine ordered pick

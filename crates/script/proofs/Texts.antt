@@ -9,11 +9,11 @@ use Rattle.controller.specs.declared.Record.{Record}
 use Rattle.controller.specs.declared.TickAnswer.the-variants as T
 use Rattle.controller.specs.declared.RestartAnswer.{RestartAnswer}
 use Rattle.controller.specs.declared.RestartAnswer.the-variants as R
-use Rattle.controller.specs.Says.{saysTick, saysRestart}
+use Rattle.controller.specs.Says.{saysTick, saysRestart, noValue}
 use Rattle.controller.specs.Sound.{Sound}
 use Rattle.answers.specs.Text.{numberText, flagText, lineText, valuesText}
 use Rattle.script.specs.Answer.{recordText, tickText, doneText}
-use Rattle.script.specs.Steps.{inUse, noValue}
+use Rattle.script.specs.Steps.{inUse}
 
 pub dose-text : (o : ℕ) (r : Record) (f : ℕ) → f ≡ pick (r .settled) 1 0 → lineText (68 ∷ []) (valuesText (o ∷ r .count ∷ r .amount ∷ f ∷ [])) ≡ tickText (saysTick (T.Dose o r))
 unfolding tickText recordText valuesText flagText numberText

@@ -13,7 +13,7 @@ use Rattle.tools.specs.Answer.{filledText, toolText}
 use Rattle.controller.specs.declared.Controller.{Controller}
 use Rattle.controller.specs.declared.Record.{Record}
 use Rattle.controller.specs.Tick.{Told, tickOf}
-use Rattle.controller.specs.Calls.{restartOf, settingsOf, resetOf, linkOf}
+use Rattle.controller.specs.Calls.{restartOf, settingsOf, resetOf, linkOf, restartedFrom}
 use Rattle.controller.specs.Line.{Replied, requestOf}
 
 -- ---- the answers
@@ -48,19 +48,13 @@ pub record Step : Type 0 where
 abbrev step : Controller → List ℕ → Step
 step c t = record { next = c; text = t }
 
--- a refused restart leaves the old controller in use
-unfoldable pub kept : Controller → Answer Controller → Controller
-kept c (done c') = c'
-kept c (refused n vs) = c
-kept c (fault n vs) = c
-
 unfoldable pub answered : Controller → Call → Step
 answered c (tick x i) = step (tickOf c x i .next) (tickText (tickOf c x i .answer))
 answered c (link on) = step (linkOf c on) (letter 65 [])
 answered c (settings set) = step (settingsOf c set .next) (doneText (settingsOf c set .answer))
 answered c reset = step (resetOf c .next) (doneText (resetOf c .answer))
 answered c counters = step c (letter 81 (numberText (c .counters .count) ∷ numberText (c .counters .total) ∷ []))
-answered c (restart set count total) = step (kept c (restartOf set count total)) (doneText (restartOf set count total))
+answered c (restart set count total) = step (restartedFrom c (restartOf set count total)) (doneText (restartOf set count total))
 answered c (request s room) = step (requestOf c s room .next) (requestText room (requestOf c s room .answer))
 answered c (writeFrame body room) = step c (toolText (writeFrame body room))
 answered c (readFrame s) = step c (toolText (readFrame s))

@@ -19,10 +19,10 @@ use Rattle.tools.specs.Answer.{filledText}
 use Rattle.controller.specs.declared.Controller.{Controller}
 use Rattle.controller.specs.declared.TickAnswer.the-variants as T
 use Rattle.controller.specs.State.{restarted}
-use Rattle.controller.specs.Calls.{freshOf, linkOf}
+use Rattle.controller.specs.Calls.{freshOf, linkOf, restartedFrom}
 use Rattle.controller.specs.Line.{requestOf}
 use Rattle.controller.specs.Cases.{rules}
-use Rattle.script.specs.Answer.{Step, recordText, tickText, doneText, requestText, kept, answered, onCall, answerTo, asked, asksTick, asideBy}
+use Rattle.script.specs.Answer.{Step, recordText, tickText, doneText, requestText, answered, onCall, answerTo, asked, asksTick, asideBy}
 use Rattle.script.specs.Steps.{asideIn, tickIn}
 use Rattle.script.specs.Reply.{replyText}
 
@@ -33,7 +33,7 @@ texts = tt
 
 -- and this, every rule of a call of the box
 unfoldable pub boxCalls : Unit {0}
-unfolding texts readings rules answerTo onCall answered asked kept tooLong
+unfolding texts readings rules answerTo onCall answered asked restartedFrom tooLong
 boxCalls = tt
 
 -- O outputs; D outputs count amount settled; F number channel, 0 for F21; R1
@@ -68,8 +68,8 @@ unfolding texts
 replies-shown = (refl, refl, refl, refl, refl, refl)
 
 -- a refused restart leaves the old controller in use, an accepted one the new one
-pub restarts-kept : (old new : Controller) → (kept old (done new) ≡ new) × (kept old (refused 2 (1 ∷ [])) ≡ old) × (kept old (refused 15 []) ≡ old)
-unfolding kept
+pub restarts-kept : (old new : Controller) → (restartedFrom old (done new) ≡ new) × (restartedFrom old (refused 2 (1 ∷ [])) ≡ old) × (restartedFrom old (refused 15 []) ≡ old)
+unfolding restartedFrom
 restarts-kept old new = (refl, refl, refl)
 
 abbrev step : Controller → List ℕ → Step

@@ -14,14 +14,14 @@ use Rattle.controller.specs.declared.Controller.{Controller}
 use Rattle.controller.specs.declared.RestartAnswer.{RestartAnswer}
 use Rattle.controller.specs.declared.RestartAnswer.the-variants as R
 use Rattle.controller.specs.declared.TickAnswer.{TickAnswer}
-use Rattle.controller.specs.Calls.{controllerIn}
-use Rattle.controller.specs.Says.{saysTick, saysRestart}
+use Rattle.controller.specs.Calls.{controllerIn, restartedFrom}
+use Rattle.controller.specs.Says.{saysTick, saysRestart, noValue}
 use Rattle.controller.specs.Sound.{Sound}
 use Rattle.answers.specs.Print.{Prints, prints-over}
 use Rattle.calls.specs.Call.{Call, tick, link, settings, reset, counters, restart, request, writeFrame, readFrame, writeField, readField, writeLine, readLine, hour, hours, letterOf}
 use Rattle.calls.specs.Letters.{Under, asks}
 use Rattle.tools.specs.Answer.{toolAnswer}
-use Rattle.script.specs.Answer.{Step, tickText, kept, answered, onCall, asked, asideBy}
+use Rattle.script.specs.Answer.{Step, tickText, answered, onCall, asked, asideBy}
 use Rattle.script.specs.declared.Answered.{Answered}
 
 -- the next controller is the step's and sound; the step's text stands at the buffer's start, the rest of it is as it was
@@ -37,12 +37,9 @@ inUse R.Done old new = new
 inUse (R.R2 row) old new = old
 inUse R.R15 old new = old
 
-abbrev pub noValue : Controller → Unit {0}
-noValue c = tt
-
 -- is the one that the rule keeps
-pub restart-kept : (c : Controller) (a : Answer Controller) (r : RestartAnswer) → saysRestart r ≡ told noValue a → inUse r c (controllerIn a) ≡ kept c a
-unfolding told controllerIn kept
+pub restart-kept : (c : Controller) (a : Answer Controller) (r : RestartAnswer) → saysRestart r ≡ told noValue a → inUse r c (controllerIn a) ≡ restartedFrom c a
+unfolding told controllerIn restartedFrom
 restart-kept c (done c') R.Done e = refl
 restart-kept c (done c') (R.R2 row) e = let z : _≡_ {A = ℕ} 0 1 = cc in absurd (omega arith)
 restart-kept c (done c') R.R15 e = let z : _≡_ {A = ℕ} 0 1 = cc in absurd (omega arith)

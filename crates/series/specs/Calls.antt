@@ -13,11 +13,11 @@ use Rattle.controller.specs.declared.Requested.{Requested}
 use Rattle.controller.specs.declared.SetTo.{SetTo}
 use Rattle.controller.specs.declared.ResetTo.{ResetTo}
 use Rattle.controller.specs.declared.Restarted.{Restarted}
-use Rattle.controller.specs.Calls.{restartOf, controllerIn, freshOf, linkOf}
+use Rattle.controller.specs.Calls.{restartOf, controllerIn, freshOf, linkOf, restartedFrom}
 use Rattle.controller.specs.Says.{saysRestart, Ticks, Sets, Resets, Restarts, Replies}
 use Rattle.controller.specs.Made.{Made}
 use Rattle.paper.specs.AnswerLaws.{refused-done, fault-done}
-use Rattle.series.specs.Events.{tick, link, request, settings, reset, restart, restartedFrom, eventOf, run}
+use Rattle.series.specs.Events.{tick, link, request, settings, reset, restart, eventOf, run}
 use Rattle.series.specs.Carried.{Carried}
 
 pub fresh-is : (r : Controller) → Made freshOf r → r ≡ run freshOf []

@@ -13,11 +13,11 @@ use Rattle.controller.specs.declared.Controller.{Controller}
 use Rattle.controller.specs.declared.Counters.{Counters}
 use Rattle.controller.specs.State.{counters}
 use Rattle.controller.specs.Tick.{tickOf}
-use Rattle.controller.specs.Calls.{freshOf, isReady, restartOf, after, resetAnswer, resetOf}
+use Rattle.controller.specs.Calls.{freshOf, isReady, restartOf, after, resetAnswer, resetOf, restartedFrom}
 use Rattle.controller.specs.Promises.{restart-counters, settings-counters, link-counters, request-counters}
 use Rattle.controller.specs.Outside.{dosesSeen}
 use Rattle.controller.specs.OutsideLaws.{tick-counters}
-use Rattle.series.specs.Events.{Event, tick, link, request, settings, reset, restart, restartedFrom, eventOf, run, Outside, nothingSeen, seenAfter}
+use Rattle.series.specs.Events.{Event, tick, link, request, settings, reset, restart, eventOf, run, Outside, nothingSeen, seenAfter}
 use Rattle.series.specs.Kept.{Kept, Counts, counted-more, kept-event, kept-fresh}
 
 -- an accepted restart's numbers are what the counters' call answers just before it

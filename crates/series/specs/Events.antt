@@ -11,7 +11,7 @@ use Rattle.controller.specs.declared.Controller.{Controller}
 use Rattle.controller.specs.declared.Counters.{Counters}
 use Rattle.controller.specs.declared.Record.{Record}
 use Rattle.controller.specs.Tick.{Told, tickOf}
-use Rattle.controller.specs.Calls.{restartOf, settingsOf, resetOf, linkOf, isReady}
+use Rattle.controller.specs.Calls.{restartOf, settingsOf, resetOf, linkOf, isReady, restartedFrom}
 use Rattle.controller.specs.Line.{requestOf}
 use Rattle.controller.specs.Outside.{Noted, noted, wAt, dosesSeen}
 
@@ -24,12 +24,6 @@ pub data Event : Type 0 where
   settings : Settings → Event
   reset : Event
   restart : Settings → ℕ → ℕ → Event
-
--- a refused restart makes no controller: the old one stays in use
-unfoldable pub restartedFrom : Controller → Answer Controller → Controller
-restartedFrom c (done c') = c'
-restartedFrom c (refused n vs) = c
-restartedFrom c (fault n vs) = c
 
 -- what an event makes of a controller, by the rules that the calls' contracts cite
 unfoldable pub eventOf : Controller → Event → Controller

@@ -27,9 +27,9 @@ use Rattle.controller.specs.declared.Controller.{Controller}
 use Rattle.controller.specs.declared.Record.{Record}
 use Rattle.controller.specs.State.{restarted}
 use Rattle.controller.specs.Tick.{tickOf, step2, step3, steps4and5, steps6to8, mismatched, runsAfter, runAfter, expected, step7, step8, seenOf, wOf, stableOf, filterOf, equalZ, none, calmRun, startOf, outside, faulted, saysFault, outputsOf, worth, input, overCapacity, changed, countersAfter, countedOf, recordsOf}
-use Rattle.controller.specs.Calls.{atReady, readyIn, isReady, storedBad, restartOf, freshOf, linkOf}
+use Rattle.controller.specs.Calls.{atReady, readyIn, isReady, storedBad, restartOf, freshOf, linkOf, restartedFrom}
 use Rattle.controller.specs.Outside.{wAt, clear, inDoseSettle, shuts3, leavesSettle, completes, begins, opens3, noted, amountSeen, dosesSeen}
-use Rattle.series.specs.Events.{Event, tick, link, request, settings, reset, restart, restartedFrom, eventOf, nothingSeen, anew, anewIf, seenAfter, seen, recordsIn, recordsAt, records}
+use Rattle.series.specs.Events.{Event, tick, link, request, settings, reset, restart, eventOf, nothingSeen, anew, anewIf, seenAfter, seen, recordsIn, recordsAt, records}
 use Rattle.series.specs.Statement.{dosesAfter}
 use Rattle.series.specs.Carried.{Carried, Series}
 use Rattle.series.specs.Lines.{Stamped, lineFor, doseLines, JournalOf}

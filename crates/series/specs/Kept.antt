@@ -16,14 +16,14 @@ use Rattle.controller.specs.declared.Controller.{Controller}
 use Rattle.controller.specs.declared.Counters.{Counters}
 use Rattle.controller.specs.State.{restarted}
 use Rattle.controller.specs.Tick.{Result, countedOf, tickOf}
-use Rattle.controller.specs.Calls.{storedBad, restartOf, freshOf, isReady, taken, after, settingsAnswer, settingsOf, resetAnswer, resetOf, linkOf}
+use Rattle.controller.specs.Calls.{storedBad, restartOf, freshOf, isReady, taken, after, settingsAnswer, settingsOf, resetAnswer, resetOf, linkOf, restartedFrom}
 use Rattle.controller.specs.Line.{Asked, Replied, zeroedBy, replied, repliesTo, askedOf, requestOf}
 use Rattle.controller.specs.Sound.{Sound}
 use Rattle.paper.specs.AnswerLaws.{on-done, failed}
 use Rattle.controller.specs.Keeps.{tick-sound, link-sound, request-sound, settings-sound, reset-sound, restart-sound, fresh-sound}
 use Rattle.controller.specs.Outside.{Agrees, dosesSeen}
 use Rattle.controller.specs.OutsideLaws.{countedIn, tick-agrees, tick-counters}
-use Rattle.series.specs.Events.{Event, tick, link, request, settings, reset, restart, restartedFrom, eventOf, run, Outside, nothingSeen, anew, anewIf, seenAfter, seen}
+use Rattle.series.specs.Events.{Event, tick, link, request, settings, reset, restart, eventOf, run, Outside, nothingSeen, anew, anewIf, seenAfter, seen}
 
 -- every event keeps a controller sound
 pub event-sound : (c : Controller) (e : Event) → Sound c → Sound (eventOf c e)

@@ -19,8 +19,8 @@ use Rattle.controller.specs.declared.Condition.{Condition}
 use Rattle.controller.specs.declared.Condition.the-variants.{Clear, Faulted}
 use Rattle.controller.specs.State.{restarted}
 use Rattle.controller.specs.Tick.{tickOf, step2, step3, steps4and5, steps6to8, mismatched, runsAfter, runAfter, expected, step7, step8, seenOf, wOf, stableOf, filterOf, equalZ, none, calmRun, startOf, outside, faulted, saysFault, outputsOf, worth, input, overCapacity, changed, countersAfter, countedOf, recordsOf}
-use Rattle.controller.specs.Calls.{storedBad, restartOf, freshOf, linkOf}
-use Rattle.series.specs.Events.{Event, tick, link, restart, restartedFrom, eventOf, run}
+use Rattle.controller.specs.Calls.{storedBad, restartOf, freshOf, linkOf, restartedFrom}
+use Rattle.series.specs.Events.{Event, tick, link, restart, eventOf, run}
 
 -- the phases by name
 pub data Name : Type 0 where
