@@ -32,8 +32,8 @@ use Rattle.frame.specs.declared.Wrote.the-variants as W
 use Rattle.frame.specs.declared.Found.{Found}
 use Rattle.frame.specs.declared.Found.the-variants as F
 use Rattle.frame.specs.declared.Read.{Read}
-use Rattle.message.specs.Message.{addressBytes, bodyOf, partsOf, splitOf, buildOf}
-use Rattle.message.specs.Says.{saysSplit, saysBuilt}
+use Rattle.message.specs.Message.{addressBytes, proper, bodyOf, partsOf, splitOf, framableOf, buildOf}
+use Rattle.message.specs.Says.{saysSplit, saysBuilt, built-one}
 use Rattle.message.specs.declared.Form.{Form}
 use Rattle.message.specs.declared.Form.the-variants.{Address, Serial}
 use Rattle.message.specs.declared.Parts.{Parts}
@@ -119,6 +119,16 @@ reply-framable set (Serial n) op values r h l =
     let size : length (bodyOf (Serial n) op values) ≡ 5 + length values = omega arith in
     simp (pick-true, le-leb 5 (length (bodyOf (Serial n) op values)) (omega arith), le-leb (length (bodyOf (Serial n) op values)) 254 (omega arith))
 
+-- the form of what is ours is a proper one
+pub reply-proper : (set : Settings) (form : Form) → Ranges set → ours set form ≡ true → proper form ≡ true
+unfolding ours proper
+reply-proper set (Address a) r h =
+    let e : a ≡ set .address = eqb-true a (set .address) h in
+    ap not (ne-eqb a 0 (λ k. omega arith))
+reply-proper set (Serial n) r h =
+    let e : n ≡ set .serial = eqb-true n (set .serial) h in
+    le-leb n 16777215 (omega arith)
+
 -- a reply has at most four bytes of data
 pub data-most : {bytes : List ℕ} (r : ReplyData) → Holds bytes r → length bytes ≤ 4
 data-most r h =
@@ -126,17 +136,17 @@ data-most r h =
     omega (arith, ap length (h .front), h .small)
 
 -- what building handed over
-module _ (form : Form) (op : ℕ) (values : List ℕ) (built : Built) {array : List ℕ} (f : framable (bodyOf form op values) ≡ true) (hands : Hands 254 (saysBuilt built) (buildOf form op values) array) where
+module _ (form : Form) (op : ℕ) (values : List ℕ) (built : Built) {array : List ℕ} (g : proper form ≡ true) (f : framable (bodyOf form op values) ≡ true) (hands : Hands 254 (saysBuilt built) (buildOf form op values) array) where
   is-built : buildOf form op values ≡ done (bodyOf form op values)
-  unfolding buildOf
-  is-built = pick-t _ _ _ f
+  unfolding buildOf framableOf
+  is-built = pick-t _ _ _ g ∙ pick-t _ _ _ f
 
   built-says : saysBuilt built ≡ done (length (bodyOf form op values))
   unfolding told
   built-says = hands .says ∙ ap (told length) is-built
 
-  pub not-unbuilt : {Q : Type 0} → built ≡ B.R14 → Q
-  not-unbuilt e = refused-done (sym (ap saysBuilt e) ∙ built-says)
+  pub is-body : built ≡ B.Body (length (bodyOf form op values))
+  is-body = built-one built (B.Body (length (bodyOf form op values))) built-says
 
   pub built-front : {n : ℕ} → built ≡ B.Body n → Front (bodyOf form op values) array n
   unfolding bytesIn
