@@ -42,6 +42,9 @@ pushed w x v a i h m z s g = rw (m, z, s, g, laid-all (x ∷ w .samples) x 128) 
 loop-holds : tie.Need-loop-holds Inv-loop μ-loop
 loop-holds c = (omega arith, refl)
 
+sub-loop : tie.Need-sub-loop Inv-loop μ-loop
+sub-loop c = search needs
+
 mul-samples : tie.Need-mul-samples Inv-loop μ-loop
 mul-samples c = search needs
 
@@ -87,6 +90,7 @@ push-spec =
     Inv-loop
     μ-loop
     loop-holds
+    sub-loop
     mul-samples
     array-copy-out-samples
     add-samples
