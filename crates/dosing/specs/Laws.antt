@@ -25,11 +25,18 @@ use Rattle.dosing.specs.declared.Seen.{Seen}
 use Rattle.dosing.specs.declared.Dose.the-variants.{Nothing, Complete}
 use Rattle.dosing.specs.declared.Moved.{Moved}
 
--- two results that both meet the contract of `near_zero`, or of `step`, are equal
-pub near-zero-determined : (set : Settings) (f : ℤ) (a b : Bool) → a ≡ nearZero set f → b ≡ nearZero set f → a ≡ b
+-- what each call's result has to meet
+abbrev pub TellsNear : Settings → Units → Bool → Type 0
+TellsNear set f r = r ≡ nearZero set (f .v)
+
+abbrev pub Steps : Settings → Phase → Seen → Moved → Type 0
+Steps set p t r = r ≡ stepOf set p t
+
+-- two results that both meet a call's contract are equal
+pub near-zero-determined : (set : Settings) (f : Units) (a b : Bool) → TellsNear set f a → TellsNear set f b → a ≡ b
 near-zero-determined set f a b h k = h ∙ sym k
 
-pub step-determined : (set : Settings) (p : Phase) (t : Seen) (a b : Moved) → a ≡ stepOf set p t → b ≡ stepOf set p t → a ≡ b
+pub step-determined : (set : Settings) (p : Phase) (t : Seen) (a b : Moved) → Steps set p t a → Steps set p t b → a ≡ b
 step-determined set p t a b h k = h ∙ sym k
 
 -- the phase determines the outputs, and a dose completes only into Ready

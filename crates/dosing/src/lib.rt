@@ -6,7 +6,8 @@ ghost use Prim.Native.Nat.{_+_, _-_};
 ghost use lib.Dec.{eqb};
 ghost use lib.IntN.{pos, negℤ, _-ℤ_};
 ghost use lib.Signed.{ltZ, leZ};
-ghost use Rattle.dosing.specs.Rules.{gates, shut, to, complete, reachedWf, reachedWc, notBelowZero, nearZero, zeroed, full, coarseStage, fineStage, readyToFill, fill, hold, settleEnds, dischargeOpens, settle, amountOf, discharge, load, calm, doseCoarse, doseFine, doseSettle, readyToDose, ready, stepOf};
+ghost use Rattle.dosing.specs.Rules.{gates, shut, to, complete, reachedWf, reachedWc, notBelowZero, zeroed, full, coarseStage, fineStage, readyToFill, fill, hold, settleEnds, dischargeOpens, settle, amountOf, discharge, load, calm, doseCoarse, doseFine, doseSettle, readyToDose, ready};
+ghost use Rattle.dosing.specs.Laws.{TellsNear, Steps};
 ghost use Rattle.dosing.specs.declared.Phase.the-variants.{Coarse, Fine, Load, DoseCoarse, DoseFine};
 
 // A weight in display units.
@@ -146,7 +147,7 @@ fn reached_wc(set: Settings, x: Wide) -> bool
 
 // -M < F < M
 pub fn near_zero(set: Settings, f: Units) -> bool
-    ensures { λ r. ⌜ r ≡ nearZero set (f .v) ⌝ }
+    ensures { λ r. ⌜ TellsNear set f r ⌝ }
 {
     let x = widened(f);
     above_minus(x, set.level) & below(x, set.level)
@@ -467,7 +468,7 @@ fn ready(set: Settings, t: Seen) -> Moved
 
 // The phase rule of one tick.
 pub fn step(set: Settings, phase: Phase, seen: Seen) -> Moved
-    ensures { λ r. ⌜ r ≡ stepOf set phase seen ⌝ }
+    ensures { λ r. ⌜ Steps set phase seen r ⌝ }
 {
     match phase {
         Phase::Ready => ready(set, seen),

@@ -1,9 +1,9 @@
 // The settings, the table of their ranges, and the check that names the first bad one.
 ghost use mathlib.Core.Path.{_≡_};
 ghost use mathlib.Core.List.{map};
-ghost use Rattle.settings.specs.Table.{table, leastLevel, mostLevel, firstBad, defaultSet};
+ghost use Rattle.settings.specs.Table.{table, leastLevel, mostLevel};
 ghost use Rattle.settings.specs.Columns.{valueOf, rangeOf, bounds};
-ghost use Rattle.settings.specs.Says.{says};
+ghost use Rattle.settings.specs.Says.{Checks, IsDefault};
 
 pub struct Settings {
     pub algorithm: u32,
@@ -147,7 +147,7 @@ impl Settings {
 
     // Checks the settings in the table's order; the first that is out of its range is named.
     pub fn check(self) -> Checked
-        ensures { λ r. ⌜ says r ≡ firstBad self ⌝ }
+        ensures { λ r. ⌜ Checks self r ⌝ }
     {
         let values = self.values();
         let ranges = self.ranges();
@@ -165,7 +165,7 @@ impl Settings {
 
     // The default set: AL0, C 10,000, D 100, M 100.
     pub fn default() -> Settings
-        ensures { λ r. ⌜ r ≡ defaultSet ⌝ }
+        ensures { λ r. ⌜ IsDefault r ⌝ }
     {
         Settings {
             algorithm: 0,

@@ -147,12 +147,22 @@ between-fits (negsuc m) h = record { sfits = omega arith }
 pub mean-fits : (xs : List ℤ) → AllI32 xs → SFits w32 (meanOf xs)
 mean-fits xs e = between-fits (meanOf xs) (mean-between _ _ xs e)
 
+-- what each call's result has to meet
+abbrev pub IsEmpty : Window → Type 0
+IsEmpty r = r ≡ emptyWindow
+
+abbrev pub Pushes : Window → ℤ → Window → Type 0
+Pushes w x r = r ≡ pushOf w x
+
+abbrev pub Means : Window → ℕ → ℤ → Type 0
+Means w n r = r ≡ meanOf (take n (samplesOf w))
+
 -- two results that meet a call's contract are equal
-pub new-determined : {r s : Window} → r ≡ emptyWindow → s ≡ emptyWindow → r ≡ s
+pub new-determined : {r s : Window} → IsEmpty r → IsEmpty s → r ≡ s
 new-determined p q = same p q
 
-pub push-determined : (w : Window) (x : ℤ) {r s : Window} → r ≡ pushOf w x → s ≡ pushOf w x → r ≡ s
+pub push-determined : (w : Window) (x : ℤ) {r s : Window} → Pushes w x r → Pushes w x s → r ≡ s
 push-determined w x p q = same p q
 
-pub mean-determined : (w : Window) (n : ℕ) {r s : ℤ} → r ≡ meanOf (take n (samplesOf w)) → s ≡ meanOf (take n (samplesOf w)) → r ≡ s
+pub mean-determined : (w : Window) (n : ℕ) {r s : ℤ} → Means w n r → Means w n s → r ≡ s
 mean-determined w n p q = same p q

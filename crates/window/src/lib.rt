@@ -5,9 +5,10 @@ ghost use lib.Dec.{ltb};
 ghost use lib.IntN.{natAbs};
 ghost use lib.ListN.{take};
 ghost use Rattle.laws.specs.Pick.{pick};
-ghost use Rattle.window.specs.Mean.{meanOf, roundAway};
+ghost use Rattle.window.specs.Mean.{roundAway};
 ghost use Rattle.window.specs.Range.{Total};
-ghost use Rattle.window.specs.Window.{places, emptyWindow, pushOf, samplesOf};
+ghost use Rattle.window.specs.Window.{places};
+ghost use Rattle.window.specs.Laws.{IsEmpty, Pushes, Means};
 
 // The newest sample stands first; `held` of the places are in use.
 pub struct Window {
@@ -21,7 +22,7 @@ impl Window {
 
     // A window that holds no sample.
     pub fn new() -> Window
-        ensures { λ r. ⌜ r ≡ emptyWindow ⌝ }
+        ensures { λ r. ⌜ IsEmpty r ⌝ }
     {
         Window {
             samples: [0; Window::PLACES],
@@ -31,7 +32,7 @@ impl Window {
 
     // The sample stands first, the others move one place on, the last of 128 falls out.
     pub fn push(self, x: i32) -> Window
-        ensures { λ r. ⌜ r ≡ pushOf self x ⌝ }
+        ensures { λ r. ⌜ Pushes self x r ⌝ }
     {
         let old = self.samples;
         let mut samples = [x; Window::PLACES];
@@ -48,7 +49,7 @@ impl Window {
 
     // The mean of the last n samples, or of those held where they are fewer; of none it is 0.
     pub fn mean(self, n: usize) -> i32
-        ensures { λ r. ⌜ r ≡ meanOf (take n (samplesOf self)) ⌝ }
+        ensures { λ r. ⌜ Means self n r ⌝ }
     {
         let held = self.held;
         let count = fewest(n, held);
