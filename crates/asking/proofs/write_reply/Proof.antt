@@ -1,0 +1,82 @@
+-- The data stand in an array of 4 and the body in one of 254; what building refuses, framing refuses.
+use mathlib.Core.Path.{_≡_, sym}
+use native.Mathlib.Omega.{arith}
+use borrow.Author.Needs.{needs}
+use lib.Seq.{length-take-le}
+use Rattle.paper.specs.Answer.{Hands}
+use Rattle.message.specs.Message.{bodyOf, buildOf}
+use Rattle.message.specs.Says.{saysBuilt}
+use Rattle.asking.specs.Asking.{replyBytes, replyOf}
+use Rattle.asking.proofs.Laws.{Front, unbuilt, built-front}
+use Rattle.asking.proofs.write_reply.Statement.{statement}
+use Rattle.asking.proofs.write_reply.Tie as tie
+
+abbrev first : tie.After-build-body → tie.Start
+first c = c .before .before .before .before .before
+
+hands : (c : tie.After-build-body) → Hands 254 (saysBuilt (c .build-body .result .built)) (buildOf (first c .args .form) (first c .args .operation) (replyBytes (first c .args .holds))) (c .build-body .result .bytes)
+hands c = rw (c .before .before .before .data-of .ensures .front) at (c .build-body .ensures)
+
+body : (c : tie.After-built) → Front (bodyOf (first (c .before .before) .args .form) (first (c .before .before) .args .operation) (replyBytes (first (c .before .before) .args .holds))) (c .before .before .build-body .result .bytes) (c .built .given .0 .0)
+body c = let b = c .before .before in built-front _ _ _ (b .build-body .result .built) (hands b) (c .built .given .1)
+
+data-of-requires : tie.Need-data-of-requires
+data-of-requires c κs = search needs
+
+array-share-prefix-values : tie.Need-array-share-prefix-values
+array-share-prefix-values c = search needs
+
+slice-aggregate-build-body : tie.Need-slice-aggregate-build-body
+slice-aggregate-build-body c =
+    let h = c .before .before .data-of .ensures in
+    sym (length-take-le _ _ (omega (arith, h .full, h .small)))
+
+build-body-requires : tie.Need-build-body-requires
+build-body-requires c κs = search needs
+
+enum-known-built : tie.Need-enum-known-built
+enum-known-built c = search needs
+
+enum-told : tie.Need-enum-told
+enum-told c = search needs
+
+-- R14
+returns : tie.Need-returns
+returns c =
+    let b = c .before .before in
+    unbuilt _ _ _ (b .build-body .result .built) (hands b) (c .enum-told .given .1) _
+
+array-share-prefix-bytes : tie.Need-array-share-prefix-bytes
+array-share-prefix-bytes c = body (c .before .before) .fits
+
+slice-aggregate-write-frame : tie.Need-slice-aggregate-write-frame
+slice-aggregate-write-frame c = sym (length-take-le _ _ (body (c .before .before .before) .fits))
+
+write-frame-requires : tie.Need-write-frame-requires
+write-frame-requires c κs = search needs
+
+same-length : tie.Need-same-length
+same-length c = search needs
+
+returns-2 : tie.Need-returns-2
+unfolding replyOf
+returns-2 c =
+    let w = c .before .before in
+    rw (body (w .before .before .before .before .before) .is) at (w .write-frame .ensures)
+
+pub write-reply-spec : {M : Type 1} → statement M
+write-reply-spec =
+    tie.close
+    (tie.spec
+    data-of-requires
+    array-share-prefix-values
+    slice-aggregate-build-body
+    build-body-requires
+    enum-known-built
+    enum-told
+    returns
+    array-share-prefix-bytes
+    slice-aggregate-write-frame
+    write-frame-requires
+    same-length
+    returns-2)
