@@ -29,10 +29,12 @@ nextCount before = pick (eqb before 999999) 0 (before + 1)
 unfoldable pub follows : ℕ → ℕ → Bool
 follows before count = eqb count 1 || eqb count (nextCount before)
 
+-- 6 and 1 follow 5, and nothing else near it
 pub follows-cases : map (follows 5) (6 ∷ 1 ∷ 0 ∷ 5 ∷ 7 ∷ []) ≡ true ∷ true ∷ false ∷ false ∷ false ∷ []
 unfolding follows nextCount pick
 follows-cases = refl
 
+-- 0 and 1 follow 999,999
 pub follows-last : map (follows 999999) (0 ∷ 1 ∷ 999999 ∷ 1000000 ∷ []) ≡ true ∷ true ∷ false ∷ false ∷ []
 unfolding follows nextCount pick
 follows-last = refl
@@ -47,11 +49,13 @@ unfoldable pub allFollow : List ℕ → Bool
 allFollow [] = true
 allFollow (count ∷ counts) = followOn count counts
 
+-- the counts of dose records
 abbrev pub countsOf : List Record → List ℕ
 countsOf rs = map (λ r. r .count) rs
 
--- ---- the count of whatever dose comes next follows
+-- ---- the next dose
 
+-- where a dose comes next, its count follows
 abbrev Next : ℕ → Counters → Type 0
 Next before n = follows before ((n .count + 1) % 1000000) ≡ true
 
@@ -103,6 +107,7 @@ run-follow (e ∷ es) c before s h n =
 pub records-follow-on : (es : List Event) (c : Controller) → Sound c → handsBack c es ≡ true → followOn (c .counters .count) (countsOf (records c es)) ≡ true
 records-follow-on es c s h = run-follow es c (c .counters .count) s h (next-count (c .counters) (s .count))
 
+-- what follows this one also follows with the first untested
 first-free : (before : ℕ) (counts : List ℕ) → followOn before counts ≡ true → allFollow counts ≡ true
 unfolding followOn allFollow
 first-free before [] h = refl
