@@ -41,7 +41,7 @@ room : (x : ℤ) (l : List ℤ) (h : ℕ) → h < places → take (h + 1) (take 
 room x l h k =
     take-take (h + 1) places (x ∷ l) (omega arith)
     ∙ ap (λ (n : ℕ). take n (x ∷ l)) (add-one h)
-    ∙ ap (λ (t : List ℤ). x ∷ t) (sym (take-all 127 (take h l) (omega (arith, length-take h l))))
+    ∙ ap (λ (t : List ℤ). x ∷ t) (sym (take-all (places - 1) (take h l) (omega (arith, length-take h l))))
 
 full : (x : ℤ) (l : List ℤ) (h : ℕ) → length l ≡ places → places ≤ h → take places (take places (x ∷ l)) ≡ take places (x ∷ take h l)
 full x l h e k =
