@@ -25,20 +25,6 @@ use Rattle.dosing.specs.declared.Seen.{Seen}
 use Rattle.dosing.specs.declared.Dose.the-variants.{Nothing, Complete}
 use Rattle.dosing.specs.declared.Moved.{Moved}
 
--- what each call's result has to meet
-abbrev pub TellsNear : Settings → Units → Bool → Type 0
-TellsNear set f r = r ≡ nearZero set (f .v)
-
-abbrev pub Steps : Settings → Phase → Seen → Moved → Type 0
-Steps set p t r = r ≡ stepOf set p t
-
--- two results that both meet a call's contract are equal
-pub near-zero-determined : (set : Settings) (f : Units) (a b : Bool) → TellsNear set f a → TellsNear set f b → a ≡ b
-near-zero-determined set f a b h k = h ∙ sym k
-
-pub step-determined : (set : Settings) (p : Phase) (t : Seen) (a b : Moved) → Steps set p t a → Steps set p t b → a ≡ b
-step-determined set p t a b h k = h ∙ sym k
-
 -- the phase determines the outputs, and a dose completes only into Ready
 
 record Tells (set : Settings) (m : Moved) : Type 0 where

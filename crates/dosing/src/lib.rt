@@ -7,7 +7,7 @@ ghost use lib.Dec.{eqb};
 ghost use lib.IntN.{pos, negℤ, _-ℤ_};
 ghost use lib.Signed.{ltZ, leZ};
 ghost use Rattle.dosing.specs.Rules.{gates, shut, to, complete, reachedWf, reachedWc, notBelowZero, zeroed, full, coarseStage, fineStage, readyToFill, fill, hold, settleEnds, dischargeOpens, settle, amountOf, discharge, load, calm, doseCoarse, doseFine, doseSettle, readyToDose, ready};
-ghost use Rattle.dosing.specs.Laws.{TellsNear, Steps};
+ghost use Rattle.dosing.specs.Calls.{TellsNear, Steps};
 ghost use Rattle.dosing.specs.declared.Phase.the-variants.{Coarse, Fine, Load, DoseCoarse, DoseFine};
 
 // A weight in display units.

@@ -1,4 +1,4 @@
--- What follows from the definitions: the samples held after a push, the sizes of means, and that each call's contract fits one result. Assumes nothing.
+-- What follows from the definitions: the samples held after a push, and the sizes of means. Assumes nothing.
 use mathlib.Core.Path.{_≡_, refl, sym, ap, _∙_}
 use mathlib.Core.Bool.{Bool, true, false, cond}
 use mathlib.Core.List.{List, [], _∷_, _++_}
@@ -15,7 +15,6 @@ use lib.Seq.{take-take, take-all}
 use mir.Syntax.{w32}
 use mir.Val.{SFits}
 use Rattle.laws.specs.Pick.{pick, pick-t, pick-f}
-use Rattle.paper.specs.Answer.{same}
 use Rattle.window.specs.declared.Window.{Window}
 use Rattle.window.specs.Mean.{sumOf, halfUp, roundAway, meanOf}
 use Rattle.window.specs.Window.{places, samplesOf, emptyWindow, pushOf}
@@ -41,7 +40,7 @@ room : (x : ℤ) (l : List ℤ) (h : ℕ) → h < places → take (h + 1) (take 
 room x l h k =
     take-take (h + 1) places (x ∷ l) (omega arith)
     ∙ ap (λ (n : ℕ). take n (x ∷ l)) (add-one h)
-    ∙ ap (λ (t : List ℤ). x ∷ t) (sym (take-all 127 (take h l) (omega (arith, length-take h l))))
+    ∙ ap (λ (t : List ℤ). x ∷ t) (sym (take-all (places - 1) (take h l) (omega (arith, length-take h l))))
 
 full : (x : ℤ) (l : List ℤ) (h : ℕ) → length l ≡ places → places ≤ h → take places (take places (x ∷ l)) ≡ take places (x ∷ take h l)
 full x l h e k =
@@ -146,23 +145,3 @@ between-fits (negsuc m) h = record { sfits = omega arith }
 -- the mean of i32s is an i32
 pub mean-fits : (xs : List ℤ) → AllI32 xs → SFits w32 (meanOf xs)
 mean-fits xs e = between-fits (meanOf xs) (mean-between _ _ xs e)
-
--- what each call's result has to meet
-abbrev pub IsEmpty : Window → Type 0
-IsEmpty r = r ≡ emptyWindow
-
-abbrev pub Pushes : Window → ℤ → Window → Type 0
-Pushes w x r = r ≡ pushOf w x
-
-abbrev pub Means : Window → ℕ → ℤ → Type 0
-Means w n r = r ≡ meanOf (take n (samplesOf w))
-
--- two results that meet a call's contract are equal
-pub new-determined : {r s : Window} → IsEmpty r → IsEmpty s → r ≡ s
-new-determined p q = same p q
-
-pub push-determined : (w : Window) (x : ℤ) {r s : Window} → Pushes w x r → Pushes w x s → r ≡ s
-push-determined w x p q = same p q
-
-pub mean-determined : (w : Window) (n : ℕ) {r s : ℤ} → Means w n r → Means w n s → r ≡ s
-mean-determined w n p q = same p q

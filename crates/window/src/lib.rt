@@ -8,7 +8,7 @@ ghost use Rattle.laws.specs.Pick.{pick};
 ghost use Rattle.window.specs.Mean.{roundAway};
 ghost use Rattle.window.specs.Range.{Total};
 ghost use Rattle.window.specs.Window.{places};
-ghost use Rattle.window.specs.Laws.{IsEmpty, Pushes, Means};
+ghost use Rattle.window.specs.Calls.{IsEmpty, Pushes, Means};
 
 // The newest sample stands first; `held` of the places are in use.
 pub struct Window {
