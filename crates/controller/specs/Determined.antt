@@ -10,13 +10,11 @@ use Rattle.laws.specs.Pick.{pick}
 use Rattle.paper.specs.Answer.{Answer, done, refused, fault, same}
 use Rattle.paper.specs.Numbers.{R3, R4, R5, R6, R7, R9, R15, F14}
 use Rattle.settings.specs.declared.Settings.{Settings}
+use Rattle.counters.specs.declared.Counters.{Counters}
+use Rattle.counters.specs.declared.Record.{Record}
 use Rattle.controller.specs.Tick.{Told, saysFault}
-use Rattle.controller.specs.Calls.{freshOf, linkOf}
-use Rattle.controller.specs.Says.{saysTick, saysSet, saysReset, saysRestart, saysReply, Ticks, Sets, Resets, Restarts, Replies}
-use Rattle.controller.specs.Made.{Made}
+use Rattle.controller.specs.Says.{saysTick, saysSet, saysReset, saysRestart, saysReply, Ticks, Freshens, Links, Counted, Sets, Resets, Restarts, Replies}
 use Rattle.controller.specs.declared.Controller.{Controller}
-use Rattle.controller.specs.declared.Counters.{Counters}
-use Rattle.controller.specs.declared.Record.{Record}
 use Rattle.controller.specs.declared.Fault.{Fault}
 use Rattle.controller.specs.declared.Fault.the-variants as F
 use Rattle.controller.specs.declared.TickAnswer.{TickAnswer}
@@ -133,7 +131,7 @@ reply-one = back-one saysReply replyBack reply-back
 
 -- ---- two results that both meet a call's contract are equal
 
-pub fresh-determined : (a b : Controller) → Made freshOf a → Made freshOf b → a ≡ b
+pub fresh-determined : (a b : Controller) → Freshens a → Freshens b → a ≡ b
 fresh-determined a b p q = same (p .is) (q .is)
 
 pub restart-determined : (set : Settings) (count total : ℕ) (a b : Restarted) → Restarts set count total a → Restarts set count total b → a ≡ b
@@ -151,10 +149,10 @@ reset-determined c a b p q =
     ap₂ {C = ResetTo} (λ (d : Controller) (x : ResetAnswer). record { next = d; answer = x })
     (same (p .next) (q .next)) (reset-one (a .answer) (b .answer) (same (p .says) (q .says)))
 
-pub counters-determined : (c : Controller) (a b : Counters) → a ≡ c .counters → b ≡ c .counters → a ≡ b
+pub counters-determined : (c : Controller) (a b : Counters) → Counted c a → Counted c b → a ≡ b
 counters-determined c a b p q = same p q
 
-pub link-determined : (c : Controller) (on : Bool) (a b : Controller) → Made (linkOf c on) a → Made (linkOf c on) b → a ≡ b
+pub link-determined : (c : Controller) (on : Bool) (a b : Controller) → Links c on a → Links c on b → a ≡ b
 link-determined c on a b p q = same (p .is) (q .is)
 
 pub tick-determined : (c : Controller) (x : ℤ) (i : ℕ) (a b : Ticked) → Ticks c x i a → Ticks c x i b → a ≡ b

@@ -12,14 +12,14 @@ is-ready-requires : tie.Need-is-ready-requires
 is-ready-requires c κs = search needs
 
 returns : tie.Need-returns
-unfolding resetOf resetAnswer after pick
+unfolding isReady resetOf resetAnswer after pick
 returns c =
     let p = c .before .before in
     let e : isReady (p .args .self) ≡ false = so (c .before .is-ready .ensures) (not-true _ (c .if1 .taken)) in
     resets (p .args .self) (p .pre) (rw e) (rw e)
 
 returns-2 : tie.Need-returns-2
-unfolding resetOf resetAnswer after pick
+unfolding isReady resetOf resetAnswer after pick
 returns-2 c =
     let p = c .before .before in
     let e : isReady (p .args .self) ≡ true = so (c .before .is-ready .ensures) (not-false _ (c .if1 .left)) in

@@ -5,7 +5,7 @@ use mir.Val.{SFits}
 use mir.Facts.{toZ-ofZ}
 use borrow.Author.Needs.{needs}
 use Rattle.window.specs.Window.{pushOf}
-use Rattle.controller.proofs.Steps.{kept-first, runs-short, mean-weighs}
+use Rattle.controller.proofs.Steps.{kept-first, mean-small}
 use Rattle.controller.proofs.tick.steps4and5.Statement.{statement}
 use Rattle.controller.proofs.tick.steps4and5.Tie as tie
 
@@ -35,10 +35,8 @@ steps6to8-requires : tie.Need-steps6to8-requires
 steps6to8-requires c κs =
     let m = c .before .before .before in
     let k = m .before .before in
-    let d = k .before .before in (
-      runs-short _ (d .pre .sound) (d .pre .clear),
-      mean-weighs (d .args .c) _ _ (m .before .filter-of .result) (d .pre .sound) (d .pre .inside) (kept k) (m .mean-of .ensures),
-    )
+    let d = k .before .before in
+    mean-small (d .args .c) _ (m .before .filter-of .result) (d .pre .sound) (d .pre .inside) (kept k) (m .mean-of .ensures)
 
 returns : tie.Need-returns
 returns c =

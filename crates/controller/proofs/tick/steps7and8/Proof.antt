@@ -1,11 +1,16 @@
-use mathlib.Core.Path.{_∙_}
 use borrow.Author.Needs.{needs}
-use Rattle.controller.specs.Tick.{step8}
-use Rattle.controller.proofs.tick.step8.Statement.{statement}
-use Rattle.controller.proofs.tick.step8.Tie as tie
+use Rattle.controller.proofs.Steps.{steps-7-8}
+use Rattle.controller.proofs.tick.steps7and8.Statement.{statement}
+use Rattle.controller.proofs.tick.steps7and8.Tie as tie
 
 weight-requires : tie.Need-weight-requires
 weight-requires c κs = search needs
+
+stable-of-requires : tie.Need-stable-of-requires
+stable-of-requires c κs = search needs
+
+step-requires : tie.Need-step-requires
+step-requires c κs = search needs
 
 over-capacity-requires : tie.Need-over-capacity-requires
 over-capacity-requires c κs = search needs
@@ -23,21 +28,22 @@ answer-of-requires : tie.Need-answer-of-requires
 answer-of-requires c κs = search needs
 
 returns : tie.Need-returns
-unfolding step8
 returns c =
     let a = c .before .before .before .before in
     let n = a .before .before in
     let o = n .before .before in
-    record {
-      next = simp (n .counters-after .ensures, n .before .calm-after .ensures, o .over-capacity .ensures, o .before .weight .ensures);
-      says = a .answer-of .ensures ∙ simp (a .before .outputs-of .ensures, n .counters-after .ensures, o .over-capacity .ensures, o .before .weight .ensures);
-    }
+    let m = o .before .before .before in
+    let w = m .before .before in
+    let p = w .before .before .before in
+    steps-7-8 (p .args .c) (p .args .start) (w .weight .ensures) (m .before .stable-of .ensures) (m .step .ensures) (o .over-capacity .ensures) (n .before .calm-after .ensures) (n .counters-after .ensures) (a .before .outputs-of .ensures) (a .answer-of .ensures)
 
-pub step8-spec : {M : Type 1} → statement M
-step8-spec =
+pub steps7and8-spec : {M : Type 1} → statement M
+steps7and8-spec =
     tie.close
     (tie.spec
     weight-requires
+    stable-of-requires
+    step-requires
     over-capacity-requires
     calm-after-requires
     counters-after-requires
