@@ -1,6 +1,5 @@
 -- Bodies in arrays: what the reader found, and what building handed over. Assumes nothing.
 use mathlib.Core.Path.{_≡_, refl, sym, ap, _∙_}
-use mathlib.Core.Bool.{Bool, true, false}
 use mathlib.Core.List.{List, [], _∷_, _++_}
 use Prim.Native.Nat.{ℕ, _-_, _≤_}
 use native.Mathlib.Omega.{arith}
@@ -8,19 +7,20 @@ use lib.ListN.{length, take, replicate, length-append}
 use lib.Seq.{take-at}
 use types.Run.{OneOf, miss}
 use denote.Enum.Declared.{tagOf}
-use Rattle.laws.specs.Pick.{pick, pick-t, pick-f}
-use Rattle.paper.specs.Answer.{Answer, done, refused, fault, told, bytesIn, Fills, Hands}
+use Rattle.laws.specs.Pick.{pick-f}
+use Rattle.paper.specs.Answer.{Answer, done, refused, fault, told, onDone, bytesIn, Fills, Hands}
 use Rattle.paper.specs.AnswerLaws.{refused-done, fault-done, done-refused, told-refused, fills-refused}
 use Rattle.paper.specs.Numbers.{R14}
 use Rattle.frame.proofs.Found.{the-type as found-type}
-use Rattle.frame.specs.Frame.{framable, writeOf}
+use Rattle.message.proofs.Built.{the-type as built-type}
+use Rattle.frame.specs.Frame.{writeOf}
 use Rattle.frame.specs.Read.{Finished, readOf}
 use Rattle.frame.specs.ReadLaws.{done-whole}
 use Rattle.frame.specs.Says.{saysFound, placeAndLength, Reads}
 use Rattle.frame.specs.declared.Found.{Found}
 use Rattle.frame.specs.declared.Found.the-variants as F
 use Rattle.frame.specs.declared.Read.{Read}
-use Rattle.message.specs.Message.{bodyOf, partsOf, splitOf, buildOf}
+use Rattle.message.specs.Message.{partsOf, splitOf, improper, buildOf}
 use Rattle.message.specs.Says.{saysSplit, saysBuilt}
 use Rattle.message.specs.declared.Form.{Form}
 use Rattle.message.specs.declared.Parts.{Parts}
@@ -29,7 +29,7 @@ use Rattle.message.specs.declared.Split.the-variants as S
 use Rattle.message.specs.declared.Built.{Built}
 use Rattle.message.specs.declared.Built.the-variants as B
 use Rattle.asking.specs.Asking.{heardOf, replyBytes, replyOf}
-use Rattle.asking.specs.Says.{saysHeard, unreadOf}
+use Rattle.asking.specs.Says.{saysHeard, unreadOf, saysSent, unbuiltOf}
 use Rattle.asking.specs.declared.Reply.{Reply}
 
 -- ---- bytes in an array
@@ -98,26 +98,37 @@ heard-unread s (F.R6 place) k e = rw (told-refused placeAndLength (readOf s) _ _
 
 -- ---- what building handed over
 
-not-framed : (t : Bool) (body : List ℕ) → refused R14 [] ≡ told length (pick t (done body) (refused R14 [])) → t ≡ false
-unfolding told pick
-not-framed true body e = refused-done e
-not-framed false body e = refl
-
-framed : (t : Bool) (body : List ℕ) {n : ℕ} → done n ≡ told length (pick t (done body) (refused R14 [])) → (t ≡ true) × (n ≡ length body)
-unfolding told pick
-framed true body e = (refl, cc)
-framed false body e = done-refused e
+-- the body that was built stands in its array
+pub record Stands (form : Form) (op : ℕ) (holds : Reply) (array : List ℕ) (n : ℕ) : Type 0 where
+  pub body : List ℕ
+  pub built : buildOf form op (replyBytes holds) ≡ done body
+  pub front : Front body array n
 
 module _ (form : Form) (op : ℕ) (holds : Reply) (built : Built) {array : List ℕ} (hands : Hands 254 (saysBuilt built) (buildOf form op (replyBytes holds)) array) where
-  abbrev body : List ℕ
-  body = bodyOf form op (replyBytes holds)
+  not-built : (n : ℕ) → saysBuilt built ≡ refused n [] → (old : List ℕ) → Fills (refused n []) (replyOf form op holds (length old)) old old
+  unfolding replyOf onDone
+  not-built n e old =
+      fills-refused (ap (λ (a : Answer (List ℕ)). onDone a (λ body. writeOf body (length old))) (told-refused length (buildOf form op (replyBytes holds)) n [] (sym (hands .says) ∙ e))) old
 
-  pub unbuilt : built ≡ B.R14 → (old : List ℕ) → Fills (refused R14 []) (replyOf form op holds (length old)) old old
-  unfolding buildOf replyOf writeOf
-  unbuilt e old = fills-refused (pick-f _ _ _ (not-framed (framable body) body (sym (ap saysBuilt e) ∙ hands .says))) old
+  pub built-stands : {n : ℕ} → built ≡ B.Body n → Stands form op holds array n
+  unfolding bytesIn
+  built-stands {n} e =
+      told-done length (buildOf form op (replyBytes holds)) n (sym (ap saysBuilt e) ∙ hands .says)
+      (λ body k l. record {
+        body = body;
+        built = k;
+        front = front body (254 - length body) (hands .holds ∙ ap (λ (r : Answer (List ℕ)). bytesIn r ++ replicate (254 - length (bytesIn r)) 0) k) l;
+      })
 
-  pub built-front : {n : ℕ} → built ≡ B.Body n → Front body array n
-  unfolding buildOf bytesIn
-  built-front e =
-      let p = framed (framable body) body (sym (ap saysBuilt e) ∙ hands .says) in
-      front body (254 - length body) (hands .holds ∙ ap (λ (r : Answer (List ℕ)). bytesIn r ++ replicate (254 - length (bytesIn r)) 0) (pick-t _ _ _ (p .0))) (p .1)
+-- what building refuses
+pub unbuilt-fills : (form : Form) (op : ℕ) (holds : Reply) (built : Built) {array : List ℕ} → Hands 254 (saysBuilt built) (buildOf form op (replyBytes holds)) array
+    → OneOf (1 ∷ 2 ∷ []) (tagOf built-type built) → (old : List ℕ) → Fills (saysSent (unbuiltOf built)) (replyOf form op holds (length old)) old old
+unfolding unbuiltOf
+unbuilt-fills form op holds (B.Body n) hands k old = absurd (miss (1 ∷ 2 ∷ []) 0 tt k)
+unbuilt-fills form op holds B.Improper hands k old = not-built form op holds B.Improper hands improper refl old
+unbuilt-fills form op holds B.R14 hands k old = not-built form op holds B.R14 hands R14 refl old
+
+-- what was built is framed
+pub built-replies : {form : Form} {op : ℕ} {holds : Reply} {array : List ℕ} {n : ℕ} (s : Stands form op holds array n) (room : ℕ) → writeOf (take n array) room ≡ replyOf form op holds room
+unfolding replyOf onDone
+built-replies s room = ap (λ (b : List ℕ). writeOf b room) (s .front .is) ∙ sym (ap (λ (a : Answer (List ℕ)). onDone a (λ body. writeOf body room)) (s .built))

@@ -12,7 +12,7 @@ use Rattle.frame.specs.Read.{Finished, readOf}
 use Rattle.message.specs.declared.Form.{Form}
 use Rattle.message.specs.declared.Form.the-variants.{Address, Serial}
 use Rattle.message.specs.declared.Parts.{Parts}
-use Rattle.message.specs.Message.{partsOf, bodyOf}
+use Rattle.message.specs.Message.{partsOf, bodyOf, buildOf}
 use Rattle.asking.specs.declared.Reply.{Reply}
 use Rattle.asking.specs.declared.Reply.the-variants as R
 
@@ -77,6 +77,6 @@ replyBytes (R.Weight f) = fieldBytes f
 unfoldable pub answerFrame : Form → ℕ → List ℕ → List ℕ
 answerFrame form operation values = frame (bodyOf form operation values)
 
--- the reply in a buffer of `room` bytes: R14 where its body cannot be framed, then R8
+-- the reply in a buffer of `room` bytes: its body is built, then R8
 unfoldable pub replyOf : Form → ℕ → Reply → ℕ → Answer (List ℕ)
-replyOf form operation holds room = writeOf (bodyOf form operation (replyBytes holds)) room
+replyOf form operation holds room = onDone (buildOf form operation (replyBytes holds)) (λ body. writeOf body room)

@@ -8,7 +8,7 @@ use Rattle.paper.specs.Numbers.{R5, R6, R7, R8, R9, R14}
 use Rattle.frame.specs.Check.{check, enterAll, enter, enterBits, enterBit, fellOut}
 use Rattle.frame.specs.Frame.{frame, sent, sentByte, extended, framable, fewest, writeOf}
 use Rattle.frame.specs.Read.{readOf, readAll, run, step, grown, answerOf, judged, bad, tooShort}
-use Rattle.message.specs.Message.{partsOf, formOf, addressLength, bodyOf, addressBytes}
+use Rattle.message.specs.Message.{partsOf, formOf, addressLength, proper, bodyOf, addressBytes, framableOf, improper, buildOf}
 use Rattle.message.specs.declared.Form.{Form}
 use Rattle.message.specs.declared.Form.the-variants.{Address, Serial}
 use Rattle.asking.specs.Asking.{Asked, heardOf, ours, addressOf, known, bare, codeOf, askOf, fieldBytes, replyBytes, replyOf}
@@ -39,7 +39,7 @@ pub cases :
 unfolding askOf heardOf addressOf ours codeOf known bare told onDone readOf readAll run step grown answerOf judged bad tooShort extended partsOf formOf addressLength check enterAll enter enterBits enterBit fellOut pick
 cases = (refl, refl, refl, refl, refl, refl, refl, refl, refl, refl, refl, refl, refl)
 
--- C0's reply in a buffer that it just fills and in one a byte shorter; one byte; weight and CON by the serial; an address that no frame begins with
+-- C0's reply in a buffer that it just fills and in one a byte shorter; one byte; weight and CON by the serial; an address that no frame begins with, and forms that their bytes would not give back
 pub replies :
     (replyOf (Address 1) 0xC0 R.Nothing 6 ≡ done (0xFF ∷ 0x01 ∷ 0xC0 ∷ 0x58 ∷ 0xFF ∷ 0xFF ∷ []))
     × (replyOf (Address 1) 0xC0 R.Nothing 5 ≡ refused R8 [])
@@ -47,5 +47,7 @@ pub replies :
     × (replyOf (Serial 0x030201) 0xC3 (R.Weight (record { low = 0x50; middle = 0; high = 0; con = 2 })) 20
     ≡ done (0xFF ∷ 0x00 ∷ 0x01 ∷ 0x02 ∷ 0x03 ∷ 0xC3 ∷ 0x50 ∷ 0x00 ∷ 0x00 ∷ 0x02 ∷ 0x13 ∷ 0xFF ∷ 0xFF ∷ []))
     × (replyOf (Address 0xFF) 0xC0 R.Nothing 20 ≡ refused R14 [])
-unfolding replyOf replyBytes fieldBytes writeOf framable fewest extended inRoom frame sent sentByte bodyOf addressBytes check enterAll enter enterBits enterBit fellOut pick
-replies = (refl, refl, refl, refl, refl)
+    × (replyOf (Address 0) 0xC0 R.Nothing 20 ≡ refused improper [])
+    × (replyOf (Serial 0x1000000) 0xC0 R.Nothing 20 ≡ refused improper [])
+unfolding replyOf onDone buildOf proper framableOf replyBytes fieldBytes writeOf framable fewest extended inRoom frame sent sentByte bodyOf addressBytes check enterAll enter enterBits enterBit fellOut pick
+replies = (refl, refl, refl, refl, refl, refl, refl)

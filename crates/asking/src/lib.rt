@@ -7,8 +7,9 @@ use message::Form;
 use message::Parts;
 use message::Split;
 ghost use mathlib.Core.Path.{_≡_};
+ghost use Rattle.frame.specs.Says.{saysWrote};
 ghost use Rattle.asking.specs.Asking.{ours, replyBytes};
-ghost use Rattle.asking.specs.Says.{Hears, Addresses, Codes, Sends, Holds, unreadOf};
+ghost use Rattle.asking.specs.Says.{Hears, Addresses, Codes, Sends, Holds, unreadOf, unbuiltOf, saysSent};
 
 // The stage of R9 and R6: a finished body's parts, with the place of the second closing FF.
 pub enum Heard {
@@ -34,6 +35,14 @@ pub enum Reply {
     Nothing,
     Byte(u8),
     Weight(Field),
+}
+
+// What framing a reply answers: its length, or a refusal: a form that its bytes would not give back, which has no number in document 01, R14 or R8.
+pub enum Sent {
+    Frame(usize),
+    Improper,
+    R14,
+    R8,
 }
 
 // A reply's data: the first len of the bytes.
@@ -122,8 +131,30 @@ fn data_of(holds: Reply) -> Data
     }
 }
 
+// A body that was not built.
+fn unbuilt(built: Built) -> Sent
+    ensures { λ r. ⌜ r ≡ unbuiltOf built ⌝ }
+{
+    match built {
+        Built::Body(_) => Sent::Improper,
+        Built::Improper => Sent::Improper,
+        Built::R14 => Sent::R14,
+    }
+}
+
+// What the frame writer answered.
+fn sent_as(wrote: Wrote) -> Sent
+    ensures { λ r. ⌜ saysSent r ≡ saysWrote wrote ⌝ }
+{
+    match wrote {
+        Wrote::Frame(len) => Sent::Frame(len),
+        Wrote::R14 => Sent::R14,
+        Wrote::R8 => Sent::R8,
+    }
+}
+
 // Frames a reply into the lent buffer: the request's address form, its operation code and the data.
-pub fn write_reply(form: Form, operation: u8, holds: Reply, reply: &mut [u8]) -> Wrote
+pub fn write_reply(form: Form, operation: u8, holds: Reply, reply: &mut [u8]) -> Sent
     ensures { λ r. ⌜ Sends form operation holds (now (reply .entry)) (now (reply .exit)) r ⌝ }
 {
     let data = data_of(holds);
@@ -132,8 +163,8 @@ pub fn write_reply(form: Form, operation: u8, holds: Reply, reply: &mut [u8]) ->
     let body = message::build_body(form, operation, &values[..len]);
     let built = body.built;
     let Built::Body(n) = built else {
-        return Wrote::R14;
+        return unbuilt(built);
     };
     let bytes = body.bytes;
-    frame::write_frame(&bytes[..n], reply)
+    sent_as(frame::write_frame(&bytes[..n], reply))
 }
