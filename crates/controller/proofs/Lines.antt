@@ -15,10 +15,9 @@ use Rattle.paper.specs.Numbers.{R3, R4, R5, R7, R8}
 use Rattle.settings.specs.Good.{good-ranges}
 use Rattle.settings.specs.declared.Settings.{Settings}
 use Rattle.window.specs.declared.Window.{Window}
-use Rattle.frame.proofs.Wrote.{the-type as wrote-type}
-use Rattle.frame.specs.Says.{saysWrote, wrote-one}
-use Rattle.frame.specs.declared.Wrote.{Wrote}
-use Rattle.frame.specs.declared.Wrote.the-variants as W
+use Rattle.asking.proofs.Sent.{the-type as sent-type}
+use Rattle.asking.specs.declared.Sent.{Sent}
+use Rattle.asking.specs.declared.Sent.the-variants as W
 use Rattle.message.specs.declared.Form.{Form}
 use Rattle.message.specs.declared.Parts.{Parts}
 use Rattle.dosing.specs.Rules.{units, nearZero}
@@ -30,7 +29,7 @@ use Rattle.asking.proofs.Coded.{the-type as coded-type}
 use Rattle.asking.proofs.Heard.{the-type as heard-type}
 use Rattle.asking.specs.Asking.{Asked, askedBy, heardOf, ours, addressOf, known, bare, codeOf, askOf, replyBytes}
 use Rattle.asking.specs.Laws.{reply-framed}
-use Rattle.asking.specs.Says.{Hears, Addresses, Codes, Sends}
+use Rattle.asking.specs.Says.{Hears, Addresses, Codes, Sends, saysSent, sent-one}
 use Rattle.asking.specs.declared.Addressed.{Addressed}
 use Rattle.asking.specs.declared.Addressed.the-variants as A
 use Rattle.asking.specs.declared.Coded.{Coded}
@@ -121,14 +120,14 @@ module _ (c : Controller) (s : List ℕ) {place : ℕ} {p : Parts} (heard : done
         is-asked zeroed = by-stages ∙ rw (← us, ← good, ← timed, ← zeroed)
 
 -- a reply to what is ours can always be framed
-pub framed : (c : Controller) (form : Form) (op place : ℕ) (holds : Reply) (w : Wrote) {old new : List ℕ} → Sound c
+pub framed : (c : Controller) (form : Form) (op place : ℕ) (holds : Reply) (w : Sent) {old new : List ℕ} → Sound c
     → done tt ≡ addressOf place form (c .set .address) (c .set .serial) → replyBytes holds ≡ replyData c op → Sends form op holds old new w
-    → Fills (saysWrote w) (inRoom [] (length old) (replyFrame c (record { place = place; form = form; operation = op }))) old new
+    → Fills (saysSent w) (inRoom [] (length old) (replyFrame c (record { place = place; form = form; operation = op }))) old new
 unfolding addressOf replyFrame
 framed c form op place holds w {old} {new} s us e fills =
     let r = good-ranges (c .set) (s .set) in
     let own = passed (ours form (c .set .address) (c .set .serial)) (done tt) R5 (place ∷ []) tt (sym us) .0 in
-    rw (← e) (subst (λ (x : Answer (List ℕ)). Fills (saysWrote w) x old new) (reply-framed (c .set .address) (c .set .serial) (r .address .0) (r .address .1) form op holds (length old) own) fills)
+    rw (← e) (subst (λ (x : Answer (List ℕ)). Fills (saysSent w) x old new) (reply-framed (c .set .address) (c .set .serial) (r .address .0) (r .address .1) form op holds (length old) (r .serial) own) fills)
 
 -- ---- the contract
 
@@ -161,19 +160,19 @@ module _ (c : Controller) (s old : List ℕ) (sound : Sound c) where
   unheard-refuses (H.R6 place) k e n a = refuses (rw (← e)) n (ap saysReply a)
 
   -- what the writer gives
-  module _ {a : Asked} (w : Wrote) {new : List ℕ} (e : askedOf c s ≡ done a) (fills : Fills (saysWrote w) (inRoom [] (length old) (replyFrame c a)) old new) where
+  module _ {a : Asked} (w : Sent) {new : List ℕ} (e : askedOf c s ≡ done a) (fills : Fills (saysSent w) (inRoom [] (length old) (replyFrame c a)) old new) where
     asked-so : requestOf c s (length old) ≡ replied c a (length old)
     unfolding requestOf repliesTo
     asked-so = rw e
 
-    pub no-room : {r : Requested} → OneOf (1 ∷ 2 ∷ []) (tagOf wrote-type w) → r .next ≡ c → saysReply (r .answer) ≡ refused R8 (a .place ∷ []) → Replies c s old new r
+    pub no-room : {r : Requested} → OneOf (1 ∷ 2 ∷ 3 ∷ []) (tagOf sent-type w) → r .next ≡ c → saysReply (r .answer) ≡ refused R8 (a .place ∷ []) → Replies c s old new r
     unfolding replied inRoom told leaves
     no-room {r} k n h = go (leb (length (replyFrame c a)) (length old)) refl
       where
         go : (t : Bool) → leb (length (replyFrame c a)) (length old) ≡ t → Replies c s old new r
         go true l =
-            let same = wrote-one w (W.Frame (length (replyFrame c a))) (fills .says ∙ rw (pick-t _ _ _ l)) in
-            absurd (miss (1 ∷ 2 ∷ []) 0 tt (subst (λ (x : Wrote). OneOf (1 ∷ 2 ∷ []) (tagOf wrote-type x)) same k))
+            let same = sent-one w (W.Frame (length (replyFrame c a))) (fills .says ∙ rw (pick-t _ _ _ l)) in
+            absurd (miss (1 ∷ 2 ∷ 3 ∷ []) 0 tt (subst (λ (x : Sent). OneOf (1 ∷ 2 ∷ 3 ∷ []) (tagOf sent-type x)) same k))
         go false l = replies (still c (refused R8 (a .place ∷ []))) (asked-so ∙ pick-f _ _ _ l) n h (fills .left ∙ rw (pick-f _ _ _ l))
 
     pub sends : {r : Requested} {n : ℕ} → w ≡ W.Frame n → r .next ≡ zeroedBy c (a .operation) → saysReply (r .answer) ≡ done (a .place, n) → Replies c s old new r
@@ -182,10 +181,10 @@ module _ (c : Controller) (s old : List ℕ) (sound : Sound c) where
       where
         go : (t : Bool) → leb (length (replyFrame c a)) (length old) ≡ t → Replies c s old new r
         go true l =
-            let says : done n ≡ done (length (replyFrame c a)) = sym (ap saysWrote k) ∙ fills .says ∙ rw (pick-t _ _ _ l) in
+            let says : done n ≡ done (length (replyFrame c a)) = sym (ap saysSent k) ∙ fills .says ∙ rw (pick-t _ _ _ l) in
             let size : n ≡ length (replyFrame c a) = cc in
             replies (record { next = zeroedBy c (a .operation); answer = done (record { place = a .place; bytes = replyFrame c a }) })
             (asked-so ∙ pick-t _ _ _ l) m (rw size at h) (fills .left ∙ rw (pick-t _ _ _ l))
         go false l =
-            let says : done n ≡ refused R8 [] = sym (ap saysWrote k) ∙ fills .says ∙ rw (pick-f _ _ _ l) in
+            let says : done n ≡ refused R8 [] = sym (ap saysSent k) ∙ fills .says ∙ rw (pick-f _ _ _ l) in
             done-refused says

@@ -7,9 +7,9 @@ use asking::Addressed;
 use asking::Coded;
 use asking::Heard;
 use asking::Reply;
+use asking::Sent;
 use dosing::Units;
 use field::Written;
-use frame::Wrote;
 use scale::Weighed;
 use settings::Settings;
 use window::Window;
@@ -69,7 +69,7 @@ impl Controller {
         let mut next = self;
         next.z = z;
         let holds = reply_of(self, operation);
-        let Wrote::Frame(len) = asking::write_reply(form, operation, holds, reply) else {
+        let Sent::Frame(len) = asking::write_reply(form, operation, holds, reply) else {
             return refused(self, RequestAnswer::R8(place));
         };
         Requested {
