@@ -10,8 +10,8 @@ use Rattle.paper.specs.Answer.{Answer, done, refused, fault}
 use Rattle.settings.specs.declared.Settings.{Settings}
 use Rattle.hourly.specs.Hours.{total}
 use Rattle.controller.specs.declared.Controller.{Controller}
-use Rattle.controller.specs.declared.Counters.{Counters}
-use Rattle.controller.specs.State.{counters}
+use Rattle.counters.specs.declared.Counters.{Counters}
+use Rattle.counters.specs.Counters.{counters}
 use Rattle.controller.specs.Tick.{tickOf}
 use Rattle.controller.specs.Calls.{freshOf, isReady, restartOf, after, resetAnswer, resetOf, restartedFrom}
 use Rattle.controller.specs.Promises.{restart-counters, settings-counters, link-counters, request-counters}

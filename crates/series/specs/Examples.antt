@@ -24,9 +24,12 @@ use Rattle.window.specs.Mean.{meanOf, roundAway, halfUp, sumOf}
 use Rattle.window.specs.Window.{samplesOf, pushOf, emptyWindow}
 use Rattle.dosing.specs.Rules.{stepOf, ready, readyToFill, readyToDose, waits, zeroed, nearZero, fillBegins, coarseStage, fineStage, fill, full, hold, settle, settleEnds, dischargeOpens, discharge, amountOf, load, calm, doseCoarse, doseFine, doseSettle, reachedWf, reachedWc, notBelowZero}
 use Rattle.controller.specs.declared.Controller.{Controller}
-use Rattle.controller.specs.declared.Record.{Record}
+use Rattle.counters.specs.declared.Record.{Record}
 use Rattle.controller.specs.State.{restarted}
-use Rattle.controller.specs.Tick.{tickOf, step2, step3, steps4and5, steps6to8, mismatched, runsAfter, runAfter, expected, step7, step8, seenOf, wOf, stableOf, filterOf, equalZ, none, calmRun, startOf, outside, faulted, saysFault, outputsOf, worth, input, overCapacity, changed, countersAfter, countedOf, recordsOf}
+use Rattle.channels.specs.Channels.{runsAfter, runAfter, expected, startOf, outputsOf, worth, input, watchOf}
+use Rattle.counters.specs.Counters.{countersAfter, countedOf, recordOf, recordsOf}
+use Rattle.scale.specs.Scale.{stableOf, filterOf, equalZ, none, calmRun, outside, overCapacity, changed, filtered, calmAfter}
+use Rattle.controller.specs.Tick.{tickOf, step2, step3, steps4and5, steps6to8, mismatched, step7, step8, seenOf, wOf, faulted, saysFault}
 use Rattle.controller.specs.Calls.{atReady, readyIn, isReady, storedBad, restartOf, freshOf, linkOf, restartedFrom}
 use Rattle.controller.specs.Outside.{wAt, clear, inDoseSettle, shuts3, leavesSettle, completes, begins, opens3, noted, amountSeen, dosesSeen}
 use Rattle.series.specs.Events.{Event, tick, link, request, settings, reset, restart, eventOf, nothingSeen, anew, anewIf, seenAfter, seen, recordsIn, recordsAt, records}
@@ -58,7 +61,7 @@ pub two-doses :
     (dosesAfter twoOfAL1 ≡ 112 ∷ 250 ∷ [])
     × (dosesAfter twoOfAL2 ≡ 200 ∷ 150 ∷ [])
     × (dosesAfter twoOfAL3 ≡ 250 ∷ 100 ∷ [])
-unfolding seen seenAfter anewIf anew eventOf restartedFrom nothingSeen restartOf storedBad onDone firstBad firstFrom table inRange leastLevel mostLevel wAt clear inDoseSettle shuts3 leavesSettle completes begins opens3 noted amountSeen dosesSeen atReady readyIn isReady linkOf freshOf restarted defaultSet tickOf step2 step3 steps4and5 steps6to8 mismatched runsAfter runAfter expected step7 step8 seenOf wOf stableOf filterOf equalZ none calmRun startOf outside faulted saysFault outputsOf worth input overCapacity changed countersAfter countedOf recordsOf stepOf ready readyToFill readyToDose waits zeroed nearZero fillBegins coarseStage fineStage fill full hold settle settleEnds dischargeOpens discharge amountOf load calm doseCoarse doseFine doseSettle reachedWf reachedWc notBelowZero Wc Wf samplesOf pushOf emptyWindow meanOf roundAway halfUp sumOf pick xor setOf
+unfolding seen seenAfter anewIf anew eventOf restartedFrom nothingSeen restartOf storedBad onDone firstBad firstFrom table inRange leastLevel mostLevel wAt clear inDoseSettle shuts3 leavesSettle completes begins opens3 noted amountSeen dosesSeen atReady readyIn isReady linkOf freshOf restarted defaultSet tickOf step2 step3 steps4and5 steps6to8 mismatched watchOf runsAfter runAfter expected step7 step8 seenOf wOf stableOf filtered filterOf equalZ none calmRun startOf outside faulted saysFault outputsOf worth input overCapacity changed calmAfter countersAfter countedOf recordOf recordsOf stepOf ready readyToFill readyToDose waits zeroed nearZero fillBegins coarseStage fineStage fill full hold settle settleEnds dischargeOpens discharge amountOf load calm doseCoarse doseFine doseSettle reachedWf reachedWc notBelowZero Wc Wf samplesOf pushOf emptyWindow meanOf roundAway halfUp sumOf pick xor setOf
 two-doses = (refl, refl, refl)
 
 -- ---- they are series: their restart carries the fresh controller's counters over, and nothing else restarts
@@ -96,13 +99,13 @@ two-series = (begun-series _ _ tt, begun-series _ _ tt, begun-series _ _ tt)
 -- ---- a journal of the first: both doses in hour 10, and the box on for all of it
 
 abbrev dose : ℕ → ℕ → Record
-dose count amount = record { count = count; amount = amount; settled = true }
+dose count amount = record { count = count; amount = amount; settled = 1 }
 
 abbrev stamp : Record → Stamped
 stamp r = record { hour = 10; dose = r }
 
 told-AL1 : records freshOf twoOfAL1 ≡ dose 1 112 ∷ dose 2 250 ∷ []
-unfolding records recordsAt recordsIn eventOf restartedFrom nothingSeen restartOf storedBad onDone firstBad firstFrom table inRange leastLevel mostLevel wAt clear inDoseSettle shuts3 leavesSettle completes begins opens3 noted amountSeen dosesSeen atReady readyIn isReady linkOf freshOf restarted defaultSet tickOf step2 step3 steps4and5 steps6to8 mismatched runsAfter runAfter expected step7 step8 seenOf wOf stableOf filterOf equalZ none calmRun startOf outside faulted saysFault outputsOf worth input overCapacity changed countersAfter countedOf recordsOf stepOf ready readyToFill readyToDose waits zeroed nearZero fillBegins coarseStage fineStage fill full hold settle settleEnds dischargeOpens discharge amountOf load calm doseCoarse doseFine doseSettle reachedWf reachedWc notBelowZero Wc Wf samplesOf pushOf emptyWindow meanOf roundAway halfUp sumOf pick xor setOf
+unfolding records recordsAt recordsIn eventOf restartedFrom nothingSeen restartOf storedBad onDone firstBad firstFrom table inRange leastLevel mostLevel wAt clear inDoseSettle shuts3 leavesSettle completes begins opens3 noted amountSeen dosesSeen atReady readyIn isReady linkOf freshOf restarted defaultSet tickOf step2 step3 steps4and5 steps6to8 mismatched watchOf runsAfter runAfter expected step7 step8 seenOf wOf stableOf filtered filterOf equalZ none calmRun startOf outside faulted saysFault outputsOf worth input overCapacity changed calmAfter countersAfter countedOf recordOf recordsOf stepOf ready readyToFill readyToDose waits zeroed nearZero fillBegins coarseStage fineStage fill full hold settle settleEnds dischargeOpens discharge amountOf load calm doseCoarse doseFine doseSettle reachedWf reachedWc notBelowZero Wc Wf samplesOf pushOf emptyWindow meanOf roundAway halfUp sumOf pick xor setOf
 told-AL1 = refl
 
 -- a line after a D of its hour

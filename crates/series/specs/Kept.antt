@@ -13,11 +13,13 @@ use Rattle.settings.specs.declared.Settings.{Settings}
 use Rattle.settings.specs.Table.{firstBad}
 use Rattle.hourly.specs.Hours.{total}
 use Rattle.controller.specs.declared.Controller.{Controller}
-use Rattle.controller.specs.declared.Counters.{Counters}
+use Rattle.counters.specs.declared.Counters.{Counters}
 use Rattle.controller.specs.State.{restarted}
-use Rattle.controller.specs.Tick.{Result, countedOf, tickOf}
+use Rattle.counters.specs.Counters.{countedOf}
+use Rattle.controller.specs.Tick.{Result, tickOf}
 use Rattle.controller.specs.Calls.{storedBad, restartOf, freshOf, isReady, taken, after, settingsAnswer, settingsOf, resetAnswer, resetOf, linkOf, restartedFrom}
-use Rattle.controller.specs.Line.{Asked, Replied, zeroedBy, replied, repliesTo, askedOf, requestOf}
+use Rattle.asking.specs.Asking.{Asked}
+use Rattle.controller.specs.Line.{Replied, zeroedBy, replied, repliesTo, askedOf, requestOf}
 use Rattle.controller.specs.Sound.{Sound}
 use Rattle.paper.specs.AnswerLaws.{on-done, failed}
 use Rattle.controller.specs.Keeps.{tick-sound, link-sound, request-sound, settings-sound, reset-sound, restart-sound, fresh-sound}

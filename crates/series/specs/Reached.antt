@@ -18,7 +18,10 @@ use Rattle.controller.specs.declared.Fault.the-variants as F
 use Rattle.controller.specs.declared.Condition.{Condition}
 use Rattle.controller.specs.declared.Condition.the-variants.{Clear, Faulted}
 use Rattle.controller.specs.State.{restarted}
-use Rattle.controller.specs.Tick.{tickOf, step2, step3, steps4and5, steps6to8, mismatched, runsAfter, runAfter, expected, step7, step8, seenOf, wOf, stableOf, filterOf, equalZ, none, calmRun, startOf, outside, faulted, saysFault, outputsOf, worth, input, overCapacity, changed, countersAfter, countedOf, recordsOf}
+use Rattle.channels.specs.Channels.{runsAfter, runAfter, expected, startOf, outputsOf, worth, input, watchOf}
+use Rattle.counters.specs.Counters.{countersAfter, countedOf, recordOf, recordsOf}
+use Rattle.scale.specs.Scale.{stableOf, filterOf, equalZ, none, calmRun, outside, overCapacity, changed, filtered, calmAfter}
+use Rattle.controller.specs.Tick.{tickOf, step2, step3, steps4and5, steps6to8, mismatched, step7, step8, seenOf, wOf, faulted, saysFault}
 use Rattle.controller.specs.Calls.{storedBad, restartOf, freshOf, linkOf, restartedFrom}
 use Rattle.series.specs.Events.{Event, tick, link, restart, eventOf, run}
 
@@ -91,12 +94,12 @@ pub every-phase :
     × (endOf (begun 1 50 ∷ ticks 1 0 8 ++ ticks 68 150 0) ≡ at 1 discharge')
     × (map endOf (doses 2) ≡ at 2 ready' ∷ at 2 load' ∷ at 2 calm' ∷ at 2 doseCoarse' ∷ at 2 doseFine' ∷ at 2 doseSettle' ∷ [])
     × (map endOf (doses 3) ≡ at 3 ready' ∷ at 3 load' ∷ at 3 calm' ∷ at 3 doseCoarse' ∷ at 3 doseFine' ∷ at 3 doseSettle' ∷ [])
-unfolding run endOf nameIn phaseName eventOf restartedFrom restartOf storedBad onDone firstBad firstFrom table inRange leastLevel mostLevel linkOf freshOf restarted defaultSet tickOf step2 step3 steps4and5 steps6to8 mismatched runsAfter runAfter expected step7 step8 seenOf wOf stableOf filterOf equalZ none calmRun startOf outside faulted saysFault outputsOf worth input overCapacity changed countersAfter countedOf recordsOf stepOf ready readyToFill readyToDose waits zeroed nearZero fillBegins coarseStage fineStage fill full hold settle settleEnds dischargeOpens discharge amountOf load calm doseCoarse doseFine doseSettle reachedWf reachedWc notBelowZero Wc Wf samplesOf pushOf emptyWindow meanOf roundAway halfUp sumOf pick xor setOf
+unfolding run endOf nameIn phaseName eventOf restartedFrom restartOf storedBad onDone firstBad firstFrom table inRange leastLevel mostLevel linkOf freshOf restarted defaultSet tickOf step2 step3 steps4and5 steps6to8 mismatched watchOf runsAfter runAfter expected step7 step8 seenOf wOf stableOf filtered filterOf equalZ none calmRun startOf outside faulted saysFault outputsOf worth input overCapacity changed calmAfter countersAfter countedOf recordOf recordsOf stepOf ready readyToFill readyToDose waits zeroed nearZero fillBegins coarseStage fineStage fill full hold settle settleEnds dischargeOpens discharge amountOf load calm doseCoarse doseFine doseSettle reachedWf reachedWc notBelowZero Wc Wf samplesOf pushOf emptyWindow meanOf roundAway halfUp sumOf pick xor setOf
 every-phase = (refl, refl, refl, refl, refl)
 
 -- both faults, in each algorithm that has them
 pub every-fault :
     (map endOf ((begun 1 50 ∷ ticks 64 0 1) ∷ (begun 2 200 ∷ ticks 64 500 2) ∷ (begun 3 200 ∷ ticks 64 500 4) ∷ []) ≡ at 1 (f14 1) ∷ at 2 (f14 2) ∷ at 3 (f14 3) ∷ [])
     × (map endOf ((begun 0 50 ∷ ticks 1 900001 0) ∷ (begun 1 50 ∷ ticks 1 900001 0) ∷ (begun 2 200 ∷ ticks 1 900001 0) ∷ (begun 3 200 ∷ ticks 1 900001 0) ∷ []) ≡ at 0 f21 ∷ at 1 f21 ∷ at 2 f21 ∷ at 3 f21 ∷ [])
-unfolding run endOf nameIn phaseName eventOf restartedFrom restartOf storedBad onDone firstBad firstFrom table inRange leastLevel mostLevel linkOf freshOf restarted defaultSet tickOf step2 step3 steps4and5 steps6to8 mismatched runsAfter runAfter expected step7 step8 seenOf wOf stableOf filterOf equalZ none calmRun startOf outside faulted saysFault outputsOf worth input overCapacity changed countersAfter countedOf recordsOf stepOf ready readyToFill readyToDose waits zeroed nearZero fillBegins coarseStage fineStage fill full hold settle settleEnds dischargeOpens discharge amountOf load calm doseCoarse doseFine doseSettle reachedWf reachedWc notBelowZero Wc Wf samplesOf pushOf emptyWindow meanOf roundAway halfUp sumOf pick xor setOf
+unfolding run endOf nameIn phaseName eventOf restartedFrom restartOf storedBad onDone firstBad firstFrom table inRange leastLevel mostLevel linkOf freshOf restarted defaultSet tickOf step2 step3 steps4and5 steps6to8 mismatched watchOf runsAfter runAfter expected step7 step8 seenOf wOf stableOf filtered filterOf equalZ none calmRun startOf outside faulted saysFault outputsOf worth input overCapacity changed calmAfter countersAfter countedOf recordOf recordsOf stepOf ready readyToFill readyToDose waits zeroed nearZero fillBegins coarseStage fineStage fill full hold settle settleEnds dischargeOpens discharge amountOf load calm doseCoarse doseFine doseSettle reachedWf reachedWc notBelowZero Wc Wf samplesOf pushOf emptyWindow meanOf roundAway halfUp sumOf pick xor setOf
 every-fault = (refl, refl)

@@ -5,12 +5,14 @@ use Prim.Native.Nat.{ℕ, _+_, _%_}
 use lib.ListN.{length}
 use Rattle.paper.specs.Answer.{Answer, done, refused, fault}
 use Rattle.controller.specs.declared.Controller.{Controller}
-use Rattle.controller.specs.declared.Counters.{Counters}
-use Rattle.controller.specs.declared.Record.{Record}
-use Rattle.controller.specs.Tick.{Told, countedOf, tickOf}
+use Rattle.counters.specs.declared.Counters.{Counters}
+use Rattle.counters.specs.declared.Record.{Record}
+use Rattle.counters.specs.Counters.{countedOf}
+use Rattle.controller.specs.Tick.{Told, tickOf}
 use Rattle.controller.specs.Calls.{freshOf}
 use Rattle.controller.specs.Sound.{Sound}
-use Rattle.controller.specs.Promises.{AllRecordable, tick-recordable}
+use Rattle.counters.specs.Laws.{AllRecordable}
+use Rattle.controller.specs.Promises.{tick-recordable}
 use Rattle.controller.specs.Outside.{dosesSeen}
 use Rattle.controller.specs.OutsideLaws.{Tells, Answers, tick-records}
 use Rattle.series.specs.Events.{Event, tick, link, request, settings, reset, restart, eventOf, Outside, nothingSeen, seenAfter, recordsIn, recordsAt, records}
