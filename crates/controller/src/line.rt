@@ -46,55 +46,44 @@ impl Controller {
     {
         let heard = asking::hear(bytes);
         let Heard::Request { place, parts } = heard else {
-            return Requested {
-                next: self,
-                answer: unread(heard),
-            };
+            return refused(self, unread(heard));
         };
         let form = parts.form;
         let operation = parts.operation;
         let Addressed::Ours = asking::address_stage(place, form, self.set.address, self.set.serial)
         else {
-            return Requested {
-                next: self,
-                answer: RequestAnswer::R5(place),
-            };
+            return refused(self, RequestAnswer::R5(place));
         };
         let Coded::Known = asking::code_stage(place, parts) else {
-            return Requested {
-                next: self,
-                answer: RequestAnswer::R7(place),
-            };
+            return refused(self, RequestAnswer::R7(place));
         };
         let condition = self.condition;
         let phase = self.phase;
         let Timed::Allowed = ready_stage(place, operation, is_ready(condition, phase)) else {
-            return Requested {
-                next: self,
-                answer: RequestAnswer::R3(place),
-            };
+            return refused(self, RequestAnswer::R3(place));
         };
         let Zeroing::Allowed = zero_stage(place, operation, self.set, self.window) else {
-            return Requested {
-                next: self,
-                answer: RequestAnswer::R4(place),
-            };
+            return refused(self, RequestAnswer::R4(place));
         };
         let z = zero_after(operation, self.set, self.window, self.z);
         let mut next = self;
         next.z = z;
         let holds = reply_of(self, operation);
         let Wrote::Frame(len) = asking::write_reply(form, operation, holds, reply) else {
-            return Requested {
-                next: self,
-                answer: RequestAnswer::R8(place),
-            };
+            return refused(self, RequestAnswer::R8(place));
         };
         Requested {
             next,
             answer: RequestAnswer::Sent { place, len },
         }
     }
+}
+
+// A refusal changes nothing.
+fn refused(c: Controller, answer: RequestAnswer) -> Requested
+    ensures { λ r. ⌜ (r .next ≡ c) × (r .answer ≡ answer) ⌝ }
+{
+    Requested { next: c, answer }
 }
 
 // R9 or R6, with its place.

@@ -24,7 +24,8 @@ use Rattle.controller.specs.Sound.{Sound}
 use Rattle.paper.specs.AnswerLaws.{on-done, failed}
 use Rattle.controller.specs.Keeps.{tick-sound, link-sound, request-sound, settings-sound, reset-sound, restart-sound, fresh-sound}
 use Rattle.controller.specs.Outside.{Agrees, dosesSeen}
-use Rattle.controller.specs.OutsideLaws.{countedIn, tick-agrees, tick-counters}
+use Rattle.counters.specs.Laws.{countedIn}
+use Rattle.controller.specs.OutsideLaws.{tick-agrees, tick-counters}
 use Rattle.series.specs.Events.{Event, tick, link, request, settings, reset, restart, eventOf, run, Outside, nothingSeen, anew, anewIf, seenAfter, seen}
 
 -- every event keeps a controller sound

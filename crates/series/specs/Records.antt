@@ -11,10 +11,10 @@ use Rattle.counters.specs.Counters.{countedOf}
 use Rattle.controller.specs.Tick.{Told, tickOf}
 use Rattle.controller.specs.Calls.{freshOf}
 use Rattle.controller.specs.Sound.{Sound}
-use Rattle.counters.specs.Laws.{AllRecordable}
+use Rattle.counters.specs.Laws.{AllRecordable, Tells}
 use Rattle.controller.specs.Promises.{tick-recordable}
 use Rattle.controller.specs.Outside.{dosesSeen}
-use Rattle.controller.specs.OutsideLaws.{Tells, Answers, tick-records}
+use Rattle.controller.specs.OutsideLaws.{Answers, tick-records}
 use Rattle.series.specs.Events.{Event, tick, link, request, settings, reset, restart, eventOf, Outside, nothingSeen, seenAfter, recordsIn, recordsAt, records}
 use Rattle.series.specs.Kept.{Kept, Counts, one-more, event-sound, kept-event, kept-fresh}
 

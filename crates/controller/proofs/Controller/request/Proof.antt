@@ -9,6 +9,7 @@ use Rattle.asking.specs.Asking.{askedBy, heardOf, addressOf, codeOf}
 use Rattle.asking.specs.Says.{saysHeard, saysAddressed, saysCoded}
 use Rattle.controller.specs.Calls.{isReady}
 use Rattle.controller.specs.Line.{timeOf, askedOf}
+use Rattle.controller.specs.Says.{saysReply}
 use Rattle.controller.specs.Stages.{saysTimed, saysZeroing, Times}
 use Rattle.controller.specs.declared.Controller.{Controller}
 use Rattle.controller.proofs.Lines.{zeroed-is, not-ours, not-known, not-timed, not-zeroable, is-asked, framed, refuses, unheard-refuses, no-room, sends}
@@ -89,12 +90,15 @@ enum-known-heard c = search needs
 unread-requires : tie.Need-unread-requires
 unread-requires c κs = search needs
 
+refused-requires : tie.Need-refused-requires
+refused-requires c κs = search needs
+
 -- R9, R6
 returns : tie.Need-returns
 returns c =
-    let h = c .before .before in
-    unheard-refuses _ _ _ (h .before .before .before .pre) (h .hear .result) (c .before .match .keys2) (h .hear .ensures)
-    refl (c .unread .ensures)
+    let h = c .before .before .before in
+    unheard-refuses _ _ _ (h .before .before .before .pre) (h .hear .result) (c .before .before .match .keys2) (h .hear .ensures)
+    (c .refused .ensures .0) (c .refused .ensures .1 ∙ c .before .unread .ensures)
 
 address-stage-requires : tie.Need-address-stage-requires
 address-stage-requires c κs = search needs
@@ -105,14 +109,17 @@ enum-told c = search needs
 enum-told-2 : tie.Need-enum-told-2
 enum-told-2 c = search needs
 
+refused-requires-2 : tie.Need-refused-requires-2
+refused-requires-2 c κs = search needs
+
 -- R5
 returns-2 : tie.Need-returns-2
 returns-2 c =
-    let a = c .before .before in
+    let a = c .before .before .before in
     let h = a .before .before in
     refuses _ _ _ (start h .pre)
-    (not-ours _ _ (heard h) (a .address-stage .result) (c .before .match2 .keys2) (a .address-stage .ensures))
-    refl refl
+    (not-ours _ _ (heard h) (a .address-stage .result) (c .before .before .match2 .keys2) (a .address-stage .ensures))
+    (c .refused2 .ensures .0) (ap saysReply (c .refused2 .ensures .1))
 
 code-stage-requires : tie.Need-code-stage-requires
 code-stage-requires c κs = search needs
@@ -123,14 +130,17 @@ enum-told-3 c = search needs
 enum-told-4 : tie.Need-enum-told-4
 enum-told-4 c = search needs
 
+refused-requires-3 : tie.Need-refused-requires-3
+refused-requires-3 c κs = search needs
+
 -- R7
 returns-3 : tie.Need-returns-3
 returns-3 c =
-    let a = c .before .before in
+    let a = c .before .before .before in
     let h = at-ours (a .before) in
     refuses _ _ _ (start h .pre)
-    (not-known _ _ (heard h) (ours (a .before)) (a .code-stage .result) (c .before .match3 .keys2) (a .code-stage .ensures))
-    refl refl
+    (not-known _ _ (heard h) (ours (a .before)) (a .code-stage .result) (c .before .before .match3 .keys2) (a .code-stage .ensures))
+    (c .refused3 .ensures .0) (ap saysReply (c .refused3 .ensures .1))
 
 is-ready-requires : tie.Need-is-ready-requires
 is-ready-requires c κs = search needs
@@ -144,15 +154,18 @@ enum-told-5 c = search needs
 enum-told-6 : tie.Need-enum-told-6
 enum-told-6 c = search needs
 
+refused-requires-4 : tie.Need-refused-requires-4
+refused-requires-4 c κs = search needs
+
 -- R3
 returns-4 : tie.Need-returns-4
 returns-4 c =
-    let a = c .before .before in
+    let a = c .before .before .before in
     let k = a .before .before in
     let h = at-ours (at-known k) in
     refuses _ _ _ (start h .pre)
-    (not-timed _ _ (heard h) (ours (at-known k)) (known k) (a .ready-stage .result) (c .before .match4 .keys2) (times a))
-    refl refl
+    (not-timed _ _ (heard h) (ours (at-known k)) (known k) (a .ready-stage .result) (c .before .before .match4 .keys2) (times a))
+    (c .refused4 .ensures .0) (ap saysReply (c .refused4 .ensures .1))
 
 zero-stage-requires : tie.Need-zero-stage-requires
 zero-stage-requires c κs = search needs
@@ -163,16 +176,19 @@ enum-told-7 c = search needs
 enum-told-8 : tie.Need-enum-told-8
 enum-told-8 c = search needs
 
+refused-requires-5 : tie.Need-refused-requires-5
+refused-requires-5 c κs = search needs
+
 -- R4
 returns-5 : tie.Need-returns-5
 returns-5 c =
-    let a = c .before .before in
+    let a = c .before .before .before in
     let t = a .before in
     let k = at-timed t in
     let h = at-ours (at-known k) in
     refuses _ _ _ (start h .pre)
-    (not-zeroable _ _ (heard h) (ours (at-known k)) (known k) (timed t) (a .zero-stage .result) (c .before .match5 .keys2) (a .zero-stage .ensures))
-    refl refl
+    (not-zeroable _ _ (heard h) (ours (at-known k)) (known k) (timed t) (a .zero-stage .result) (c .before .before .match5 .keys2) (a .zero-stage .ensures))
+    (c .refused5 .ensures .0) (ap saysReply (c .refused5 .ensures .1))
 
 zero-after-requires : tie.Need-zero-after-requires
 zero-after-requires c κs = search needs
@@ -186,17 +202,20 @@ write-reply-requires c κs = search needs
 enum-known-len : tie.Need-enum-known-len
 enum-known-len c = search needs
 
+refused-requires-6 : tie.Need-refused-requires-6
+refused-requires-6 c κs = search needs
+
 same-length : tie.Need-same-length
 same-length c = search needs
 
 -- R8
 returns-6 : tie.Need-returns-6
 returns-6 c =
-    let w = c .before .before .before in
+    let w = c .before .before .before .before in
     let z = at-written w in
     no-room _ _ _ (start (ends z) .pre) (w .write-reply .result) (asked z)
     (framed _ _ _ _ (w .before .before .reply-of .result) (w .write-reply .result) (start (ends z) .pre) (ours (at-ends z)) (w .before .before .reply-of .ensures) (w .write-reply .ensures))
-    (c .match6 .keys2) refl refl
+    (c .before .match6 .keys2) (c .refused6 .ensures .0) (ap saysReply (c .refused6 .ensures .1))
 
 same-length-2 : tie.Need-same-length-2
 same-length-2 c = search needs
@@ -216,28 +235,34 @@ request-spec =
     hear-requires
     enum-known-heard
     unread-requires
+    refused-requires
     returns
     address-stage-requires
     enum-told
     enum-told-2
+    refused-requires-2
     returns-2
     code-stage-requires
     enum-told-3
     enum-told-4
+    refused-requires-3
     returns-3
     is-ready-requires
     ready-stage-requires
     enum-told-5
     enum-told-6
+    refused-requires-4
     returns-4
     zero-stage-requires
     enum-told-7
     enum-told-8
+    refused-requires-5
     returns-5
     zero-after-requires
     reply-of-requires
     write-reply-requires
     enum-known-len
+    refused-requires-6
     same-length
     returns-6
     same-length-2
