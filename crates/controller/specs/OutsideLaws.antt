@@ -26,9 +26,9 @@ use Rattle.dosing.specs.declared.Dose.{Dose}
 use Rattle.dosing.specs.declared.Dose.the-variants.{Nothing, Complete}
 use Rattle.dosing.specs.declared.Moved.{Moved}
 use Rattle.controller.specs.State.{withInputs}
-use Rattle.counters.specs.Counters.{countedOf, countersAfter, recordOf, recordsOf}
+use Rattle.counters.specs.Counters.{countersAfter, recordsOf}
+use Rattle.counters.specs.Laws.{countedIn, Tells, amountsIn, counts-in, tells-one}
 use Rattle.counters.specs.declared.Counters.{Counters}
-use Rattle.counters.specs.declared.Record.{Record}
 use Rattle.scale.specs.Scale.{outside, filtered, filterOf}
 use Rattle.controller.specs.Tick.{Result, Told, still, saysFault, faulted, step8, wOf, seenOf, step7, mismatched, steps6to8, steps4and5, step3, step2, tickOf}
 use Rattle.controller.specs.Calls.{atReady}
@@ -41,18 +41,6 @@ use Rattle.controller.specs.declared.Condition.{Condition}
 use Rattle.controller.specs.declared.Condition.the-variants.{Clear, Faulted}
 
 -- ---- what is said of a tick
-
--- amounts counted in, one after another
-unfoldable pub countedIn : Counters → List ℕ → Counters
-countedIn n [] = n
-countedIn n (amount ∷ more) = countedIn (countedOf n amount) more
-
--- the records tell of these amounts, each with the count after it
-unfoldable pub Tells : Counters → List ℕ → List Record → Type 0
-Tells n [] [] = Unit {0}
-Tells n [] (r ∷ rs) = ⊥
-Tells n (amount ∷ more) [] = ⊥
-Tells n (amount ∷ more) (r ∷ rs) = (r .amount ≡ amount) × (r .count ≡ countedOf n amount .count) × Tells (countedOf n amount) more rs
 
 -- an answer tells of exactly these amounts; a refusal and a fault tell of none
 unfoldable pub Answers : Counters → List ℕ → Answer Told → Type 0
@@ -94,11 +82,6 @@ ends set p to =
 
 abbrev amounts : Settings → Phase → ℤ → Moved → Noted → List ℕ
 amounts set p f to m = pick (ends set p to) (amountSeen set m (after f to) ∷ []) []
-
--- the amounts that a step itself hands on
-unfoldable amountsIn : Dose → List ℕ
-amountsIn Nothing = []
-amountsIn (Complete amount settled) = amount ∷ []
 
 record Matches (set : Settings) (p : Phase) (f : ℤ) (m : Noted) (to : Moved) : Type 0 where
   agrees : Agrees (to .phase) (notes set p f to m)
@@ -204,16 +187,6 @@ step-matches set (DoseSettle wH n) m t e b a =
     (λ h. goes set _ m t (DoseSettle wH n) (DoseSettle wH (n + 1)) a refl refl)
 
 -- ---- a tick
-
-counts-in : (n : Counters) (d : Dose) → countersAfter n d ≡ countedIn n (amountsIn d)
-unfolding countersAfter countedIn amountsIn
-counts-in n Nothing = refl
-counts-in n (Complete amount settled) = refl
-
-tells-one : (n : Counters) (d : Dose) → Tells n (amountsIn d) (recordsOf (countersAfter n d) d)
-unfolding countersAfter recordsOf recordOf amountsIn Tells
-tells-one n Nothing = tt
-tells-one n (Complete amount settled) = (refl, refl, tt)
 
 tells-of : (n k : Counters) (d : Dose) (amounts : List ℕ) → k ≡ n → amounts ≡ amountsIn d → Tells n amounts (recordsOf (countersAfter k d) d)
 tells-of n k d amounts e h = rw (e, h) (tells-one n d)

@@ -19,13 +19,13 @@ use window::Window;
 ghost use mathlib.Core.Path.{_≡_};
 ghost use mathlib.Core.List.{[]};
 ghost use Rattle.laws.specs.Pick.{pick};
-ghost use Rattle.paper.specs.Answer.{refused};
-ghost use Rattle.paper.specs.Numbers.{R3};
+ghost use Rattle.paper.specs.Answer.{done, refused, onDone};
+ghost use Rattle.paper.specs.Numbers.{R3, R15};
 ghost use Rattle.settings.specs.Says.{says};
 ghost use Rattle.controller.specs.State.{restarted};
-ghost use Rattle.controller.specs.Calls.{noController, taken};
+ghost use Rattle.controller.specs.Calls.{storedBad, noController, taken};
 ghost use Rattle.controller.specs.Sound.{Sound};
-ghost use Rattle.controller.specs.Says.{saysSet, Freshens, Restarts, Sets, Resets, Counted, Links};
+ghost use Rattle.controller.specs.Says.{saysSet, saysRestart, Freshens, Restarts, Sets, Resets, Counted, Links};
 
 impl Controller {
     // A restart with both at 0 and the default set.
@@ -39,22 +39,16 @@ impl Controller {
     pub fn restart(set: Settings, count: u32, total: u32) -> Restarted
         ensures { λ r. ⌜ Restarts set count total r ⌝ }
     {
-        let checked = set.check();
-        if let Checked::R2(row) = checked {
+        let answer = restart_answer(set.check(), count, total);
+        if let RestartAnswer::Done = answer {
             return Restarted {
-                next: no_controller(),
-                answer: RestartAnswer::R2(row),
-            };
-        }
-        if (Counters::COUNT_MOST < count) | (Counters::TOTAL_MOST < total) {
-            return Restarted {
-                next: no_controller(),
-                answer: RestartAnswer::R15,
+                next: restarted(set, count, total),
+                answer,
             };
         }
         Restarted {
-            next: restarted(set, count, total),
-            answer: RestartAnswer::Done,
+            next: no_controller(),
+            answer,
         }
     }
 
@@ -112,6 +106,19 @@ impl Controller {
         self.link = on;
         self
     }
+}
+
+// What a restart answers: R2, then R15.
+fn restart_answer(checked: Checked, count: u32, total: u32) -> RestartAnswer
+    ensures { λ r. ⌜ saysRestart r ≡ onDone (says checked) (λ good. pick (storedBad count total) (refused R15 []) (done tt)) ⌝ }
+{
+    if let Checked::R2(row) = checked {
+        return RestartAnswer::R2(row);
+    }
+    if (Counters::COUNT_MOST < count) | (Counters::TOTAL_MOST < total) {
+        return RestartAnswer::R15;
+    }
+    RestartAnswer::Done
 }
 
 // What a set answers: R3 before R2.

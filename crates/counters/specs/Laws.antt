@@ -44,3 +44,34 @@ pub records-recordable : (n : Counters) (d : Dose) → n .count ≤ 999999 → (
 unfolding recordsOf
 records-recordable n Nothing h most = tt
 records-recordable n (Complete a settled) h most = (record-recordable n a settled h (most a settled refl), tt)
+
+-- ---- doses counted in and told of
+
+-- amounts counted in, one after another
+unfoldable pub countedIn : Counters → List ℕ → Counters
+countedIn n [] = n
+countedIn n (amount ∷ more) = countedIn (countedOf n amount) more
+
+-- the records tell of these amounts, each with the count after it
+unfoldable pub Tells : Counters → List ℕ → List Record → Type 0
+Tells n [] [] = Unit {0}
+Tells n [] (r ∷ rs) = ⊥
+Tells n (amount ∷ more) [] = ⊥
+Tells n (amount ∷ more) (r ∷ rs) = (r .amount ≡ amount) × (r .count ≡ countedOf n amount .count) × Tells (countedOf n amount) more rs
+
+-- the amounts of the doses that a step hands on: one or none
+unfoldable pub amountsIn : Dose → List ℕ
+amountsIn Nothing = []
+amountsIn (Complete amount settled) = amount ∷ []
+
+-- a completed dose is counted in on top of those before it
+pub counts-in : (n : Counters) (d : Dose) → countersAfter n d ≡ countedIn n (amountsIn d)
+unfolding countersAfter countedIn amountsIn
+counts-in n Nothing = refl
+counts-in n (Complete amount settled) = refl
+
+-- and its record tells of it
+pub tells-one : (n : Counters) (d : Dose) → Tells n (amountsIn d) (recordsOf (countersAfter n d) d)
+unfolding countersAfter recordsOf recordOf amountsIn Tells
+tells-one n Nothing = tt
+tells-one n (Complete amount settled) = (refl, refl, tt)

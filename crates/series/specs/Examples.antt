@@ -15,7 +15,7 @@ use Rattle.journal.specs.Line.{textOf, fieldsText}
 use Rattle.journal.specs.Journal.{hourIn, closes, firstHour, journalText}
 use Rattle.journal.specs.Order.{Follows}
 use Rattle.settings.specs.Cases.{setOf}
-use Rattle.controller.specs.declared.Record.{Record}
+use Rattle.counters.specs.declared.Record.{Record}
 use Rattle.controller.specs.Calls.{freshOf, restartedFrom}
 use Rattle.controller.specs.Outside.{wAt, clear, inDoseSettle, shuts3, leavesSettle, completes, begins, opens3, noted, amountSeen, dosesSeen}
 use Rattle.controller.specs.Cases.{rules}

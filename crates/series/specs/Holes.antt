@@ -9,13 +9,13 @@ use borrow.Author.Tests.{eqb-true, eqb-false, eq-eqb}
 use Rattle.laws.specs.Bools.{and-left, and-right}
 use Rattle.laws.specs.Pick.{pick, pick-if}
 use Rattle.controller.specs.declared.Controller.{Controller}
-use Rattle.controller.specs.declared.Counters.{Counters}
-use Rattle.controller.specs.declared.Record.{Record}
-use Rattle.controller.specs.Tick.{countedOf}
+use Rattle.counters.specs.declared.Counters.{Counters}
+use Rattle.counters.specs.declared.Record.{Record}
+use Rattle.counters.specs.Counters.{countedOf}
 use Rattle.controller.specs.Calls.{freshOf}
 use Rattle.controller.specs.Sound.{Sound}
 use Rattle.controller.specs.Keeps.{fresh-sound}
-use Rattle.controller.specs.OutsideLaws.{countedIn, Tells}
+use Rattle.counters.specs.Laws.{countedIn, Tells}
 use Rattle.series.specs.Events.{Event, eventOf, run, Counting, goesOn, cleared, given, countingAt, handedBack, handsBack, recordsAt, records}
 use Rattle.series.specs.Kept.{countersFrom, sound-kept, run-sound}
 use Rattle.series.specs.Walk.{given-same}

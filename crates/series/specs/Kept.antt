@@ -15,16 +15,19 @@ use Rattle.settings.specs.Table.{firstBad}
 use Rattle.dosing.specs.declared.Phase.{Phase}
 use Rattle.dosing.specs.declared.Phase.the-variants.{Ready, Coarse, Fine, Hold, Settle, Discharge, Load, Calm, DoseCoarse, DoseFine, DoseSettle}
 use Rattle.controller.specs.declared.Controller.{Controller}
-use Rattle.controller.specs.declared.Counters.{Counters}
-use Rattle.controller.specs.declared.Record.{Record}
-use Rattle.controller.specs.State.{counters, restarted}
+use Rattle.counters.specs.declared.Counters.{Counters}
+use Rattle.counters.specs.declared.Record.{Record}
+use Rattle.counters.specs.Counters.{counters}
+use Rattle.controller.specs.State.{restarted}
 use Rattle.controller.specs.Tick.{Told, tickOf}
 use Rattle.controller.specs.Calls.{storedBad, restartOf, isReady, taken, after, settingsAnswer, settingsOf, resetAnswer, resetOf, linkOf, restartedFrom}
 use Rattle.controller.specs.Sound.{Sound}
 use Rattle.controller.specs.Keeps.{tick-sound, link-sound, request-sound, settings-sound, reset-sound, restart-sound}
-use Rattle.controller.specs.Promises.{AllRecordable, tick-recordable, request-zero, settings-counters, restart-counters}
+use Rattle.counters.specs.Laws.{AllRecordable}
+use Rattle.controller.specs.Promises.{tick-recordable, request-zero, settings-counters, restart-counters}
 use Rattle.controller.specs.Outside.{Noted, Agrees}
-use Rattle.controller.specs.OutsideLaws.{countedIn, Tells, Answers, tick-agrees, tick-counters, tick-records}
+use Rattle.counters.specs.Laws.{countedIn, Tells}
+use Rattle.controller.specs.OutsideLaws.{Answers, tick-agrees, tick-counters, tick-records}
 use Rattle.series.specs.Events.{Event, tick, link, request, settings, reset, restart, eventOf, run, noNotes, Sight, unmoved, sightOf, Counting, goesOn, cleared, given, givenBy, countingAt, recordsIn, recordsAt}
 
 -- the numbers from which the doses are counted after a call

@@ -14,7 +14,8 @@ use Rattle.dosing.specs.Gates.{fillingOpen}
 use Rattle.controller.specs.declared.Controller.{Controller}
 use Rattle.controller.specs.declared.Condition.{Condition}
 use Rattle.controller.specs.declared.Condition.the-variants.{Clear, Faulted}
-use Rattle.controller.specs.Tick.{Result, Told, tickOf, overCapacity}
+use Rattle.scale.specs.Scale.{overCapacity}
+use Rattle.controller.specs.Tick.{Result, Told, tickOf}
 use Rattle.controller.specs.Calls.{freshOf}
 use Rattle.controller.specs.Sound.{Sound}
 use Rattle.controller.specs.Keeps.{tick-sound}

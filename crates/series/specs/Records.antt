@@ -4,13 +4,13 @@ use mathlib.Core.List.{List, [], _∷_, _++_, map, map-append, append-assoc}
 use Prim.Native.Nat.{ℕ, _+_, _%_}
 use lib.ListN.{length}
 use Rattle.controller.specs.declared.Controller.{Controller}
-use Rattle.controller.specs.declared.Counters.{Counters}
-use Rattle.controller.specs.declared.Record.{Record}
-use Rattle.controller.specs.Tick.{countedOf}
+use Rattle.counters.specs.declared.Counters.{Counters}
+use Rattle.counters.specs.declared.Record.{Record}
+use Rattle.counters.specs.Counters.{countedOf}
 use Rattle.controller.specs.Calls.{freshOf}
 use Rattle.controller.specs.Sound.{Sound}
-use Rattle.controller.specs.Promises.{AllRecordable}
-use Rattle.controller.specs.OutsideLaws.{Tells}
+use Rattle.counters.specs.Laws.{AllRecordable}
+use Rattle.counters.specs.Laws.{Tells}
 use Rattle.series.specs.Events.{Event, eventOf, run, sightOf, countingAt, Outside, nothingSeen, countedFrom, seenAfter, recordsAt, records}
 use Rattle.series.specs.Kept.{countersFrom, event-kept, sound-kept, event-sound}
 use Rattle.series.specs.Walk.{Counts, one-more, Accords, accords-from, accords-event, accords-fresh}

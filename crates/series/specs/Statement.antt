@@ -9,8 +9,9 @@ use Rattle.paper.specs.Answer.{Answer, done, refused, fault}
 use Rattle.dosing.specs.Gates.{fillingOpen, emptyingOpen}
 use Rattle.hourly.specs.Hours.{total}
 use Rattle.controller.specs.declared.Controller.{Controller}
-use Rattle.controller.specs.declared.Counters.{Counters}
-use Rattle.controller.specs.Tick.{Told, tickOf, overCapacity}
+use Rattle.counters.specs.declared.Counters.{Counters}
+use Rattle.scale.specs.Scale.{overCapacity}
+use Rattle.controller.specs.Tick.{Told, tickOf}
 use Rattle.controller.specs.Calls.{freshOf}
 use Rattle.controller.specs.Sound.{Sound}
 use Rattle.controller.specs.Outside.{wAt, clear}

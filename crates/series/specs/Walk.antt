@@ -10,14 +10,15 @@ use borrow.Author.Tests.{eqb-true}
 use Rattle.laws.specs.Bools.{and-left, and-right}
 use Rattle.hourly.specs.Hours.{total}
 use Rattle.controller.specs.declared.Controller.{Controller}
-use Rattle.controller.specs.declared.Counters.{Counters}
-use Rattle.controller.specs.State.{counters, restarted}
-use Rattle.controller.specs.Tick.{countedOf}
+use Rattle.counters.specs.declared.Counters.{Counters}
+use Rattle.counters.specs.Counters.{counters}
+use Rattle.controller.specs.State.{restarted}
+use Rattle.counters.specs.Counters.{countedOf}
 use Rattle.controller.specs.Calls.{freshOf}
 use Rattle.controller.specs.Sound.{Sound}
 use Rattle.controller.specs.Keeps.{fresh-sound}
 use Rattle.controller.specs.Outside.{Agrees}
-use Rattle.controller.specs.OutsideLaws.{countedIn}
+use Rattle.counters.specs.Laws.{countedIn}
 use Rattle.series.specs.Events.{Event, eventOf, run, sightOf, Counting, goesOn, cleared, given, countingAt, Outside, sinceReset, nothingSeen, countedFrom, withSight, seenAfter, seen, handedBack, handsBack}
 use Rattle.series.specs.Kept.{InRange, countersFrom, event-kept}
 
