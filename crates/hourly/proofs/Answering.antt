@@ -14,46 +14,43 @@ use Rattle.journal.specs.Says.{saysRefusal, refusal-told}
 use Rattle.journal.specs.declared.Line.{Line}
 use Rattle.journal.specs.declared.Refusal.{Refusal}
 use Rattle.journal.specs.declared.Refusal.the-variants as R
-use Rattle.hourly.specs.Hours.{amountsAt, hasOn, total, greatest, figuresOf, measuredOrIdle, hourOf, asF64}
-use Rattle.hourly.specs.Tally.{tallyOf, figuresFrom, hourFrom, Summed}
-use Rattle.hourly.specs.declared.Figures.{Figures}
-use Rattle.hourly.specs.declared.Hour.{Hour}
-use Rattle.hourly.specs.declared.Hour.the-variants.{Measured, Idle, Missing}
+use Rattle.hourly.specs.Hours.{HourAnswer, measured, idle, missing, amountsAt, hasOn, total, greatest, sumOf, largestOf, meanOf, measuredOrIdle, hourOf, asF64}
+use Rattle.hourly.specs.Tally.{tallyOf, hourFrom, Summed}
 use Rattle.hourly.specs.declared.Tally.{Tally}
 use Rattle.hourly.specs.Floats.{whole-back, mean-no-nan}
 
 -- the tally of an hour answers as the hour does
 pub hour-tally : (ls : List Line) (h : ℕ) → hourFrom (tallyOf ls h) ≡ hourOf ls h
-unfolding hourFrom tallyOf figuresFrom hourOf measuredOrIdle figuresOf pick
-hour-tally ls h = ap (λ (x : Hour). pick (hasOn h ls) x Missing) (go (amountsAt h ls))
+unfolding hourFrom tallyOf hourOf measuredOrIdle sumOf largestOf meanOf pick
+hour-tally ls h = ap (λ (x : HourAnswer). pick (hasOn h ls) x missing) (go (amountsAt h ls))
   where
-    go : (amounts : List ℕ) → pick (eqb (length amounts) 0) Idle (Measured (record { sum = asF64 (total amounts); largest = asF64 (greatest amounts); mean = div binary64 (asF64 (total amounts)) (asF64 (length amounts)) })) ≡ measuredOrIdle amounts
+    go : (amounts : List ℕ) → pick (eqb (length amounts) 0) idle (measured (asF64 (total amounts)) (asF64 (greatest amounts)) (div binary64 (asF64 (total amounts)) (asF64 (length amounts)))) ≡ measuredOrIdle amounts
     go [] = refl
     go (a ∷ as') = rw eqb·suc-zero
 
 -- a measured hour has the figures of its tally, and a dose
-measured-from : (t : Tally) (f : Figures) → hourFrom t ≡ Measured f → (figuresFrom t ≡ f) × (0 < t .doses)
+record FromTally (t : Tally) (s m : Float) : Type 0 where
+  sum : t .sum ≡ s
+  mean : div binary64 (t .sum) (asF64 (t .doses)) ≡ m
+  some : 0 < t .doses
+
+measured-from : (t : Tally) (s l m : Float) → measured s l m ≡ hourFrom t → FromTally t s m
 unfolding hourFrom pick
-measured-from t f e = go (t .on) (eqb (t .doses) 0) refl e
+measured-from t s l m e = go (t .on) (eqb (t .doses) 0) refl e
   where
-    go : (on none : Bool) → eqb (t .doses) 0 ≡ none → pick on (pick none Idle (Measured (figuresFrom t))) Missing ≡ Measured f → (figuresFrom t ≡ f) × (0 < t .doses)
+    go : (on none : Bool) → eqb (t .doses) 0 ≡ none → measured s l m ≡ pick on (pick none idle (measured (t .sum) (asF64 (t .largest)) (div binary64 (t .sum) (asF64 (t .doses))))) missing → FromTally t s m
     go true true p e = let z : _≡_ {A = ℕ} 0 1 = cc in absurd (omega arith)
-    go true false p e = (cc, omega (arith, eqb-false (t .doses) 0 p))
+    go true false p e = record { sum = cc; mean = cc; some = omega (arith, eqb-false (t .doses) 0 p) }
     go false none p e = let z : _≡_ {A = ℕ} 0 1 = cc in absurd (omega arith)
 
 -- its sum goes back to a whole number, and its mean is a number
-pub sum-whole : (t : Tally) (f : Figures) → Summed t → hourFrom t ≡ Measured f → T (inUnsigned binary64 64 (f .sum))
-unfolding figuresFrom
-sum-whole t f s e =
-    let g : t .sum ≡ f .sum = ap (λ (x : Figures). x .sum) (measured-from t f e .0) in
-    subst (λ (x : Float). T (inUnsigned binary64 64 x)) (sym (s .exact) ∙ g) (whole-back (s .whole) (s .small) .0)
+pub sum-whole : (t : Tally) (s l m : Float) → Summed t → measured s l m ≡ hourFrom t → T (inUnsigned binary64 64 s)
+sum-whole t s l m w e = subst (λ (x : Float). T (inUnsigned binary64 64 x)) (sym (w .exact) ∙ measured-from t s l m e .sum) (whole-back (w .whole) (w .small) .0)
 
-pub mean-number : (t : Tally) (f : Figures) → Summed t → t .doses ≤ 2 ^ 53 → hourFrom t ≡ Measured f → T (not (isNan (f .mean)))
-unfolding figuresFrom
-mean-number t f s d e =
-    let m = measured-from t f e in
-    let g : div binary64 (t .sum) (asF64 (t .doses)) ≡ f .mean = ap (λ (x : Figures). x .mean) (m .0) in
-    subst (λ (x : Float). T (not (isNan x))) (ap (λ (x : Float). div binary64 x (asF64 (t .doses))) (sym (s .exact)) ∙ g) (mean-no-nan (s .whole) (t .doses) (s .small) d (m .1))
+pub mean-number : (t : Tally) (s l m : Float) → Summed t → t .doses ≤ 2 ^ 53 → measured s l m ≡ hourFrom t → T (not (isNan m))
+mean-number t s l m w d e =
+    let f = measured-from t s l m e in
+    subst (λ (x : Float). T (not (isNan x))) (ap (λ (x : Float). div binary64 x (asF64 (t .doses))) (sym (w .exact)) ∙ f .mean) (mean-no-nan (w .whole) (t .doses) (w .small) d (f .some))
 
 -- ---- the journal's refusal
 

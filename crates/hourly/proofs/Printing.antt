@@ -16,16 +16,14 @@ use Rattle.paper.specs.Answer.{Answer, done, refused, told, onDone, inRoom, lea
 use Rattle.paper.specs.Numbers.{R8}
 use Rattle.text.specs.Put.{Puts}
 use Rattle.text.specs.PutLaws.{room-is, puts-fit, puts-length}
-use Rattle.journal.specs.Journal.{firstHour, summaryOf}
+use Rattle.journal.specs.Journal.{firstHour}
 use Rattle.journal.specs.declared.Line.{Line}
-use Rattle.journal.specs.declared.Summary.{Summary}
-use Rattle.hourly.specs.Hours.{amountsAt, hasOn, total, greatest, figuresOf, measuredOrIdle, hourOf, asF64}
+use Rattle.hourly.specs.Hours.{HourAnswer, missing, amountsAt, hasOn, total, greatest, sumOf, meanOf, measuredOrIdle, hourOf, asF64}
 use Rattle.hourly.specs.Text.{Row, rowFrom, rowOf, rowText, rowsOf, rowsText, hoursFrom, spanOf, hoursText, printOf}
 use Rattle.hourly.specs.Accepted.{Accepted}
 use Rattle.hourly.specs.Bounds.{modest, text-short}
-use Rattle.hourly.specs.Tally.{outside, tallyOf, linesOf, Tells, shownBy, shownOf, rowsBy, textBy, Printable, hoursIn}
-use Rattle.hourly.specs.declared.Hour.{Hour}
-use Rattle.hourly.specs.declared.Hour.the-variants.{Missing}
+use Rattle.hourly.specs.Tally.{outside, tallyOf, linesOf, summaryOf, Tells, shownBy, shownOf, rowsBy, textBy, Printable, hoursIn}
+use Rattle.hourly.specs.declared.Summary.{Summary}
 use Rattle.hourly.specs.declared.Tally.{Tally}
 use Rattle.hourly.specs.Floats.{whole-back}
 use Rattle.hourly.proofs.Answering.{hour-tally}
@@ -97,11 +95,11 @@ fills-text old new text n h m e =
 
 -- the tally of an hour is shown as its row
 shown-tally : (ls : List Line) (h : ℕ) → total (amountsAt h ls) ≤ 2 ^ 53 → shownOf (tallyOf ls h) ≡ rowOf ls h
-unfolding shownOf rowOf rowFrom hourOf measuredOrIdle figuresOf tallyOf pick
-shown-tally ls h b = ap (λ (x : Hour). shownBy x (tallyOf ls h)) (hour-tally ls h) ∙ go (hasOn h ls) (amountsAt h ls) b
+unfolding shownOf rowOf rowFrom hourOf measuredOrIdle sumOf meanOf tallyOf pick
+shown-tally ls h b = ap (λ (x : HourAnswer). shownBy x (tallyOf ls h)) (hour-tally ls h) ∙ go (hasOn h ls) (amountsAt h ls) b
   where
     go : (on : Bool) (amounts : List ℕ) → total amounts ≤ 2 ^ 53
-        → shownBy (pick on (measuredOrIdle amounts) Missing) (record { doses = length amounts; sum = asF64 (total amounts); largest = greatest amounts; on = on }) ≡ rowFrom (pick on (measuredOrIdle amounts) Missing) amounts
+        → shownBy (pick on (measuredOrIdle amounts) missing) (record { doses = length amounts; sum = asF64 (total amounts); largest = greatest amounts; on = on }) ≡ rowFrom (pick on (measuredOrIdle amounts) missing) amounts
     go true [] b = refl
     go true (a ∷ as') b = rw (whole-back (total (a ∷ as')) b .1)
     go false amounts b = refl

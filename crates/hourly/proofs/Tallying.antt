@@ -10,20 +10,20 @@ use lib.ListN.{length, getD, set, length-append, length-set, replicate, length-r
 use lib.Seq.{getD-set-same, getD-set-other}
 use borrow.Author.Tests.{eq-eqb, ne-eqb}
 use Rattle.laws.specs.Pick.{pick-t, pick-f}
-use Rattle.paper.specs.Answer.{done, told}
+use Rattle.paper.specs.Answer.{Answer, done, refused, fault, told}
+use Rattle.paper.specs.AnswerLaws.{refused-done, fault-done}
 use Rattle.journal.specs.Line.{inRange}
-use Rattle.journal.specs.Journal.{hourIn, journalOf, firstHour, lastHour, summaryOf}
+use Rattle.journal.specs.Journal.{hourIn, journalOf, firstHour, lastHour}
 use Rattle.journal.specs.LineLaws.{dose-range}
-use Rattle.journal.specs.JournalLaws.{judged-lines}
 use Rattle.journal.specs.declared.Line.{Line}
 use Rattle.journal.specs.declared.Line.the-variants.{Dose, On}
-use Rattle.journal.specs.declared.Summary.{Summary}
 use Rattle.hourly.specs.Hours.{doseAt, amountsAt, isOn, hasOn, total, greatest, asF64}
 use Rattle.hourly.specs.Accepted.{Ranged, Accepted, accepted}
 use Rattle.hourly.specs.Bounds.{modest}
-use Rattle.hourly.specs.Tally.{outside, noTally, withDose, withOn, counted, tallyOf, Tells, Counts, linesIn, linesOf}
+use Rattle.hourly.specs.Tally.{outside, noTally, withDose, withOn, counted, tallyOf, Tells, Counts, linesIn, linesOf, summaryOf}
 use Rattle.hourly.specs.declared.Tally.{Tally}
 use Rattle.hourly.specs.declared.Tallied.{Tallied}
+use Rattle.hourly.specs.declared.Summary.{Summary}
 use Rattle.hourly.specs.Floats.{add-whole}
 
 -- ---- one line more
@@ -134,7 +134,17 @@ module _ (ls : List Line) (first : ℕ) (table : List Tally) (l : Line) (tells :
 
 -- ---- an accepted journal
 
--- the lines of an accepted journal, and what the reader said of them
+-- what the pass says of the journal
+judged-lines : (s : List ℕ) (m : Summary) → done m ≡ told summaryOf (journalOf s) → (ls : List Line) × (journalOf s ≡ done ls) × (m ≡ summaryOf ls)
+unfolding told
+judged-lines s m e = go (journalOf s) refl e
+  where
+    go : (a : Answer (List Line)) → journalOf s ≡ a → done m ≡ told summaryOf a → (ls : List Line) × (journalOf s ≡ done ls) × (m ≡ summaryOf ls)
+    go (done ls) q h = (ls, q, cc)
+    go (refused n vs) q h = refused-done (sym h)
+    go (fault n vs) q h = fault-done (sym h)
+
+-- the lines of an accepted journal, and what the pass said of them
 pub record Found (s : List ℕ) (found : Summary) : Type 0 where
   pub journal : journalOf s ≡ done (linesOf s)
   pub summary : summaryOf (linesOf s) ≡ found

@@ -4,7 +4,7 @@ pub mod Says
 pub mod Tally
 pub mod Kinds
 pub mod Rows
-pub mod Determined
+pub mod Contracts
 pub mod Accepted
 pub mod Bounds
 pub mod Floats

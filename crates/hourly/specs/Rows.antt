@@ -13,15 +13,14 @@ use Rattle.laws.specs.Decimal.{decimal, hexOf}
 use Rattle.laws.specs.DecimalLaws.{decimal-apart, hex-apart, hex-length}
 use Rattle.text.specs.Scan.{LF, TAB}
 use Rattle.journal.specs.declared.Line.{Line}
-use Rattle.hourly.specs.Hours.{amountsAt, hasOn, total, figuresOf, measuredOrIdle, hourOf, asF64}
-use Rattle.hourly.specs.Text.{Row, measured, idle, missing, letterM, letterI, letterX, HourRow, rowFrom, rowOf, rowText, rowsOf, rowsText, hoursText, spanOf}
-use Rattle.hourly.specs.declared.Hour.{Hour}
+use Rattle.hourly.specs.Hours.{HourAnswer, amountsAt, hasOn, sumOf, meanOf, measuredOrIdle, hourOf, asF64}
+use Rattle.hourly.specs.Text.{Row, rowM, rowI, rowX, letterM, letterI, letterX, HourRow, rowFrom, rowOf, rowText, rowsOf, rowsText, hoursText, spanOf}
 
 -- the mean's bits are 64
 abbrev pub RowFits : Row → Type 0
-RowFits (measured doses sum bits) = bits < 16 ^ 16
-RowFits idle = Unit
-RowFits missing = Unit
+RowFits (rowM doses sum bits) = bits < 16 ^ 16
+RowFits rowI = Unit
+RowFits rowX = Unit
 
 abbrev pub RowsFit : List HourRow → Type 0
 RowsFit [] = Unit
@@ -29,22 +28,22 @@ RowsFit (p ∷ ps) = RowFits (p .row) × RowsFit ps
 
 -- what stands behind the hour and its tab
 unfoldable pub tailText : Row → List ℕ
-tailText (measured doses sum bits) = letterM ∷ TAB ∷ (decimal doses ++ TAB ∷ (decimal sum ++ TAB ∷ (hexOf 16 bits ++ LF ∷ [])))
-tailText idle = letterI ∷ LF ∷ []
-tailText missing = letterX ∷ LF ∷ []
+tailText (rowM doses sum bits) = letterM ∷ TAB ∷ (decimal doses ++ TAB ∷ (decimal sum ++ TAB ∷ (hexOf 16 bits ++ LF ∷ [])))
+tailText rowI = letterI ∷ LF ∷ []
+tailText rowX = letterX ∷ LF ∷ []
 
 -- a row is the hour, a tab and its tail
 pub row-is : (h : ℕ) (r : Row) → rowText h r ≡ decimal h ++ TAB ∷ tailText r
 unfolding rowText tailText
-row-is h (measured doses sum bits) = refl
-row-is h idle = refl
-row-is h missing = refl
+row-is h (rowM doses sum bits) = refl
+row-is h rowI = refl
+row-is h rowX = refl
 
 row-tail : (h : ℕ) (r : Row) (x : List ℕ) → rowText h r ++ x ≡ decimal h ++ TAB ∷ (tailText r ++ x)
 row-tail h r x = ap (λ (t : List ℕ). t ++ x) (row-is h r) ∙ append-assoc (decimal h) (TAB ∷ tailText r) x
 
 -- a measured tail, its parts one behind the other
-measured-tail : (doses sum bits : ℕ) (x : List ℕ) → tailText (measured doses sum bits) ++ x ≡ letterM ∷ TAB ∷ (decimal doses ++ TAB ∷ (decimal sum ++ TAB ∷ (hexOf 16 bits ++ LF ∷ x)))
+measured-tail : (doses sum bits : ℕ) (x : List ℕ) → tailText (rowM doses sum bits) ++ x ≡ letterM ∷ TAB ∷ (decimal doses ++ TAB ∷ (decimal sum ++ TAB ∷ (hexOf 16 bits ++ LF ∷ x)))
 unfolding tailText
 measured-tail doses sum bits x = simp append-assoc
 
@@ -57,7 +56,7 @@ hex-parts a b x y h k e =
 
 tail-apart : (r q : Row) (x y : List ℕ) → RowFits r → RowFits q → tailText r ++ x ≡ tailText q ++ y → (r ≡ q) × (x ≡ y)
 unfolding tailText
-tail-apart (measured d s b) (measured d' s' b') x y h k e =
+tail-apart (rowM d s b) (rowM d' s' b') x y h k e =
     let f : letterM ∷ TAB ∷ (decimal d ++ TAB ∷ (decimal s ++ TAB ∷ (hexOf 16 b ++ LF ∷ x))) ≡ letterM ∷ TAB ∷ (decimal d' ++ TAB ∷ (decimal s' ++ TAB ∷ (hexOf 16 b' ++ LF ∷ y)))
     = sym (measured-tail d s b x) ∙ e ∙ measured-tail d' s' b' y in
     let doses = decimal-apart d d' (decimal s ++ TAB ∷ (hexOf 16 b ++ LF ∷ x)) (decimal s' ++ TAB ∷ (hexOf 16 b' ++ LF ∷ y)) (cc) in
@@ -67,14 +66,14 @@ tail-apart (measured d s b) (measured d' s' b') x y h k e =
     let q : s ≡ s' = sums .0 in
     let u : b ≡ b' = bits .0 in
     (cc, bits .1)
-tail-apart (measured d s b) idle x y h k e = let z : _≡_ {A = ℕ} letterM letterI = cc in absurd (omega arith)
-tail-apart (measured d s b) missing x y h k e = let z : _≡_ {A = ℕ} letterM letterX = cc in absurd (omega arith)
-tail-apart idle (measured d s b) x y h k e = let z : _≡_ {A = ℕ} letterI letterM = cc in absurd (omega arith)
-tail-apart idle idle x y h k e = (refl, cc)
-tail-apart idle missing x y h k e = let z : _≡_ {A = ℕ} letterI letterX = cc in absurd (omega arith)
-tail-apart missing (measured d s b) x y h k e = let z : _≡_ {A = ℕ} letterX letterM = cc in absurd (omega arith)
-tail-apart missing idle x y h k e = let z : _≡_ {A = ℕ} letterX letterI = cc in absurd (omega arith)
-tail-apart missing missing x y h k e = (refl, cc)
+tail-apart (rowM d s b) rowI x y h k e = let z : _≡_ {A = ℕ} letterM letterI = cc in absurd (omega arith)
+tail-apart (rowM d s b) rowX x y h k e = let z : _≡_ {A = ℕ} letterM letterX = cc in absurd (omega arith)
+tail-apart rowI (rowM d s b) x y h k e = let z : _≡_ {A = ℕ} letterI letterM = cc in absurd (omega arith)
+tail-apart rowI rowI x y h k e = (refl, cc)
+tail-apart rowI rowX x y h k e = let z : _≡_ {A = ℕ} letterI letterX = cc in absurd (omega arith)
+tail-apart rowX (rowM d s b) x y h k e = let z : _≡_ {A = ℕ} letterX letterM = cc in absurd (omega arith)
+tail-apart rowX rowI x y h k e = let z : _≡_ {A = ℕ} letterX letterI = cc in absurd (omega arith)
+tail-apart rowX rowX x y h k e = (refl, cc)
 
 row-some : (p : HourRow) (x : List ℕ) → [] ≡ rowText (p .hour) (p .row) ++ x → ⊥
 row-some p x e =
@@ -100,12 +99,12 @@ rows-apart (p ∷ ps) (q ∷ qs) h k e =
 
 -- every row of a journal has 64 bits
 row-fits : (ls : List Line) (h : ℕ) → RowFits (rowOf ls h)
-unfolding rowOf hourOf rowFrom measuredOrIdle figuresOf
-row-fits ls h = pick-all (λ (x : Hour). RowFits (rowFrom x (amountsAt h ls))) (hasOn h ls) (either (amountsAt h ls)) tt
+unfolding rowOf hourOf rowFrom measuredOrIdle meanOf
+row-fits ls h = pick-all (λ (x : HourAnswer). RowFits (rowFrom x (amountsAt h ls))) (hasOn h ls) (either (amountsAt h ls)) tt
   where
     either : (amounts : List ℕ) → RowFits (rowFrom (measuredOrIdle amounts) amounts)
     either [] = tt
-    either (a ∷ as') = toBits-lt binary64 (figuresOf (a ∷ as') .mean) (div-fits binary64 (asF64 (total (a ∷ as'))) (asF64 (length (a ∷ as'))))
+    either (a ∷ as') = toBits-lt binary64 (meanOf (a ∷ as')) (div-fits binary64 (sumOf (a ∷ as')) (asF64 (length (a ∷ as'))))
 
 rows-fit : (ls : List Line) (hs : List ℕ) → RowsFit (map (λ h. record { hour = h; row = rowOf ls h }) hs)
 rows-fit ls [] = tt

@@ -3,24 +3,23 @@ use mathlib.Core.Path.{_≡_}
 use mathlib.Core.Bool.{true, false}
 use mathlib.Core.List.{List, [], _∷_}
 use Prim.Native.Nat.{ℕ, suc, _+_, _-_, _^_, _≤_, _<_, max}
-use lib.Dec.{eqb}
-use lib.ListN.{length, getD, take}
+use lib.Dec.{eqb, ltb}
+use lib.ListN.{length, getD, take, replicate}
 use lib.Ieee.{nan, binary64, add, div, toBits, toUnsigned}
 use Rattle.laws.specs.Pick.{pick}
 use Rattle.paper.specs.Answer.{Answer, done, refused, fault, told}
-use Rattle.journal.specs.Journal.{journalOf, summaryOf, firstHour}
-use Rattle.journal.specs.Says.{saysJudged}
+use Rattle.journal.specs.Journal.{journalOf, firstHour, lastHour}
+use Rattle.journal.specs.Says.{saysRefusal}
 use Rattle.journal.specs.declared.Line.{Line}
 use Rattle.journal.specs.declared.Line.the-variants.{Dose, On}
 use Rattle.journal.specs.declared.Past.{Past}
-use Rattle.journal.specs.declared.Summary.{Summary}
-use Rattle.journal.specs.declared.Judged.the-variants as J
-use Rattle.hourly.specs.Hours.{amountsAt, hasOn, total, greatest, asF64}
-use Rattle.hourly.specs.Text.{Row, measured, idle, missing, HourRow, rowsText}
-use Rattle.hourly.specs.declared.Figures.{Figures}
-use Rattle.hourly.specs.declared.Hour.{Hour}
-use Rattle.hourly.specs.declared.Hour.the-variants.{Measured, Idle, Missing}
+use Rattle.journal.specs.declared.Refusal.{Refusal}
+use Rattle.hourly.specs.Hours.{HourAnswer, measured, idle, missing, amountsAt, hasOn, total, greatest, asF64}
+use Rattle.hourly.specs.Text.{Row, rowM, rowI, rowX, HourRow, rowsText}
 use Rattle.hourly.specs.declared.Tally.{Tally}
+use Rattle.hourly.specs.declared.Summary.{Summary}
+use Rattle.hourly.specs.declared.Judged.{Judged}
+use Rattle.hourly.specs.declared.Judged.the-variants as J
 use Rattle.hourly.specs.declared.Tallied.{Tallied}
 use Rattle.hourly.specs.declared.Shown.{Shown}
 use Rattle.hourly.specs.declared.Shown.the-variants as S
@@ -33,6 +32,14 @@ linesIn (fault n vs) = []
 
 unfoldable pub linesOf : List ℕ → List Line
 linesOf s = linesIn (journalOf s)
+
+-- what the pass says of a journal: the number of its lines and the hours of the first and the last, or why it is refused
+unfoldable pub summaryOf : List Line → Summary
+summaryOf ls = record { lines = length ls; first = firstHour ls; last = lastHour ls }
+
+abbrev pub saysJudged : Judged → Answer Summary
+saysJudged (J.Lines s) = done s
+saysJudged (J.Refused r) = saysRefusal r
 
 -- ---- the tally of one hour
 
@@ -69,7 +76,7 @@ pub record Tells (table : List Tally) (first : ℕ) (ls : List Line) : Type 0 wh
   pub size : length table ≡ 744
   pub at : (k : ℕ) → k < 744 → getD table k outside ≡ tallyOf ls (first + k)
 
--- what one pass finds: what the journal's reader says of it, and the tallies of its lines from its first hour on
+-- what the pass finds: what it says of the journal, and the tallies of its lines from its first hour on
 pub record Counts (s : List ℕ) (t : Tallied) : Type 0 where
   pub judged : saysJudged (t .judged) ≡ told summaryOf (journalOf s)
   pub tells : (ls : List Line) → journalOf s ≡ done ls → Tells (t .table) (firstHour ls) ls
@@ -78,19 +85,24 @@ pub record Counts (s : List ℕ) (t : Tallied) : Type 0 where
 unfoldable pub acceptedAfter : ℕ → Past → List Tally → Tallied
 acceptedAfter n past table = record { judged = J.Lines (record { lines = n; first = past .first; last = past .last }); table = table }
 
--- the hour's answer by its tally
-unfoldable pub figuresFrom : Tally → Figures
-figuresFrom t = record { sum = t .sum; largest = asF64 (t .largest); mean = div binary64 (t .sum) (asF64 (t .doses)) }
+-- a refused journal has no tallies
+unfoldable pub refusedBy : Refusal → Tallied
+refusedBy r = record { judged = J.Refused r; table = replicate 744 noTally }
 
-unfoldable pub hourFrom : Tally → Hour
-hourFrom t = pick (t .on) (pick (eqb (t .doses) 0) Idle (Measured (figuresFrom t))) Missing
+-- the hour's answer by its tally
+unfoldable pub hourFrom : Tally → HourAnswer
+hourFrom t = pick (t .on) (pick (eqb (t .doses) 0) idle (measured (t .sum) (asF64 (t .largest)) (div binary64 (t .sum) (asF64 (t .doses))))) missing
+
+-- and by a table of the hours from the first to the last: outside it is missing
+unfoldable pub hourAmong : List Tally → Summary → ℕ → HourAnswer
+hourAmong table found h = pick (ltb h (found .first)) missing (pick (ltb (found .last) h) missing (hourFrom (getD table (h - found .first) outside)))
 
 -- ---- the rows of a table
 
 abbrev pub saysShown : Shown → Row
-saysShown (S.Measured doses sum bits) = measured doses sum bits
-saysShown S.Idle = idle
-saysShown S.Missing = missing
+saysShown (S.Measured doses sum bits) = rowM doses sum bits
+saysShown S.Idle = rowI
+saysShown S.Missing = rowX
 
 -- the sum is a whole number that an f64 holds exactly
 pub record Summed (t : Tally) : Type 0 where
@@ -99,10 +111,10 @@ pub record Summed (t : Tally) : Type 0 where
   pub small : whole ≤ 2 ^ 53
 
 -- what is printed of an hour by its answer and its tally
-abbrev pub shownBy : Hour → Tally → Row
-shownBy (Measured f) t = measured (t .doses) (toUnsigned 64 (f .sum)) (toBits binary64 (f .mean))
-shownBy Idle t = idle
-shownBy Missing t = missing
+abbrev pub shownBy : HourAnswer → Tally → Row
+shownBy (measured sum largest mean) t = rowM (t .doses) (toUnsigned 64 sum) (toBits binary64 mean)
+shownBy idle t = rowI
+shownBy missing t = rowX
 
 unfoldable pub shownOf : Tally → Row
 shownOf t = shownBy (hourFrom t) t

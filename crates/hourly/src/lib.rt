@@ -1,24 +1,20 @@
 // The hours of a journal: one hour's answer, and the hour program's text.
-use journal::At;
-use journal::Judged;
 use journal::Line;
 use journal::Past;
 use journal::Refusal;
-use journal::Summary;
+use text::Num;
 ghost use mathlib.Core.Path.{_≡_};
 ghost use mathlib.Core.List.{[], _∷_};
-ghost use Prim.Native.Nat.{_+_, _≤_, _<_, max};
+ghost use Prim.Native.Nat.{_+_, _-_, _≤_, _<_, max};
 ghost use lib.ListN.{length, replicate};
 ghost use lib.Seq.{sets};
-ghost use Rattle.paper.specs.Answer.{done, told, inRoom, Fills};
-ghost use Rattle.journal.specs.Journal.{journalOf, summaryOf};
-ghost use Rattle.journal.specs.declared.Judged.the-variants.{Refused};
-ghost use Rattle.hourly.specs.Hours.{askOf, hourOf};
-ghost use Rattle.hourly.specs.Text.{measured, rowText, printOf};
-ghost use Rattle.hourly.specs.Tally.{noTally, withDose, counted, linesOf, Counts, acceptedAfter, hourFrom, saysShown, Summed, shownOf, textBy, Printable, hoursIn};
-ghost use Rattle.hourly.specs.Rows.{tailText};
+ghost use Rattle.paper.specs.Answer.{inRoom, Fills};
 ghost use Rattle.text.specs.Put.{Puts};
-ghost use Rattle.hourly.specs.Says.{saysAsked, saysPrinted};
+ghost use Rattle.hourly.specs.Text.{rowM, rowText};
+ghost use Rattle.hourly.specs.Rows.{tailText};
+ghost use Rattle.hourly.specs.Says.{saysHour, saysPrinted};
+ghost use Rattle.hourly.specs.Tally.{noTally, withDose, counted, Counts, acceptedAfter, refusedBy, hourFrom, hourAmong, saysShown, Summed, shownOf, textBy, Printable, hoursIn};
+ghost use Rattle.hourly.specs.Contracts.{AnswersHour, PrintsHours};
 
 // What a measured hour hands to the predictor: the sum and the largest amount, both exact, and the mean.
 pub struct Figures {
@@ -47,15 +43,6 @@ pub enum Printed {
     R8,
 }
 
-// So many bytes hold what is printed of any journal.
-pub const ENOUGH: usize = 33480;
-
-// A journal has at most so many bytes.
-const ROOM: usize = 65536;
-
-// A journal has at most so many hours.
-const SPAN: usize = 744;
-
 const TAB: u8 = 9;
 
 const LF: u8 = 10;
@@ -68,10 +55,23 @@ struct Tally {
     on: bool,
 }
 
-// What one pass over a journal finds: the answer of the journal's reader, and the tallies of the hours from the first on.
+// What an accepted journal holds: the number of its lines, and the hours of the first and the last.
+struct Summary {
+    lines: usize,
+    first: u32,
+    last: u32,
+}
+
+// What the pass says of a journal.
+enum Judged {
+    Lines(Summary),
+    Refused(Refusal),
+}
+
+// What the pass over a journal finds: what it says of it, and the tallies of the hours from the first on.
 struct Tallied {
     judged: Judged,
-    table: [Tally; SPAN],
+    table: [Tally; journal::SPAN],
 }
 
 // What is printed of an hour: its doses, their sum and the mean's bits; or I; or X.
@@ -84,7 +84,7 @@ enum Shown {
 // ---- the lines counted
 
 // Every hour before the first line.
-fn no_tallies() -> [Tally; SPAN]
+fn no_tallies() -> [Tally; journal::SPAN]
     ensures { λ r. ⌜ r ≡ replicate 744 noTally ⌝ }
 {
     [Tally {
@@ -92,7 +92,7 @@ fn no_tallies() -> [Tally; SPAN]
         sum: 0.0f64,
         largest: 0,
         on: false,
-    }; SPAN]
+    }; journal::SPAN]
 }
 
 // The larger of two amounts.
@@ -134,18 +134,18 @@ fn with_line(t: Tally, line: Line) -> Tally
     }
 }
 
-// A journal that is refused, with the tallies so far.
-fn refused(refusal: Refusal, table: [Tally; SPAN]) -> Tallied
-    ensures { λ r. ⌜ r .judged ≡ Refused refusal ⌝ }
+// A journal that is refused: it has no tallies.
+fn refused(refusal: Refusal) -> Tallied
+    ensures { λ r. ⌜ r ≡ refusedBy refusal ⌝ }
 {
     Tallied {
         judged: Judged::Refused(refusal),
-        table,
+        table: no_tallies(),
     }
 }
 
 // A journal that is accepted after its last line, with all tallies.
-fn accepted(lines: usize, past: Past, table: [Tally; SPAN]) -> Tallied
+fn accepted(lines: usize, past: Past, table: [Tally; journal::SPAN]) -> Tallied
     ensures { λ r. ⌜ r ≡ acceptedAfter lines past table ⌝ }
 {
     let found = Summary {
@@ -164,40 +164,58 @@ fn tallies(bytes: &[u8]) -> Tallied
     ensures { λ r. ⌜ Counts (now (bytes .entry)) r ⌝ }
 {
     let size = bytes.len();
-    let mut table = no_tallies();
-    if size > ROOM {
-        return refused(Refusal::R13, table);
+    if size > journal::ROOM {
+        return refused(Refusal::R13);
     }
+    let mut table = no_tallies();
     let mut past = journal::no_past();
     let mut at: usize = 0;
     let mut lines: usize = 0;
-    while at < size {
+    'lines: loop {
+        if at >= size {
+            break 'lines accepted(lines, past, table);
+        }
         let number = lines + 1;
-        let At::Line { line, next } = journal::line_at(bytes, at) else {
-            return refused(Refusal::R10(number), table);
-        };
+        let fields = journal::fields_after(bytes[at]);
+        if fields == 0 {
+            break 'lines refused(Refusal::R10(number));
+        }
+        let mut got = [0u32; journal::FIELDS];
+        let mut k: usize = 0;
+        let mut p = at + 1;
+        'fields: while k < fields {
+            let Num::Good(v, next) = text::field_at(bytes, p, journal::MOST[k]) else {
+                break 'lines refused(Refusal::R10(number));
+            };
+            got[k] = v;
+            p = next;
+            k += 1;
+        }
+        if text::byte_at(bytes, p) != LF {
+            break 'lines refused(Refusal::R10(number));
+        }
+        let line = journal::line_from(fields, got);
         let hour = journal::hour_in(line);
         if journal::out_of_order(past, hour) {
-            return refused(Refusal::R11(number), table);
+            break 'lines refused(Refusal::R11(number));
         }
         if journal::too_far(past, hour) {
-            return refused(Refusal::R12(number), table);
+            break 'lines refused(Refusal::R12(number));
         }
         past = journal::past_after(past, line);
-        let k = (hour - past.first) as usize;
-        let tally = table[k];
-        table[k] = with_line(tally, line);
-        at = next;
+        let place = (hour - past.first) as usize;
+        let tally = table[place];
+        table[place] = with_line(tally, line);
+        at = p + 1;
         lines = number;
     }
-    accepted(lines, past, table)
 }
 
 // ---- an hour's answer
 
 // With an H the hour is measured if it has a dose, else idle; without one it is missing.
 fn hour_from(t: Tally) -> Hour
-    ensures { λ r. ⌜ r ≡ hourFrom t ⌝ }
+    ensures { λ r. ⌜ saysHour r ≡ hourFrom t ⌝ }
 {
     if !t.on {
         return Hour::Missing;
@@ -212,10 +230,10 @@ fn hour_from(t: Tally) -> Hour
     })
 }
 
-// One hour of an accepted journal; outside its hours it is missing.
-fn hour_among(bytes: &[u8], found: Summary, hour: u32) -> Hour
-    requires { ⌜ told summaryOf (journalOf (now bytes)) ≡ done found ⌝ }
-    ensures { λ r. ⌜ r ≡ hourOf (linesOf (now (bytes .entry))) hour ⌝ }
+// One hour of an accepted journal by its tallies; outside its hours it is missing.
+fn hour_among(table: [Tally; journal::SPAN], found: Summary, hour: u32) -> Hour
+    requires { ⌜ found .last - found .first < 744 ⌝ }
+    ensures { λ r. ⌜ saysHour r ≡ hourAmong table found hour ⌝ }
 {
     if hour < found.first {
         return Hour::Missing;
@@ -223,20 +241,20 @@ fn hour_among(bytes: &[u8], found: Summary, hour: u32) -> Hour
     if found.last < hour {
         return Hour::Missing;
     }
-    let counted = tallies(bytes);
-    let table = counted.table;
-    let k = (hour - found.first) as usize;
-    let tally = table[k];
+    let place = (hour - found.first) as usize;
+    let tally = table[place];
     hour_from(tally)
 }
 
 // The hour of a journal, or the journal's refusal.
 pub fn hour_of(bytes: &[u8], hour: u32) -> Asked
-    ensures { λ r. ⌜ saysAsked r ≡ askOf (now (bytes .entry)) hour ⌝ }
+    ensures { λ r. ⌜ AnswersHour (now (bytes .entry)) hour r ⌝ }
 {
-    let judged = journal::read(bytes);
+    let counted = tallies(bytes);
+    let table = counted.table;
+    let judged = counted.judged;
     match judged {
-        Judged::Lines(found) => Asked::Hour(hour_among(bytes, found, hour)),
+        Judged::Lines(found) => Asked::Hour(hour_among(table, found, hour)),
         Judged::Refused(refusal) => Asked::Refused(refusal),
     }
 }
@@ -278,8 +296,8 @@ fn row_len(hour: u64, row: Shown) -> usize
 
 // M and the figures of a measured hour, behind the hour and its tab.
 fn put_measured(out: &mut [u8], at: usize, doses: u64, sum: u64, bits: u64) -> usize
-    requires { ⌜ at + length (tailText (measured doses sum bits)) ≤ length (now out) ⌝ }
-    ensures { λ r. ⌜ Puts (now (out .entry)) at (tailText (measured doses sum bits)) (now (out .exit)) r ⌝ }
+    requires { ⌜ at + length (tailText (rowM doses sum bits)) ≤ length (now out) ⌝ }
+    ensures { λ r. ⌜ Puts (now (out .entry)) at (tailText (rowM doses sum bits)) (now (out .exit)) r ⌝ }
 {
     let mut p = text::put_byte(out, at, b'M');
     p = text::put_byte(out, p, TAB);
@@ -323,7 +341,7 @@ fn put_row(out: &mut [u8], at: usize, hour: u64, row: Shown) -> usize
 }
 
 // How many bytes the rows of the first hours of a table have.
-fn text_len(table: [Tally; SPAN], first: u32, hours: usize) -> usize
+fn text_len(table: [Tally; journal::SPAN], first: u32, hours: usize) -> usize
     requires { ⌜ Printable table first hours ⌝ }
     ensures { λ r. ⌜ r ≡ length (textBy table first hours) ⌝ }
 {
@@ -338,7 +356,7 @@ fn text_len(table: [Tally; SPAN], first: u32, hours: usize) -> usize
 }
 
 // The rows of the first hours of a table, stored from the buffer's start.
-fn put_rows(out: &mut [u8], table: [Tally; SPAN], first: u32, hours: usize)
+fn put_rows(out: &mut [u8], table: [Tally; journal::SPAN], first: u32, hours: usize)
     requires printable { ⌜ Printable table first hours ⌝ }
     requires room { ⌜ length (textBy table first hours) ≤ length (now out) ⌝ }
     ensures { λ _. ⌜ now (out .exit) ≡ sets (now (out .entry)) 0 (textBy table first hours) ⌝ }
@@ -364,7 +382,7 @@ fn hours_in(found: Summary) -> usize
 }
 
 // The text of an accepted journal's tallies, if it has room.
-fn print_table(table: [Tally; SPAN], found: Summary, out: &mut [u8]) -> Printed
+fn print_table(table: [Tally; journal::SPAN], found: Summary, out: &mut [u8]) -> Printed
     requires printable { ⌜ Printable table (found .first) (hoursIn found) ⌝ }
     requires order { ⌜ found .first ≤ found .last ⌝ }
     ensures { λ r. ⌜ Fills (saysPrinted r) (inRoom [] (length (now (out .entry))) (textBy table (found .first) (hoursIn found))) (now (out .entry)) (now (out .exit)) ⌝ }
@@ -381,7 +399,7 @@ fn print_table(table: [Tally; SPAN], found: Summary, out: &mut [u8]) -> Printed
 
 // The hour program's text, from the buffer's start, or a refusal that leaves the buffer as it was.
 pub fn print(bytes: &[u8], out: &mut [u8]) -> Printed
-    ensures { λ r. ⌜ Fills (saysPrinted r) (printOf (now (bytes .entry)) (length (now (out .entry)))) (now (out .entry)) (now (out .exit)) ⌝ }
+    ensures { λ r. ⌜ PrintsHours (now (bytes .entry)) r (now (out .entry)) (now (out .exit)) ⌝ }
 {
     let counted = tallies(bytes);
     let table = counted.table;

@@ -5,11 +5,11 @@ use borrow.Author.Needs.{needs}
 use denote.Ref.{now}
 use lib.ListN.{length}
 use Rattle.paper.specs.Answer.{Answer, inRoom, Fills}
-use Rattle.journal.specs.Journal.{journalOf, summaryOf}
-use Rattle.journal.specs.Says.{saysJudged}
+use Rattle.journal.specs.Journal.{journalOf}
 use Rattle.journal.specs.declared.Line.{Line}
 use Rattle.hourly.specs.Text.{hoursText, printOf}
 use Rattle.hourly.specs.Says.{saysPrinted}
+use Rattle.hourly.specs.Tally.{summaryOf, saysJudged}
 use Rattle.hourly.proofs.Tallying.{Found, found-of, counts-tell}
 use Rattle.hourly.proofs.Printing.{Prints, prints, prints-answer, first-last}
 use Rattle.hourly.proofs.Answering.{refused-fills}
