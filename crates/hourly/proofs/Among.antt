@@ -14,8 +14,7 @@ use Rattle.hourly.specs.Bounds.{outside-missing}
 use Rattle.hourly.specs.Tally.{outside, linesOf, tallyOf, Tells, hourFrom, hourAmong}
 use Rattle.hourly.specs.declared.Tally.{Tally}
 use Rattle.hourly.specs.declared.Summary.{Summary}
-use Rattle.hourly.proofs.Tallying.{Found, found-accepted}
-use Rattle.hourly.proofs.Answering.{hour-tally}
+use Rattle.hourly.specs.TallyLaws.{Found, found-accepted, hour-tally}
 
 pub among-hour : {s : List ℕ} {found : Summary} {table : List Tally} → Found s found → Tells table (found .first) (linesOf s) → (h : ℕ) → hourAmong table found h ≡ hourOf (linesOf s) h
 unfolding hourAmong pick

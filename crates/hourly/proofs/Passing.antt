@@ -20,7 +20,9 @@ use Rattle.journal.specs.declared.Past.{Past}
 use Rattle.journal.specs.declared.Refusal.{Refusal}
 use Rattle.journal.specs.Says.{saysRefusal, refusal-done, refusal-told}
 use Rattle.hourly.specs.Accepted.{InRange, Ranged}
-use Rattle.hourly.specs.Tally.{outside, noTally, counted, summaryOf, Tells, Counts, acceptedAfter, refusedBy}
+use Rattle.hourly.specs.Tally.{outside, noTally, counted, summaryOf, Tells, acceptedAfter, refusedBy}
+use Rattle.hourly.specs.Contracts.{Counts}
+use Rattle.hourly.specs.declared.Judged.the-variants as J
 use Rattle.hourly.specs.declared.Tally.{Tally}
 use Rattle.hourly.specs.declared.Tallied.{Tallied}
 use Rattle.hourly.proofs.Tallying.{tells-none, tells-start, tells-more, old-few}
@@ -122,6 +124,7 @@ counts-refused s t r e j =
     (record {
       judged = refusal-told summaryOf r ∙ ap (told summaryOf) (sym j);
       tells = λ ls d. refusal-done r (sym j ∙ d);
+      none = λ q f. refl;
     })
 
 module _ {s : List ℕ} {past : Past} {at n : ℕ} {table : List Tally} (p : Passed s past at n table) where
@@ -140,6 +143,7 @@ module _ {s : List ℕ} {past : Past} {at n : ℕ} {table : List Tally} (p : Pas
       record {
         judged = rw (sym (p .number), p .first, p .last) refl ∙ sym (ap (told summaryOf) e);
         tells = λ ls d. let q : p .lines ≡ ls = cc in subst (λ (ms : List Line). Tells table (firstHour ms) ms) q (subst (λ (f : ℕ). Tells table f (p .lines)) (p .first) (p .tells));
+        none = λ r f. let z : _≡_ {A = ℕ} 0 1 = cc in absurd (omega arith);
       }
 
   -- no line stands at `at`

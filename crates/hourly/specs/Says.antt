@@ -1,23 +1,20 @@
 -- What the answers of the hours' calls say, in the paper's words, and that two which say the same are equal. Assumes nothing.
 use mathlib.Core.Path.{_≡_, refl, sym, ap}
-use mathlib.Core.List.{List, []}
 use Prim.Native.Nat.{ℕ}
 use native.Mathlib.Omega.{arith}
 use lib.Ieee.{Float}
-use Rattle.paper.specs.Answer.{Answer, done, refused}
-use Rattle.paper.specs.AnswerLaws.{refused-done}
-use Rattle.paper.specs.Numbers.{R8, R10, R11, R12, R13}
+use Rattle.paper.specs.Answer.{Answer, done}
 use Rattle.journal.specs.Says.{saysRefusal, refusal-one, refusal-done}
 use Rattle.journal.specs.declared.Refusal.{Refusal}
-use Rattle.journal.specs.declared.Refusal.the-variants as R
 use Rattle.hourly.specs.Hours.{HourAnswer, measured, idle, missing}
 use Rattle.hourly.specs.declared.Figures.{Figures}
 use Rattle.hourly.specs.declared.Hour.{Hour}
 use Rattle.hourly.specs.declared.Hour.the-variants as H
 use Rattle.hourly.specs.declared.Asked.{Asked}
 use Rattle.hourly.specs.declared.Asked.the-variants as A
-use Rattle.hourly.specs.declared.Printed.{Printed}
-use Rattle.hourly.specs.declared.Printed.the-variants as P
+use Rattle.hourly.specs.declared.Summary.{Summary}
+use Rattle.hourly.specs.declared.Judged.{Judged}
+use Rattle.hourly.specs.declared.Judged.the-variants as J
 
 -- measured with its sum, largest amount and mean; idle; missing
 abbrev pub saysHour : Hour → HourAnswer
@@ -29,10 +26,10 @@ abbrev pub saysAsked : Asked → Answer HourAnswer
 saysAsked (A.Hour h) = done (saysHour h)
 saysAsked (A.Refused r) = saysRefusal r
 
-abbrev pub saysPrinted : Printed → Answer ℕ
-saysPrinted (P.Text n) = done n
-saysPrinted (P.Refused r) = saysRefusal r
-saysPrinted P.R8 = refused R8 []
+-- the number of the lines and the hours of the first and the last, or why the journal is refused
+abbrev pub saysJudged : Judged → Answer Summary
+saysJudged (J.Lines s) = done s
+saysJudged (J.Refused r) = saysRefusal r
 
 -- ---- two answers that say the same are equal
 
@@ -56,20 +53,8 @@ asked-one (A.Hour x) (A.Refused r) e = refusal-done r (sym e)
 asked-one (A.Refused q) (A.Hour y) e = refusal-done q e
 asked-one (A.Refused q) (A.Refused r) e = ap (λ (z : Refusal). A.Refused z) (refusal-one q r e)
 
--- no refusal of a journal is R8
-pub refusal-r8 : {X Q : Type 0} (r : Refusal) → saysRefusal {X = X} r ≡ refused R8 [] → Q
-refusal-r8 (R.R10 n) e = let z : R10 ≡ R8 = cc in absurd (omega arith)
-refusal-r8 (R.R11 n) e = let z : R11 ≡ R8 = cc in absurd (omega arith)
-refusal-r8 (R.R12 n) e = let z : R12 ≡ R8 = cc in absurd (omega arith)
-refusal-r8 R.R13 e = let z : R13 ≡ R8 = cc in absurd (omega arith)
-
-pub printed-one : (a b : Printed) → saysPrinted a ≡ saysPrinted b → a ≡ b
-printed-one (P.Text n) (P.Text m) e = cc
-printed-one (P.Text n) (P.Refused r) e = refusal-done r (sym e)
-printed-one (P.Text n) P.R8 e = refused-done (sym e)
-printed-one (P.Refused q) (P.Text m) e = refusal-done q e
-printed-one (P.Refused q) (P.Refused r) e = ap (λ (z : Refusal). P.Refused z) (refusal-one q r e)
-printed-one (P.Refused q) P.R8 e = refusal-r8 q e
-printed-one P.R8 (P.Text m) e = refused-done e
-printed-one P.R8 (P.Refused r) e = refusal-r8 r (sym e)
-printed-one P.R8 P.R8 e = refl
+pub judged-one : (a b : Judged) → saysJudged a ≡ saysJudged b → a ≡ b
+judged-one (J.Lines s) (J.Lines t) e = cc
+judged-one (J.Lines s) (J.Refused r) e = refusal-done r (sym e)
+judged-one (J.Refused q) (J.Lines t) e = refusal-done q e
+judged-one (J.Refused q) (J.Refused r) e = ap (λ (x : Refusal). J.Refused x) (refusal-one q r e)

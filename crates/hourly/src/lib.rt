@@ -1,20 +1,14 @@
-// The hours of a journal: one hour's answer, and the hour program's text.
+// The hours of a journal: one pass that counts its lines, and an hour's answer.
 use journal::Line;
 use journal::Past;
 use journal::Refusal;
 use text::Num;
 ghost use mathlib.Core.Path.{_≡_};
-ghost use mathlib.Core.List.{[], _∷_};
-ghost use Prim.Native.Nat.{_+_, _-_, _≤_, _<_, max};
-ghost use lib.ListN.{length, replicate};
-ghost use lib.Seq.{sets};
-ghost use Rattle.paper.specs.Answer.{inRoom, Fills};
-ghost use Rattle.text.specs.Put.{Puts};
-ghost use Rattle.hourly.specs.Text.{rowM, rowText};
-ghost use Rattle.hourly.specs.Rows.{tailText};
-ghost use Rattle.hourly.specs.Says.{saysHour, saysPrinted};
-ghost use Rattle.hourly.specs.Tally.{noTally, withDose, counted, Counts, acceptedAfter, refusedBy, hourFrom, hourAmong, saysShown, Summed, shownOf, textBy, Printable, hoursIn};
-ghost use Rattle.hourly.specs.Contracts.{AnswersHour, PrintsHours};
+ghost use Prim.Native.Nat.{_-_, _<_, max};
+ghost use lib.ListN.{replicate};
+ghost use Rattle.hourly.specs.Says.{saysHour};
+ghost use Rattle.hourly.specs.Tally.{noTally, withDose, counted, acceptedAfter, refusedBy, hourAmong};
+ghost use Rattle.hourly.specs.Contracts.{Counts, AnswersTally, AnswersHour};
 
 // What a measured hour hands to the predictor: the sum and the largest amount, both exact, and the mean.
 pub struct Figures {
@@ -36,52 +30,34 @@ pub enum Asked {
     Refused(Refusal),
 }
 
-// What making the text answers: its length, the journal's refusal, or that the buffer is too short.
-pub enum Printed {
-    Text(usize),
-    Refused(Refusal),
-    R8,
-}
-
-const TAB: u8 = 9;
-
 const LF: u8 = 10;
 
 // What the lines so far tell of one hour: the number of its doses, their sum, the largest amount, and whether its H was there.
-struct Tally {
-    doses: u32,
-    sum: f64,
-    largest: u32,
-    on: bool,
+pub struct Tally {
+    pub doses: u32,
+    pub sum: f64,
+    pub largest: u32,
+    pub on: bool,
 }
 
 // What an accepted journal holds: the number of its lines, and the hours of the first and the last.
-struct Summary {
-    lines: usize,
-    first: u32,
-    last: u32,
+pub struct Summary {
+    pub lines: usize,
+    pub first: u32,
+    pub last: u32,
 }
 
 // What the pass says of a journal.
-enum Judged {
+pub enum Judged {
     Lines(Summary),
     Refused(Refusal),
 }
 
 // What the pass over a journal finds: what it says of it, and the tallies of the hours from the first on.
-struct Tallied {
-    judged: Judged,
-    table: [Tally; journal::SPAN],
+pub struct Tallied {
+    pub judged: Judged,
+    pub table: [Tally; journal::SPAN],
 }
-
-// What is printed of an hour: its doses, their sum and the mean's bits; or I; or X.
-enum Shown {
-    Measured { doses: u32, sum: u64, bits: u64 },
-    Idle,
-    Missing,
-}
-
-// ---- the lines counted
 
 // Every hour before the first line.
 fn no_tallies() -> [Tally; journal::SPAN]
@@ -160,7 +136,7 @@ fn accepted(lines: usize, past: Past, table: [Tally; journal::SPAN]) -> Tallied
 }
 
 // A whole journal in one pass: R13, then line by line R10, R11, R12; each line that is taken is counted at its hour.
-fn tallies(bytes: &[u8]) -> Tallied
+pub fn tallies(bytes: &[u8]) -> Tallied
     ensures { λ r. ⌜ Counts (now (bytes .entry)) r ⌝ }
 {
     let size = bytes.len();
@@ -211,11 +187,9 @@ fn tallies(bytes: &[u8]) -> Tallied
     }
 }
 
-// ---- an hour's answer
-
 // With an H the hour is measured if it has a dose, else idle; without one it is missing.
-fn hour_from(t: Tally) -> Hour
-    ensures { λ r. ⌜ saysHour r ≡ hourFrom t ⌝ }
+pub fn hour_from(t: Tally) -> Hour
+    ensures { λ r. ⌜ AnswersTally t r ⌝ }
 {
     if !t.on {
         return Hour::Missing;
@@ -256,156 +230,5 @@ pub fn hour_of(bytes: &[u8], hour: u32) -> Asked
     match judged {
         Judged::Lines(found) => Asked::Hour(hour_among(table, found, hour)),
         Judged::Refused(refusal) => Asked::Refused(refusal),
-    }
-}
-
-// ---- the text
-
-// What is printed of an hour.
-fn shown_from(t: Tally) -> Shown
-    requires { ⌜ Summed t ⌝ }
-    ensures { λ r. ⌜ saysShown r ≡ shownOf t ⌝ }
-{
-    let hour = hour_from(t);
-    match hour {
-        Hour::Measured(f) => Shown::Measured {
-            doses: t.doses,
-            sum: f.sum as u64,
-            bits: f64::to_bits(f.mean),
-        },
-        Hour::Idle => Shown::Idle,
-        Hour::Missing => Shown::Missing,
-    }
-}
-
-// How many bytes a row has.
-fn row_len(hour: u64, row: Shown) -> usize
-    ensures { λ r. ⌜ r ≡ length (rowText hour (saysShown row)) ⌝ }
-{
-    let n = text::decimal_len(hour);
-    match row {
-        Shown::Measured {
-            doses,
-            sum,
-            bits: _,
-        } => n + 22 + text::decimal_len(doses as u64) + text::decimal_len(sum),
-        Shown::Idle => n + 3,
-        Shown::Missing => n + 3,
-    }
-}
-
-// M and the figures of a measured hour, behind the hour and its tab.
-fn put_measured(out: &mut [u8], at: usize, doses: u64, sum: u64, bits: u64) -> usize
-    requires { ⌜ at + length (tailText (rowM doses sum bits)) ≤ length (now out) ⌝ }
-    ensures { λ r. ⌜ Puts (now (out .entry)) at (tailText (rowM doses sum bits)) (now (out .exit)) r ⌝ }
-{
-    let mut p = text::put_byte(out, at, b'M');
-    p = text::put_byte(out, p, TAB);
-    p = text::put_decimal(out, p, doses);
-    p = text::put_byte(out, p, TAB);
-    p = text::put_decimal(out, p, sum);
-    p = text::put_byte(out, p, TAB);
-    p = text::put_hex(out, p, 16, bits);
-    text::put_byte(out, p, LF)
-}
-
-// I or X.
-fn put_letter(out: &mut [u8], at: usize, letter: u8) -> usize
-    requires { ⌜ at + 2 ≤ length (now out) ⌝ }
-    ensures { λ r. ⌜ Puts (now (out .entry)) at (letter ∷ 10 ∷ []) (now (out .exit)) r ⌝ }
-{
-    let p = text::put_byte(out, at, letter);
-    text::put_byte(out, p, LF)
-}
-
-// What stands behind the hour and its tab.
-fn put_tail(out: &mut [u8], at: usize, row: Shown) -> usize
-    requires { ⌜ at + length (tailText (saysShown row)) ≤ length (now out) ⌝ }
-    ensures { λ r. ⌜ Puts (now (out .entry)) at (tailText (saysShown row)) (now (out .exit)) r ⌝ }
-{
-    match row {
-        Shown::Measured { doses, sum, bits } => put_measured(out, at, doses as u64, sum, bits),
-        Shown::Idle => put_letter(out, at, b'I'),
-        Shown::Missing => put_letter(out, at, b'X'),
-    }
-}
-
-// An hour's row.
-fn put_row(out: &mut [u8], at: usize, hour: u64, row: Shown) -> usize
-    requires { ⌜ at + length (rowText hour (saysShown row)) ≤ length (now out) ⌝ }
-    ensures { λ r. ⌜ Puts (now (out .entry)) at (rowText hour (saysShown row)) (now (out .exit)) r ⌝ }
-{
-    let p = text::put_decimal(out, at, hour);
-    let q = text::put_byte(out, p, TAB);
-    put_tail(out, q, row)
-}
-
-// How many bytes the rows of the first hours of a table have.
-fn text_len(table: [Tally; journal::SPAN], first: u32, hours: usize) -> usize
-    requires { ⌜ Printable table first hours ⌝ }
-    ensures { λ r. ⌜ r ≡ length (textBy table first hours) ⌝ }
-{
-    let mut n: usize = 0;
-    let mut k: usize = 0;
-    while k < hours {
-        let tally = table[k];
-        n += row_len(first as u64 + k as u64, shown_from(tally));
-        k += 1;
-    }
-    n
-}
-
-// The rows of the first hours of a table, stored from the buffer's start.
-fn put_rows(out: &mut [u8], table: [Tally; journal::SPAN], first: u32, hours: usize)
-    requires printable { ⌜ Printable table first hours ⌝ }
-    requires room { ⌜ length (textBy table first hours) ≤ length (now out) ⌝ }
-    ensures { λ _. ⌜ now (out .exit) ≡ sets (now (out .entry)) 0 (textBy table first hours) ⌝ }
-{
-    let mut at: usize = 0;
-    let mut k: usize = 0;
-    while k < hours {
-        let tally = table[k];
-        at = put_row(out, at, first as u64 + k as u64, shown_from(tally));
-        k += 1;
-    }
-}
-
-// How many hours are printed: none of an empty journal.
-fn hours_in(found: Summary) -> usize
-    requires { ⌜ found .first ≤ found .last ⌝ }
-    ensures { λ r. ⌜ r ≡ hoursIn found ⌝ }
-{
-    if found.lines == 0 {
-        return 0;
-    }
-    (found.last - found.first) as usize + 1
-}
-
-// The text of an accepted journal's tallies, if it has room.
-fn print_table(table: [Tally; journal::SPAN], found: Summary, out: &mut [u8]) -> Printed
-    requires printable { ⌜ Printable table (found .first) (hoursIn found) ⌝ }
-    requires order { ⌜ found .first ≤ found .last ⌝ }
-    ensures { λ r. ⌜ Fills (saysPrinted r) (inRoom [] (length (now (out .entry))) (textBy table (found .first) (hoursIn found))) (now (out .entry)) (now (out .exit)) ⌝ }
-{
-    let first = found.first;
-    let hours = hours_in(found);
-    let n = text_len(table, first, hours);
-    if out.len() < n {
-        return Printed::R8;
-    }
-    put_rows(out, table, first, hours);
-    Printed::Text(n)
-}
-
-// The hour program's text, from the buffer's start, or a refusal that leaves the buffer as it was.
-pub fn print(bytes: &[u8], out: &mut [u8]) -> Printed
-    ensures { λ r. ⌜ PrintsHours (now (bytes .entry)) r (now (out .entry)) (now (out .exit)) ⌝ }
-{
-    let counted = tallies(bytes);
-    let table = counted.table;
-    let judged = counted.judged;
-    match judged {
-        Judged::Lines(found) => print_table(table, found, out),
-        Judged::Refused(refusal) => Printed::Refused(refusal),
     }
 }

@@ -7,9 +7,10 @@ use Rattle.paper.specs.Answer.{done, told}
 use Rattle.journal.specs.Journal.{journalOf}
 use Rattle.journal.specs.declared.Line.{Line}
 use Rattle.hourly.specs.Hours.{HourAnswer, askOf, hourOf}
-use Rattle.hourly.specs.Tally.{summaryOf, saysJudged}
-use Rattle.hourly.proofs.Tallying.{Found, found-of, found-accepted, counts-tell}
-use Rattle.hourly.proofs.Answering.{refused-told}
+use Rattle.hourly.specs.Tally.{summaryOf}
+use Rattle.hourly.specs.Says.{saysJudged}
+use Rattle.hourly.specs.TallyLaws.{Found, found-of, found-accepted, counts-tell}
+use Rattle.hourly.specs.Refused.{refused-told}
 use Rattle.hourly.proofs.Among.{among-hour}
 use Rattle.hourly.proofs.hour_of.Statement.{statement}
 use Rattle.hourly.proofs.hour_of.Tie as tie

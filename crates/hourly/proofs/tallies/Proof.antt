@@ -16,7 +16,7 @@ use Rattle.journal.specs.Journal.{hourIn, outOfOrder, tooFar, journalOf}
 use Rattle.journal.specs.JournalLaws.{journal-long}
 use Rattle.journal.specs.FieldLaws.{Fielded, letter-none, fielded-none, fielded-more, fielded-bad, fielded-torn, fielded-line}
 use Rattle.journal.specs.declared.Line.{Line}
-use Rattle.hourly.specs.Tally.{Counts}
+use Rattle.hourly.specs.Contracts.{Counts}
 use Rattle.hourly.proofs.Passing.{Passed, Turn, passed-none, counts-refused, counts-all, malformed, late, distant, turn}
 use Rattle.hourly.proofs.tallies.Statement.{statement}
 use Rattle.hourly.proofs.tallies.Tie as tie

@@ -7,14 +7,15 @@ use lib.ListN.{length}
 use Rattle.paper.specs.Answer.{Answer, inRoom, Fills}
 use Rattle.journal.specs.Journal.{journalOf}
 use Rattle.journal.specs.declared.Line.{Line}
 use Rattle.hourly.specs.Text.{hoursText, printOf}
-use Rattle.hourly.specs.Says.{saysPrinted}
-use Rattle.hourly.specs.Tally.{summaryOf, saysJudged}
-use Rattle.hourly.proofs.Tallying.{Found, found-of, counts-tell}
-use Rattle.hourly.proofs.Printing.{Prints, prints, prints-answer, first-last}
-use Rattle.hourly.proofs.Answering.{refused-fills}
-use Rattle.hourly.proofs.print.Statement.{statement}
-use Rattle.hourly.proofs.print.Tie as tie
+use Rattle.hourly.specs.Says.{saysJudged}
+use Rattle.hourly.specs.Tally.{summaryOf}
+use Rattle.hourly.specs.TallyLaws.{Found, found-of, counts-tell}
+use Rattle.hourly.specs.Refused.{refused-fills}
+use Rattle.report.specs.Says.{saysPrinted}
+use Rattle.report.proofs.Printing.{Prints, prints, prints-answer, first-last}
+use Rattle.report.proofs.print.Statement.{statement}
+use Rattle.report.proofs.print.Tie as tie
 
 -- the journal is accepted
 found : (c : tie.After-known-told) → Found (now (c .before .before .before .before .before .before .before .args .bytes)) (c .before .judged .given .0 .0)

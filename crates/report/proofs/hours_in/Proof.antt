@@ -3,9 +3,9 @@ use lib.Dec.{eqb}
 use borrow.Author.Needs.{needs}
 use borrow.Author.Tests.{eq-eqb, ne-eqb}
 use Rattle.laws.specs.Pick.{pick-t, pick-f}
-use Rattle.hourly.specs.Tally.{hoursIn}
-use Rattle.hourly.proofs.hours_in.Statement.{statement}
-use Rattle.hourly.proofs.hours_in.Tie as tie
+use Rattle.report.specs.Table.{hoursIn}
+use Rattle.report.proofs.hours_in.Statement.{statement}
+use Rattle.report.proofs.hours_in.Tie as tie
 
 returns : tie.Need-returns
 unfolding hoursIn

@@ -5,10 +5,10 @@ use borrow.Author.Needs.{needs}
 use denote.Ref.{now}
 use lib.ListN.{length}
 use lib.Seq.{sets}
-use Rattle.hourly.specs.Tally.{textBy, hoursIn}
-use Rattle.hourly.proofs.Printing.{fills-none, fills-text}
-use Rattle.hourly.proofs.print_table.Statement.{statement}
-use Rattle.hourly.proofs.print_table.Tie as tie
+use Rattle.report.specs.Table.{textBy, hoursIn}
+use Rattle.report.proofs.Printing.{fills-none, fills-text}
+use Rattle.report.proofs.print_table.Statement.{statement}
+use Rattle.report.proofs.print_table.Tie as tie
 
 hours-in-requires : tie.Need-hours-in-requires
 hours-in-requires c κs = search needs

@@ -1,11 +1,11 @@
 use mathlib.Core.Path.{ap, sym, _∙_}
 use borrow.Author.Needs.{needs}
-use Rattle.hourly.specs.Tally.{shownOf, shownBy}
+use Rattle.report.specs.Table.{shownOf, shownBy}
 use Rattle.hourly.specs.Hours.{HourAnswer}
 use Rattle.hourly.specs.Says.{saysHour}
-use Rattle.hourly.proofs.Answering.{sum-whole, mean-number}
-use Rattle.hourly.proofs.shown_from.Statement.{statement}
-use Rattle.hourly.proofs.shown_from.Tie as tie
+use Rattle.report.proofs.Showing.{sum-whole, mean-number}
+use Rattle.report.proofs.shown_from.Statement.{statement}
+use Rattle.report.proofs.shown_from.Tie as tie
 
 hour-from-requires : tie.Need-hour-from-requires
 hour-from-requires c κs = search needs

@@ -18,16 +18,16 @@ use Rattle.text.specs.Put.{Puts}
 use Rattle.text.specs.PutLaws.{room-is, puts-fit, puts-length}
 use Rattle.journal.specs.Journal.{firstHour}
 use Rattle.journal.specs.declared.Line.{Line}
 use Rattle.hourly.specs.Hours.{HourAnswer, missing, amountsAt, hasOn, total, greatest, sumOf, meanOf, measuredOrIdle, hourOf, asF64}
 use Rattle.hourly.specs.Text.{Row, rowFrom, rowOf, rowText, rowsOf, rowsText, hoursFrom, spanOf, hoursText, printOf}
 use Rattle.hourly.specs.Accepted.{Accepted}
 use Rattle.hourly.specs.Bounds.{modest, text-short}
-use Rattle.hourly.specs.Tally.{outside, tallyOf, linesOf, summaryOf, Tells, shownBy, shownOf, rowsBy, textBy, Printable, hoursIn}
+use Rattle.hourly.specs.Tally.{outside, tallyOf, linesOf, summaryOf, Tells}
+use Rattle.hourly.specs.TallyLaws.{hour-tally, Found, found-accepted}
+use Rattle.report.specs.Table.{shownBy, shownOf, rowsBy, textBy, Printable, hoursIn}
 use Rattle.hourly.specs.declared.Summary.{Summary}
 use Rattle.hourly.specs.declared.Tally.{Tally}
 use Rattle.hourly.specs.Floats.{whole-back}
-use Rattle.hourly.proofs.Answering.{hour-tally}
-use Rattle.hourly.proofs.Tallying.{Found, found-accepted}
 
 -- the text of the rows from row k on
 abbrev pub restBy : List Tally → ℕ → ℕ → ℕ → List ℕ

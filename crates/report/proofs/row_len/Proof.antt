@@ -4,12 +4,12 @@ use native.Mathlib.Omega.{arith}
 use borrow.Author.Needs.{needs}
 use lib.ListN.{length}
 use Rattle.text.specs.PutLaws.{digits-most}
 use Rattle.hourly.specs.Text.{rowText}
-use Rattle.hourly.specs.Tally.{saysShown}
-use Rattle.hourly.specs.declared.Shown.{Shown}
+use Rattle.report.specs.Table.{saysShown}
+use Rattle.report.specs.declared.Shown.{Shown}
 use Rattle.hourly.specs.Bounds.{measured-length, idle-length, missing-length}
-use Rattle.hourly.proofs.row_len.Statement.{statement}
-use Rattle.hourly.proofs.row_len.Tie as tie
+use Rattle.report.proofs.row_len.Statement.{statement}
+use Rattle.report.proofs.row_len.Tie as tie
 
 decimal-len-requires : tie.Need-decimal-len-requires
 decimal-len-requires c κs = search needs

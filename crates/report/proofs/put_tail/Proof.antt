@@ -4,11 +4,11 @@ use borrow.Author.Needs.{needs}
 use denote.Ref.{now}
 use lib.ListN.{length}
 use Rattle.text.specs.Put.{Puts}
-use Rattle.hourly.specs.Rows.{tailText}
-use Rattle.hourly.specs.Tally.{saysShown}
-use Rattle.hourly.specs.declared.Shown.{Shown}
-use Rattle.hourly.proofs.put_tail.Statement.{statement}
-use Rattle.hourly.proofs.put_tail.Tie as tie
+use Rattle.report.specs.Rows.{tailText}
+use Rattle.report.specs.Table.{saysShown}
+use Rattle.report.specs.declared.Shown.{Shown}
+use Rattle.report.proofs.put_tail.Statement.{statement}
+use Rattle.report.proofs.put_tail.Tie as tie
 
 enum-known-row : tie.Need-enum-known-row
 enum-known-row c = search needs

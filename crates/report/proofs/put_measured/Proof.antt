@@ -4,10 +4,10 @@ use borrow.Author.Needs.{needs}
 use Rattle.laws.specs.Decimal.{decimal, hexOf}
 use Rattle.text.specs.Scan.{LF, TAB}
 use Rattle.text.specs.PutLaws.{put-then}
 use Rattle.hourly.specs.Text.{letterM}
-use Rattle.hourly.specs.Rows.{tailText}
-use Rattle.hourly.proofs.put_measured.Statement.{statement}
-use Rattle.hourly.proofs.put_measured.Tie as tie
+use Rattle.report.specs.Rows.{tailText}
+use Rattle.report.proofs.put_measured.Statement.{statement}
+use Rattle.report.proofs.put_measured.Tie as tie
 
 put-byte-requires : tie.Need-put-byte-requires
 put-byte-requires c κs = search needs

@@ -6,10 +6,10 @@ use lib.ListN.{length}
 use Rattle.laws.specs.Decimal.{decimal}
 use Rattle.text.specs.Scan.{TAB}
 use Rattle.text.specs.PutLaws.{put-then, room-then}
-use Rattle.hourly.specs.Rows.{tailText, row-is}
-use Rattle.hourly.specs.Tally.{saysShown}
-use Rattle.hourly.proofs.put_row.Statement.{statement}
-use Rattle.hourly.proofs.put_row.Tie as tie
+use Rattle.report.specs.Rows.{tailText, row-is}
+use Rattle.report.specs.Table.{saysShown}
+use Rattle.report.proofs.put_row.Statement.{statement}
+use Rattle.report.proofs.put_row.Tie as tie
 
 put-decimal-requires : tie.Need-put-decimal-requires
 put-decimal-requires c κs = search needs

@@ -5,11 +5,11 @@ use borrow.Author.Needs.{needs}
 use denote.Ref.{now}
 use lib.ListN.{length}
 use lib.Seq.{sets}
 use Rattle.hourly.specs.Text.{rowText}
-use Rattle.hourly.specs.Tally.{saysShown, textBy}
-use Rattle.hourly.proofs.Printing.{restBy, rest-whole, rest-length, rest-stored, rest-none}
-use Rattle.hourly.proofs.put_rows.Statement.{statement}
-use Rattle.hourly.proofs.put_rows.Tie as tie
+use Rattle.report.specs.Table.{saysShown, textBy}
+use Rattle.report.proofs.Printing.{restBy, rest-whole, rest-length, rest-stored, rest-none}
+use Rattle.report.proofs.put_rows.Statement.{statement}
+use Rattle.report.proofs.put_rows.Tie as tie
 
 abbrev Inv-loop : tie.InvT-loop
 Inv-loop out₀ first hours table at₀ k₀ out at k = (k ≤ hours) × (length out ≡ length out₀) × (at + length (restBy table first hours k) ≡ length (textBy table first hours)) × (sets out at (restBy table first hours k) ≡ sets out₀ 0 (textBy table first hours))

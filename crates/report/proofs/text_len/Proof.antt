@@ -3,10 +3,10 @@ use Prim.Native.Nat.{_+_, _-_, _≤_}
 use native.Mathlib.Omega.{arith}
 use borrow.Author.Needs.{needs}
 use lib.ListN.{length}
-use Rattle.hourly.specs.Tally.{saysShown, textBy}
-use Rattle.hourly.proofs.Printing.{restBy, rest-whole, rest-length, rest-none}
-use Rattle.hourly.proofs.text_len.Statement.{statement}
-use Rattle.hourly.proofs.text_len.Tie as tie
+use Rattle.report.specs.Table.{saysShown, textBy}
+use Rattle.report.proofs.Printing.{restBy, rest-whole, rest-length, rest-none}
+use Rattle.report.proofs.text_len.Statement.{statement}
+use Rattle.report.proofs.text_len.Tie as tie
 
 abbrev Inv-loop : tie.InvT-loop
 Inv-loop first hours table n₀ k₀ n k = (k ≤ hours) × (n + length (restBy table first hours k) ≡ length (textBy table first hours))

@@ -2,8 +2,8 @@ use mathlib.Core.List.{[], _∷_}
 use borrow.Author.Needs.{needs}
 use Rattle.text.specs.Scan.{LF}
 use Rattle.text.specs.PutLaws.{put-then}
-use Rattle.hourly.proofs.put_letter.Statement.{statement}
-use Rattle.hourly.proofs.put_letter.Tie as tie
+use Rattle.report.proofs.put_letter.Statement.{statement}
+use Rattle.report.proofs.put_letter.Tie as tie
 
 put-byte-requires : tie.Need-put-byte-requires
 put-byte-requires c κs = search needs
