@@ -3,7 +3,7 @@ use frame::Found;
 use frame::Wrote;
 ghost use mathlib.Core.Path.{_≡_};
 ghost use lib.ListN.{replicate};
-ghost use Rattle.roundtrip.specs.Frames.{Echoes};
+ghost use Rattle.roundtrip.specs.Frames.{EchoesBody};
 
 // What writing and reading back answers: the length of the body, or the writer's refusal.
 pub enum Echoed {
@@ -28,7 +28,7 @@ fn no_echo() -> Echo
 
 // Writes a body's frame, reads it back, and answers the body that was read.
 pub fn echo_frame(body: &[u8]) -> Echo
-    ensures { λ r. ⌜ Echoes (now (body .entry)) r ⌝ }
+    ensures { λ r. ⌜ EchoesBody (now (body .entry)) r ⌝ }
 {
     let mut line = [0u8; 513];
     let wrote = frame::write_frame(body, &mut line);
