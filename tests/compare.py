@@ -10,9 +10,9 @@ Each runs the stored cases first, then input from the seeds 1 to SEEDS. The
 journals are of every kind that the generator knows: small and empty ones, the
 largest (65,536 bytes), a month (744 hours), thousands of doses in one hour, one
 byte too many, and every kind of malformed line. For `record` a seed gives a
-weigher at work, hours with something at their ends, a script of every call
-after a first hour, and first lines that are no hour. What `record` prints goes
-through `hours` too.
+weigher at work, hours with something at their ends, eight hours around lines
+that are no call, a script of every call after a first hour, and first lines
+that are no hour. What `record` prints goes through `hours` too.
 
 At the first difference it prints the output line of both and the input line
 that it answers, and ends with status 1. It does so too where a task fails, and
@@ -143,7 +143,7 @@ def stored(name, kind):
 
 def made(name, *words):
     data = b''.join(generate.MADE[words[0]](*words[1:]))
-    return name, 'second.generate %s %d %d' % words, data
+    return name, ' '.join(map(str, ('second.generate', *words))), data
 
 
 def seeded(*words):
@@ -214,6 +214,7 @@ def tasks(kind, seeds, *size):
             yield Task(name, seeded_calls, (seed,), 1 + BAD_FIRST_LINES)
             yield Task(name, seeded, (name, 'record', seed, *size), 1)
             yield Task(name, seeded, (name, 'ends', seed, *size), 1)
+            yield Task(name, seeded, (name, 'lost', seed), 1)
 
 
 def expected(every):
