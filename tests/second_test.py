@@ -1,4 +1,4 @@
-"""Checks of the second implementation, straight from the paper:
+"""Checks of the second implementation, from document 01 and docs/REPLAY.md:
 python3 tests/second_test.py"""
 
 import io
