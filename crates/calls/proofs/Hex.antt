@@ -210,6 +210,7 @@ pub four-not : (bytes : List ℕ) {n : ℕ} (next : Field → Parsed Call) → n
 unfolding fieldFrom
 four-not bytes next e n = pick-f _ _ _ (ne-eqb _ _ (λ f. n (e ∙ f)))
 
-pub four-is : (bytes : List ℕ) {n : ℕ} (next : Field → Parsed Call) → n ≡ length bytes → n ≡ 4 → fieldFrom bytes next ≡ next (four (getD bytes 0 0) (getD bytes 1 0) (getD bytes 2 0) (getD bytes 3 0))
+pub four-is : (s bytes : List ℕ) {n : ℕ} → n ≡ length bytes → n ≡ 4
+    → fieldFrom bytes (λ f. good (readField f) (drop (2 + 2 * n) s)) ≡ good (readField (four (getD bytes 0 0) (getD bytes 1 0) (getD bytes 2 0) (getD bytes 3 0))) (drop 10 s)
 unfolding fieldFrom
-four-is bytes next e f = pick-t _ _ _ (eq-eqb _ _ (sym e ∙ f))
+four-is s bytes e f = pick-t _ _ _ (eq-eqb _ _ (sym e ∙ f)) ∙ ap (λ (i : ℕ). good (readField (four (getD bytes 0 0) (getD bytes 1 0) (getD bytes 2 0) (getD bytes 3 0))) (drop (2 + 2 * i) s)) f

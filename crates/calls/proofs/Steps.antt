@@ -5,10 +5,12 @@ use mathlib.Core.List.{List, [], _∷_}
 use Prim.Native.Nat.{ℕ, _+_, _≤_, _<_}
 use native.Mathlib.Omega.{arith}
 use native.Mathlib.Numerals.{add-one}
-use lib.Dec.{eqb}
+use lib.Dec.{leb, eqb}
+use lib.IntN.{ℤ}
 use lib.ListN.{length, getD, drop, drop-of-length-le}
 use lib.Seq.{drop-cons}
-use Rattle.laws.specs.Pick.{pick}
+use borrow.Author.Tests.{leb-true, leb-false}
+use Rattle.laws.specs.Pick.{pick, pick-if}
 use Rattle.laws.specs.Decimal.{Parsed, good, bad, numberAt}
 use Rattle.laws.specs.DecimalLaws.{number-only}
 use Rattle.text.specs.Scan.{onGood, expect, fieldAt, leads, Scans}
@@ -16,7 +18,8 @@ use Rattle.text.specs.ScanLaws.{bad-good}
 use Rattle.text.specs.declared.Num.{Num}
 use Rattle.calls.specs.Call.{Call, atEnd}
 use Rattle.calls.specs.Reads.{asCall, sizeOf, Within}
-use Rattle.calls.specs.Reading.{Yields, carried, Asks}
+use Rattle.calls.specs.Reading.{leadsSigned, ScansSigned, carried, Ended, Asks}
+use Rattle.calls.specs.declared.Signed.{Signed}
 use Rattle.calls.specs.declared.Call as declared
 use Rattle.calls.specs.declared.Call.the-variants as C
 
@@ -53,8 +56,8 @@ pub good-as : {X : Type 0} {v w : X} {rest : List ℕ} → v ≡ w → good v re
 good-as {X} {v} {w} {rest} e = ap (λ (x : X). good x rest) e
 
 -- what a rule reads, by a step's answer
-pub step : {X R : Type 0} {leads : List ℕ → R → Parsed X} {s : List ℕ} {rule : Parsed X} {r r' : R} → Yields leads s rule r → r ≡ r' → rule ≡ leads s r'
-step {X} {R} {leads} {s} y e = y .reads ∙ ap (leads s) e
+pub step : {s : List ℕ} {rule : Parsed ℤ} {r r' : Signed} → ScansSigned s rule r → r ≡ r' → rule ≡ leadsSigned s r'
+step {s} y e = y .reads ∙ ap (leadsSigned s) e
 
 pub num : {s : List ℕ} {rule : Parsed ℕ} {r r' : Num} → Scans s rule r → r ≡ r' → rule ≡ leads s r'
 num {s} y e = y .reads ∙ ap (leads s) e
@@ -83,13 +86,12 @@ module _ {s : List ℕ} {rule : Parsed Call} where
   unfolding asCall sizeOf Within atEnd
   unasked e = record { reads = ap atEnd e; carries = omega arith; within = tt }
 
-  -- something follows
-  pub unended : {call : Call} {e : ℕ} → rule ≡ good call (drop e s) → e < length s → Asks s rule C.Unknown
-  unfolding asCall sizeOf Within atEnd
-  unended {call} {e} h l = record { reads = ap atEnd h ∙ ap (λ (t : List ℕ). atEnd (good call t)) (from-byte s e l); carries = omega arith; within = tt }
-
-  -- nothing follows
-  pub asked : {call : Call} {e : ℕ} (r : declared.Call) → rule ≡ good call (drop e s) → length s ≤ e → good call [] ≡ asCall (carried s) r → sizeOf r ≤ length (carried s) → Within r → Asks s rule r
-  unfolding atEnd
-  asked {call} {e} r h l a n w =
-      record { reads = ap atEnd h ∙ ap (λ (t : List ℕ). atEnd (good call t)) (drop-of-length-le s {i = e} l) ∙ a; carries = n; within = w }
+  -- by what follows
+  pub asked : {call : Call} {e : ℕ} {d r : declared.Call} → Ended s e d r → rule ≡ good call (drop e s) → good call [] ≡ asCall (carried s) d → sizeOf d ≤ length (carried s) → Within d → Asks s rule r
+  unfolding atEnd asCall sizeOf Within
+  asked {call} {e} {d} {r} x h a n w =
+      let end : (t : List ℕ) → drop e s ≡ t → atEnd rule ≡ atEnd (good call t) = λ t f. ap atEnd (h ∙ ap (good call) f) in
+      rw (x .is)
+      (pick-if (Asks s rule) (leb (length s) e)
+      (λ t. record { reads = end [] (drop-of-length-le s {i = e} (leb-true _ _ t)) ∙ a; carries = n; within = w })
+      (λ t. record { reads = end _ (from-byte s e (leb-false _ _ t)); carries = omega arith; within = tt }))

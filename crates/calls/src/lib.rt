@@ -19,23 +19,11 @@ enum Signed {
     Bad,
 }
 
-// 0 or 1, read at a place.
-enum Flag {
-    Good(bool, usize),
-    Bad,
-}
-
 // n numbers read at a place; the others are 0.
 struct Numbers {
     good: bool,
     next: usize,
-    values: [u32; 17],
-}
-
-// A set read at a place.
-enum Set {
-    Good(Settings, usize),
-    Bad,
+    values: [u32; 19],
 }
 
 // Every call of the box and of its writers and readers, or that a line is none. A call with bytes says how many stand at the start of the lent buffer.
@@ -88,8 +76,8 @@ fn call_of(line: &[u8]) -> Call
         b'T' => asks::tick(line),
         b'L' => asks::link(line),
         b'S' => asks::set(line),
-        b'C' => asks::bare(line, letter),
-        b'Q' => asks::bare(line, letter),
+        b'C' => asks::ended(line, 1, Call::Reset),
+        b'Q' => asks::ended(line, 1, Call::Counters),
         b'N' => asks::restart(line),
         b'B' => asks::room(line, letter, 64),
         b'W' => asks::room(line, letter, 600),

@@ -1,14 +1,15 @@
 use mathlib.Core.Path.{_≡_, refl, sym, ap, _∙_, subst}
 use mathlib.Core.List.{List}
 use Prim.Native.Nat.{ℕ}
+use native.Mathlib.Omega.{arith}
 use denote.Ref.{now}
 use lib.ListN.{getD, drop}
 use borrow.Author.Tests.{ne-eqb}
 use Rattle.laws.specs.Pick.{pick, pick-f}
-use Rattle.laws.specs.Decimal.{good}
 use Rattle.calls.specs.Call.{roomAt, bytesCall, callBy}
-use Rattle.calls.specs.Reading.{bareCall, aloneCall, roomCall, roomMost, Asks}
-use Rattle.calls.proofs.Steps.{unasked}
+use Rattle.calls.specs.Reads.{asCall, sizeOf, Within}
+use Rattle.calls.specs.Reading.{aloneCall, roomCall, roomMost, Asks}
+use Rattle.calls.proofs.Steps.{unasked, asked}
 use Rattle.calls.specs.declared.Call as declared
 use borrow.Author.Needs.{needs}
 use Rattle.calls.proofs.call_of.Statement.{statement}
@@ -42,32 +43,23 @@ returns-17 c =
     ∙ pick-f _ _ _ (ne-eqb _ _ (n .1))))
 
 pub call-of-spec : {M : Type 1} → statement M
-unfolding callBy bareCall aloneCall roomCall roomMost pick
+unfolding callBy aloneCall roomCall roomMost pick asCall sizeOf Within
 call-of-spec =
     tie.close
     (tie.spec
-    (λ c κs. search needs)
-    (λ c κs. search needs)
-    (λ c κs. search needs)
-    (λ c κs. search needs)
-    (λ c κs. search needs)
-    (λ c κs. search needs)
-    (λ c κs. search needs)
+    (λ c κs. search needs) (λ c κs. search needs) (λ c κs. search needs) (λ c κs. search needs)
+    (λ c κs. search needs) (λ c κs. search needs) (λ c κs. search needs)
     (λ c κs. (c .before .before .before .pre, sym (ap roomMost (c .match .keys7))))
     (λ c κs. (c .before .before .before .pre, sym (ap roomMost (c .match .keys8))))
-    (λ c κs. c .before .before .before .pre)
-    (λ c κs. search needs)
-    (λ c κs. c .before .before .before .pre)
-    (λ c κs. search needs)
-    (λ c κs. search needs)
-    (λ c κs. c .before .before .before .pre)
+    (λ c κs. c .before .before .before .pre) (λ c κs. search needs) (λ c κs. c .before .before .before .pre)
+    (λ c κs. search needs) (λ c κs. search needs) (λ c κs. c .before .before .before .pre)
     (λ c κs. (c .before .before .before .pre, sym (ap roomMost (c .match .keys15))))
     (λ c κs. (c .before .before .before .pre, sym (ap roomMost (c .match .keys16))))
     (λ c. by-key {k = 84} (c .before .before .byte-at .ensures) (c .before .match .keys1) (c .tick .ensures))
     (λ c. by-key {k = 76} (c .before .before .byte-at .ensures) (c .before .match .keys2) (c .link .ensures))
     (λ c. by-key {k = 83} (c .before .before .byte-at .ensures) (c .before .match .keys3) (c .set .ensures))
-    (λ c. by-key {k = 67} (c .before .before .byte-at .ensures) (c .before .match .keys4) (subst (λ (n : ℕ). Asks (now (c .before .before .before .before .args .line)) (good (bareCall n) (drop 1 (now (c .before .before .before .before .args .line)))) (c .bare .result)) (c .before .match .keys4) (c .bare .ensures)))
-    (λ c. by-key {k = 81} (c .before .before .byte-at .ensures) (c .before .match .keys5) (subst (λ (n : ℕ). Asks (now (c .before .before .before .before .args .line)) (good (bareCall n) (drop 1 (now (c .before .before .before .before .args .line)))) (c .bare2 .result)) (c .before .match .keys5) (c .bare2 .ensures)))
+    (λ c. by-key {k = 67} (c .before .before .byte-at .ensures) (c .before .match .keys4) (asked (c .ended .ensures) refl refl (omega arith) tt))
+    (λ c. by-key {k = 81} (c .before .before .byte-at .ensures) (c .before .match .keys5) (asked (c .ended2 .ensures) refl refl (omega arith) tt))
     (λ c. by-key {k = 78} (c .before .before .byte-at .ensures) (c .before .match .keys6) (c .restart .ensures))
     (λ c. by-key {k = 66} (c .before .before .byte-at .ensures) (c .before .match .keys7) (subst (λ (n : ℕ). Asks (now (c .before .before .before .before .args .line)) (roomAt 64 (roomCall n) (drop 1 (now (c .before .before .before .before .args .line)))) (c .room .result)) (c .before .match .keys7) (c .room .ensures)))
     (λ c. by-key {k = 87} (c .before .before .byte-at .ensures) (c .before .match .keys8) (subst (λ (n : ℕ). Asks (now (c .before .before .before .before .args .line)) (roomAt 600 (roomCall n) (drop 1 (now (c .before .before .before .before .args .line)))) (c .room2 .result)) (c .before .match .keys8) (c .room2 .ensures)))

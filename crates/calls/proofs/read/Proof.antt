@@ -25,10 +25,5 @@ pub read-spec : {M : Type 1} → statement M
 read-spec =
     tie.close
     (tie.spec
-    (λ c. unread-room (c .if1 .taken))
-    (λ c. unread-long (c .before .if1 .left) (c .if2 .taken))
-    (λ c κs. c .if2 .left)
-    (λ c κs. search needs)
-    store-requires
-    (λ c. search needs)
-    returns-3)
+    (λ c. unread-room (c .if1 .taken)) (λ c. unread-long (c .before .if1 .left) (c .if2 .taken))
+    (λ c κs. c .if2 .left) (λ c κs. search needs) store-requires (λ c. search needs) returns-3)

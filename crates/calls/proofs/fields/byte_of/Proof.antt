@@ -29,5 +29,4 @@ byte-of-spec =
     (λ c. omega (arith, carried-inside (now (c .before .before .before .args .s)) (c .before .before .before .args .k) (c .before .before .before .pre)))
     (λ c. omega (arith, carried-inside (now (c .before .before .before .before .args .s)) (c .before .before .before .before .args .k) (c .before .before .before .before .pre)))
     (λ c κs. carried-at (now (c .before .before .before .before .args .s)) (c .before .before .before .before .args .k) (c .before .before .before .before .pre) .low)
-    (λ c. omega (arith, c .hex-value2 .ensures .1, c .before .before .hex-value .ensures .1))
-    returns)
+    (λ c. omega (arith, c .hex-value2 .ensures .1, c .before .before .hex-value .ensures .1)) returns)

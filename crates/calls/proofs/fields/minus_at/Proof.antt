@@ -34,12 +34,5 @@ pub minus-at-spec : {M : Type 1} → statement M
 minus-at-spec =
     tie.close
     (tie.spec
-    (λ c κs. search needs)
-    (λ c. search needs)
-    (λ c. search needs)
-    returns
-    returns-2
-    (λ c. search needs)
-    (λ c. away-fits _ (some c) (most c))
-    (λ c. narrow-fits _ (some c) (most c))
-    returns-3)
+    (λ c κs. search needs) (λ c. search needs) (λ c. search needs) returns returns-2 (λ c. search needs)
+    (λ c. away-fits _ (some c) (most c)) (λ c. narrow-fits _ (some c) (most c)) returns-3)

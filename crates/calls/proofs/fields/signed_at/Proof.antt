@@ -50,13 +50,6 @@ pub signed-at-spec : {M : Type 1} → statement M
 signed-at-spec =
     tie.close
     (tie.spec
-    (λ c κs. search needs)
-    returns
-    (λ c. omega (arith, there c))
-    (λ c κs. search needs)
-    (λ c. omega (arith, minus-there c))
-    (λ c κs. search needs)
-    returns-2
-    (λ c. omega (arith, there (c .before .before)))
-    (λ c κs. search needs)
-    returns-3)
+    (λ c κs. search needs) returns (λ c. omega (arith, there c)) (λ c κs. search needs)
+    (λ c. omega (arith, minus-there c)) (λ c κs. search needs) returns-2
+    (λ c. omega (arith, there (c .before .before))) (λ c κs. search needs) returns-3)
