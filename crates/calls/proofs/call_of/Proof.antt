@@ -33,14 +33,10 @@ returns-17 c =
     ∙ pick-f _ _ _ (ne-eqb _ _ (n .0 .0 .0 .0 .0 .0 .0 .0 .0 .0 .1))
     ∙ pick-f _ _ _ (ne-eqb _ _ (n .0 .0 .0 .0 .0 .0 .0 .0 .0 .1))
     ∙ pick-f _ _ _ (ne-eqb _ _ (n .0 .0 .0 .0 .0 .0 .0 .0 .1))
-    ∙ pick-f _ _ _ (ne-eqb _ _ (n .0 .0 .0 .0 .0 .0 .0 .1))
-    ∙ pick-f _ _ _ (ne-eqb _ _ (n .0 .0 .0 .0 .0 .0 .1))
-    ∙ pick-f _ _ _ (ne-eqb _ _ (n .0 .0 .0 .0 .0 .1))
-    ∙ pick-f _ _ _ (ne-eqb _ _ (n .0 .0 .0 .0 .1))
-    ∙ pick-f _ _ _ (ne-eqb _ _ (n .0 .0 .0 .1))
-    ∙ pick-f _ _ _ (ne-eqb _ _ (n .0 .0 .1))
-    ∙ pick-f _ _ _ (ne-eqb _ _ (n .0 .1))
-    ∙ pick-f _ _ _ (ne-eqb _ _ (n .1))))
+    ∙ pick-f _ _ _ (ne-eqb _ _ (n .0 .0 .0 .0 .0 .0 .0 .1)) ∙ pick-f _ _ _ (ne-eqb _ _ (n .0 .0 .0 .0 .0 .0 .1))
+    ∙ pick-f _ _ _ (ne-eqb _ _ (n .0 .0 .0 .0 .0 .1)) ∙ pick-f _ _ _ (ne-eqb _ _ (n .0 .0 .0 .0 .1))
+    ∙ pick-f _ _ _ (ne-eqb _ _ (n .0 .0 .0 .1)) ∙ pick-f _ _ _ (ne-eqb _ _ (n .0 .0 .1))
+    ∙ pick-f _ _ _ (ne-eqb _ _ (n .0 .1)) ∙ pick-f _ _ _ (ne-eqb _ _ (n .1))))
 
 pub call-of-spec : {M : Type 1} → statement M
 unfolding callBy aloneCall roomCall roomMost pick asCall sizeOf Within

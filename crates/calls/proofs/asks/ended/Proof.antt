@@ -1,7 +1,6 @@
 use mathlib.Core.Path.{sym}
 use borrow.Author.Tests.{le-leb, lt-leb}
 use Rattle.laws.specs.Pick.{pick-t, pick-f}
-use borrow.Author.Needs.{needs}
 use Rattle.calls.proofs.asks.ended.Statement.{statement}
 use Rattle.calls.proofs.asks.ended.Tie as tie
 
