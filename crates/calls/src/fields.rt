@@ -9,49 +9,34 @@ ghost use mathlib.Core.Bool.{true};
 ghost use Prim.Native.Nat.{_≤_, _<_};
 ghost use lib.ListN.{length, take, drop, getD};
 ghost use lib.Seq.{sets};
-ghost use Rattle.laws.specs.Decimal.{numberAt};
 ghost use Rattle.settings.specs.Cases.{setOf};
-ghost use Rattle.calls.specs.Call.{minus, plus, signedField, isHex, hexValue, numbersField};
+ghost use Rattle.calls.specs.Call.{signedField, isHex, hexValue, numbersField};
 ghost use Rattle.calls.specs.Reading.{ScansSigned, Counts, carried};
 
 const TAB: u8 = 9;
 
 const MINUS: u8 = 45;
 
-// What follows a minus: a number that is not 0.
-fn minus_at(s: &[u8], at: usize) -> Signed
-    ensures { λ r. ⌜ ScansSigned (now (s .entry)) (minus (numberAt 2147483648 (drop at (now (s .entry))))) r ⌝ }
-{
-    let Num::Good(v, next) = text::number_at(s, at, 2147483648) else {
-        return Signed::Bad;
-    };
-    if v == 0 {
-        return Signed::Bad;
-    }
-    Signed::Good((0 - v as i64) as i32, next)
-}
-
-// A number without a minus.
-fn plus_at(s: &[u8], at: usize) -> Signed
-    ensures { λ r. ⌜ ScansSigned (now (s .entry)) (plus (numberAt 2147483647 (drop at (now (s .entry))))) r ⌝ }
-{
-    let Num::Good(v, next) = text::number_at(s, at, 2147483647) else {
-        return Signed::Bad;
-    };
-    Signed::Good(v as i32, next)
-}
-
-// A tab and a number that may begin with a minus, at a place.
+// A tab and a number that may begin with a minus, at a place; 0 has none.
 pub(crate) fn signed_at(s: &[u8], at: usize) -> Signed
     ensures { λ r. ⌜ ScansSigned (now (s .entry)) (signedField (drop at (now (s .entry)))) r ⌝ }
 {
     if text::byte_at(s, at) != TAB {
         return Signed::Bad;
     }
-    if text::byte_at(s, at + 1) == MINUS {
-        return minus_at(s, at + 2);
+    if text::byte_at(s, at + 1) != MINUS {
+        let Num::Good(v, next) = text::number_at(s, at + 1, 2147483647) else {
+            return Signed::Bad;
+        };
+        return Signed::Good(v as i32, next);
     }
-    plus_at(s, at + 1)
+    let Num::Good(v, next) = text::number_at(s, at + 2, 2147483648) else {
+        return Signed::Bad;
+    };
+    if v == 0 {
+        return Signed::Bad;
+    }
+    Signed::Good((0 - v as i64) as i32, next)
 }
 
 // Whether a byte is a hexadecimal digit, in upper case.
