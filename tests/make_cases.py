@@ -928,6 +928,10 @@ def malformed_case():
         case.raw(b'X\t%c0' % byte)
         case.raw(b'X\t0%c' % byte)
     case.raw(b'X\t0123456789ABCDEF')
+    case.head('every byte as the letter of bytes and a number')
+    for byte in range(256):
+        if byte != 10:
+            case.raw(bytes([byte]) + b'\tFF\t8')
     case.head('each kind of line, with nothing and with something behind it')
     for text in ('T\t-5\t8', 'L\t1', 'C', 'Q', 'B\tFF01\t0', 'W\t01C3\t600',
                  'X\tFF0A', 'G\t-5\t1\t0\t7', 'K\t01020304', 'D\t1\t2\t3\t4\t64',

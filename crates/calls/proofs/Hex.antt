@@ -7,7 +7,7 @@ use native.Mathlib.Omega.{arith}
 use native.Mathlib.Numerals.{add-one}
 use lib.Dec.{leb, eqb}
 use lib.ListN.{length, getD, take, drop, set, length-drop}
-use lib.Seq.{sets, take-suc, getD-drop, drop-drop, length-take-le}
+use lib.Seq.{sets, take-all, take-suc, getD-drop, drop-drop, length-take-le}
 use borrow.Author.Tests.{eq-eqb, ne-eqb, leb-true}
 use Rattle.laws.specs.Pick.{pick, pick-t, pick-f, pick-all, pick-if}
 use Rattle.laws.specs.Over.{sets-append}
@@ -119,6 +119,10 @@ carried-at s k h =
 pub carried-inside : (s : List ℕ) (k : ℕ) → k < length (carried s) → 3 + 2 * k < length s
 unfolding carried
 carried-inside s k h = omega (arith, lead-half (drop 2 s), length-drop 2 s)
+
+-- all of them
+pub whole : {l : List ℕ} {n : ℕ} → n ≡ length l → l ≡ take n l
+whole {l} {n} e = sym (take-all n l (omega arith))
 
 -- one byte more is stored
 pub store-more : (old bytes : List ℕ) (k : ℕ) → k < length bytes → set (sets old 0 (take k bytes)) k (getD bytes k 0) ≡ sets old 0 (take (k + 1) bytes)

@@ -1,17 +1,17 @@
 -- Some lines, and the calls that they are. Assumes nothing.
 use mathlib.Core.Path.{_≡_, refl}
-use mathlib.Core.Bool.{Bool, true, false}
+use mathlib.Core.Bool.{true, false}
 use mathlib.Core.List.{List, [], _∷_, _++_}
-use Prim.Native.Nat.{ℕ, zero, suc}
+use Prim.Native.Nat.{ℕ}
 use lib.IntN.{negsuc}
 use Rattle.laws.specs.Pick.{pick}
-use Rattle.laws.specs.Decimal.{Parsed, good, bad, numberAt, digitsFrom, isDigit}
+use Rattle.laws.specs.Decimal.{good, bad, numberAt, digitsFrom, isDigit}
 use Rattle.settings.specs.declared.Settings.{Settings}
 use Rattle.settings.specs.Cases.{setOf}
 use Rattle.field.specs.Field.{four, weight}
 use Rattle.journal.specs.declared.Line.the-variants.{Dose}
 use Rattle.text.specs.Scan.{expect, onGood, fieldAt}
-use Rattle.calls.specs.Call.{Call, tick, settings, restart, request, readFrame, writeField, readField, writeLine, hour, minus, plus, signedAt, signedField, isHex, hexValue, bytesAt, bytesField, flagField, numbersField, fieldFrom, tickAt, linkAt, settingsAt, restartAt, roomAt, bytesCall, writeFieldAt, readFieldAt, doseAt, onAt, callBy, atEnd, callOf}
+use Rattle.calls.specs.Call.{tick, settings, restart, request, readFrame, writeField, readField, writeLine, hour, minus, plus, signedAt, signedField, isHex, hexValue, bytesAt, bytesField, flagField, numbersField, fieldFrom, tickAt, linkAt, settingsAt, restartAt, roomAt, bytesCall, writeFieldAt, readFieldAt, doseAt, onAt, callBy, atEnd, callOf}
 
 -- to unfold this is to unfold every rule of what a line asks
 unfoldable pub readings : Unit {0}
@@ -70,20 +70,3 @@ pub fields :
     × (callOf (117 ∷ 9 ∷ 9 ∷ 55 ∷ []) ≡ good (hour [] 7) [])
 unfolding readings
 fields = (refl, refl, refl, refl, refl, refl, refl)
-
-unfoldable pub isCall : Parsed Call → Bool
-isCall (good call rest) = true
-isCall bad = false
-
--- those of n bytes from k on that make a call with these fields behind them
-unfoldable pub lettersFrom : ℕ → ℕ → List ℕ → List ℕ
-lettersFrom zero k fields = []
-lettersFrom (suc n) k fields = let more = lettersFrom n (suc k) fields in pick (isCall (callOf (k ∷ fields))) (k ∷ more) more
-
--- of all 256 bytes, those that may stand before no field, before bytes alone, and before bytes and a number
-pub letters :
-    (lettersFrom 256 0 [] ≡ 67 ∷ 81 ∷ [])
-    × (lettersFrom 256 0 (9 ∷ 70 ∷ 70 ∷ []) ≡ 88 ∷ 108 ∷ [])
-    × (lettersFrom 256 0 (9 ∷ 70 ∷ 70 ∷ 9 ∷ 56 ∷ []) ≡ 66 ∷ 87 ∷ 106 ∷ 117 ∷ [])
-unfolding readings isCall lettersFrom
-letters = (refl, refl, refl)

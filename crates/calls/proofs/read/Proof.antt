@@ -6,7 +6,7 @@ use lib.ListN.{take}
 use lib.Seq.{sets}
 use Rattle.calls.specs.Reads.{known}
 use Rattle.calls.specs.Reading.{carried}
-use Rattle.calls.proofs.Answers.{unread-room, unread-long, stored}
+use Rattle.calls.proofs.Steps.{unread-room, unread-long, stored}
 use borrow.Author.Needs.{needs}
 use Rattle.calls.proofs.read.Statement.{statement}
 use Rattle.calls.proofs.read.Tie as tie

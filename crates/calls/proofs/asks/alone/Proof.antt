@@ -1,14 +1,13 @@
 use mathlib.Core.Path.{refl, sym, ap, _∙_}
 use native.Mathlib.Omega.{arith}
 use denote.Ref.{now}
-use lib.Seq.{take-all}
 use borrow.Author.Tests.{eq-eqb, ne-eqb}
 use Rattle.laws.specs.Pick.{pick-t, pick-f}
 use Rattle.calls.specs.Call.{bytesCall, readFrame, readLine}
 use Rattle.calls.specs.Reads.{asCall, sizeOf, Within}
-use Rattle.calls.specs.Reading.{carried, aloneCall}
+use Rattle.calls.specs.Reading.{aloneCall}
 use Rattle.calls.proofs.Steps.{on-bad, good-as, unasked, asked}
-use Rattle.calls.proofs.Hex.{carried-half, as-carried, no-bytes, alone-guard}
+use Rattle.calls.proofs.Hex.{carried-half, whole, as-carried, no-bytes, alone-guard}
 use borrow.Author.Needs.{needs}
 use Rattle.calls.proofs.asks.alone.Statement.{statement}
 use Rattle.calls.proofs.asks.alone.Tie as tie
@@ -17,10 +16,9 @@ returns-2 : tie.Need-returns-2
 unfolding bytesCall aloneCall asCall sizeOf Within
 returns-2 c =
     let n = c .before .before .count .ensures in
-    let b = carried (now (c .before .before .before .before .before .before .args .line)) in
     as-carried _ (alone-guard _) (sym (c .before .before .before .before .byte-at .ensures) ∙ c .before .before .before .if1 .left) n
     (asked (c .ended .ensures) refl
-    (good-as (pick-t _ _ _ (eq-eqb _ _ (c .before .if2 .taken)) ∙ ap readFrame (sym (take-all (c .before .before .count .result) b (omega (arith, n))))))
+    (good-as (pick-t _ _ _ (eq-eqb _ _ (c .before .if2 .taken)) ∙ ap readFrame (whole n)))
     (omega (arith, n))
     (omega (arith, n, carried-half (now (c .before .before .before .before .before .before .args .line)), c .before .before .before .before .before .before .pre)))
 
@@ -28,10 +26,9 @@ returns-3 : tie.Need-returns-3
 unfolding bytesCall aloneCall asCall sizeOf Within
 returns-3 c =
     let n = c .before .before .count .ensures in
-    let b = carried (now (c .before .before .before .before .before .before .args .line)) in
     as-carried _ (alone-guard _) (sym (c .before .before .before .before .byte-at .ensures) ∙ c .before .before .before .if1 .left) n
     (asked (c .ended2 .ensures) refl
-    (good-as (pick-f _ _ _ (ne-eqb _ _ (c .before .if2 .left)) ∙ ap readLine (sym (take-all (c .before .before .count .result) b (omega (arith, n))))))
+    (good-as (pick-f _ _ _ (ne-eqb _ _ (c .before .if2 .left)) ∙ ap readLine (whole n)))
     (omega (arith, n))
     (omega (arith, n, carried-half (now (c .before .before .before .before .before .before .args .line)), c .before .before .before .before .before .before .pre)))
 

@@ -3,11 +3,10 @@ use mathlib.Core.List.{List}
 use Prim.Native.Nat.{ℕ}
 use native.Mathlib.Omega.{arith}
 use denote.Ref.{now}
-use lib.Seq.{take-all}
 use Rattle.calls.specs.Call.{roomAt}
-use Rattle.calls.specs.Reading.{carried, roomCall}
+use Rattle.calls.specs.Reading.{roomCall}
 use Rattle.calls.proofs.Steps.{on-good, on-bad, num, field-most, good-as, unasked, asked}
-use Rattle.calls.proofs.Hex.{carried-half, as-carried, no-bytes, room-guard}
+use Rattle.calls.proofs.Hex.{carried-half, whole, as-carried, no-bytes, room-guard}
 use borrow.Author.Needs.{needs}
 use Rattle.calls.proofs.asks.room.Statement.{statement}
 use Rattle.calls.proofs.asks.room.Tie as tie
@@ -20,13 +19,12 @@ room-call-requires c κs =
 returns-3 : tie.Need-returns-3
 unfolding roomAt
 returns-3 c =
-    let b = carried (now (c .before .before .before .before .before .before .before .before .before .before .args .line)) in
     let n = c .before .before .before .before .before .before .count .ensures in
     let e = c .before .room-call .ensures in
     as-carried _ (room-guard _ _) (sym (c .before .before .before .before .before .before .before .before .byte-at .ensures) ∙ c .before .before .before .before .before .before .before .if1 .left) n
     (asked (c .ended .ensures)
     (on-good _ (num (c .before .before .before .before .before .field-at .ensures) (c .before .before .before .number .given .1)))
-    (good-as (ap (λ (l : List ℕ). roomCall (c .before .before .before .before .before .before .before .before .before .before .args .letter) l (c .before .before .before .number .given .0 .0)) (sym (take-all (c .before .before .before .before .before .before .count .result) b (omega (arith, n))))) ∙ e .reads b)
+    (good-as (ap (λ (l : List ℕ). roomCall (c .before .before .before .before .before .before .before .before .before .before .args .letter) l (c .before .before .before .number .given .0 .0)) (whole n)) ∙ e .reads _)
     (omega (arith, e .size, n))
     (e .within))
 
