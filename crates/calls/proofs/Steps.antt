@@ -1,6 +1,6 @@
 -- What is read behind a field, the answer at a line's end, and that of a whole line. Assumes nothing.
 use mathlib.Core.Path.{_≡_, refl, ap, _∙_, sym}
-use mathlib.Core.Bool.{Bool, true, false, _&&_}
+use mathlib.Core.Bool.{Bool, _&&_}
 use mathlib.Core.List.{List, [], _∷_}
 use Prim.Native.Nat.{ℕ, _+_, _≤_, _<_}
 use native.Mathlib.Omega.{arith}
@@ -70,11 +70,7 @@ number-most most l {v} {rest} e = number-only most l v rest e .1
 pub field-most : (most : ℕ) (l : List ℕ) {v : ℕ} {rest : List ℕ} → fieldAt most l ≡ good v rest → v ≤ most
 unfolding fieldAt expect pick
 field-most most [] e = bad-good e
-field-most most (x ∷ xs) {v} {rest} e = go (eqb x 9) e
-  where
-    go : (t : Bool) → pick t (numberAt most xs) bad ≡ good v rest → v ≤ most
-    go true e = number-most most xs e
-    go false e = bad-good e
+field-most most (x ∷ xs) {v} {rest} e = pick-if (λ (p : Parsed ℕ). p ≡ good v rest → v ≤ most) (eqb x 9) (λ t e. number-most most xs e) (λ t e. bad-good e) e
 
 pub from-byte : (s : List ℕ) (at : ℕ) → at < length s → drop at s ≡ getD s at 0 ∷ drop (at + 1) s
 from-byte s at h = rw (add-one, drop-cons s at 0)
