@@ -6,7 +6,7 @@ use Prim.Native.Nat.{ℕ, suc, _+_, _-_, _≤_, _<_}
 use native.Mathlib.Omega.{arith}
 use lib.Dec.{ltb}
 use lib.ListN.{length, take, drop, length-take, length-drop, length-append, length-replicate, drop-of-length-le}
-use lib.Seq.{length-take-le, drop-drop}
+use lib.Seq.{length-take-le, take-take, drop-drop}
 use borrow.Author.Tests.{ltb-true, ltb-false, lt-ltb, le-ltb}
 use Rattle.laws.specs.Pick.{pick, pick-t, pick-f, pick-if, pick-all}
 use Rattle.paper.specs.Answer.{same}
@@ -16,7 +16,7 @@ use Rattle.lines.specs.declared.Taken.{Taken}
 use Rattle.lines.specs.declared.Next.{Next}
 use Rattle.lines.specs.declared.Next.the-variants.{Line, More}
 use Rattle.lines.specs.Lines.{linesFrom, linesOf, begunOf, tooLong, asked, Plain, lines-begun, lines-whole, lines-long}
-use Rattle.lines.specs.Places.{plainLength, endOf, partOf, part-held, plain-taken, plain-within, plain-line, plain-begun}
+use Rattle.lines.specs.Places.{plainLength, endOf, partOf, part-held, Carries, carry-part, plain-taken, plain-within, plain-line, plain-begun}
 
 -- ---- what is carried
 
@@ -141,7 +141,8 @@ module _ (i : Intake) (buffer : List ℕ) where
       (λ e.
       let run : end - i .at ≡ plainLength rest = omega arith in
       ap (λ (n : ℕ). take n (drop (i .at) buffer)) run
-      ∙ sym (part-held buffer (i .have) (i .at) (plainLength rest) h)
+      ∙ sym (take-take (plainLength rest) (i .have - i .at) (drop (i .at) buffer) (omega (arith, length-take (i .have) buffer)))
+      ∙ ap (take (plainLength rest)) (sym (part-held (i .at) (i .have) buffer))
       ∙ ap (λ (b : Bool). begunOf b ++ line) (sym (overlong-short i end e .0))
       ∙ sym (pick-f (tooLong x) [] x (sym is ∙ e)))
 
@@ -210,6 +211,11 @@ module _ (i : Intake) (buffer : List ℕ) where
 pub comes-start : (buffer future : List ℕ) → comes startOf buffer future ≡ linesOf [] future
 unfolding comes pending begunOf
 comes-start buffer future = refl
+
+-- what is pending can be carried to the start
+pub carry-pending : (i : Intake) {old new : List ℕ} {r : ℕ} → Carries (i .at) (i .have) old new r → take r new ≡ pending i old
+unfolding pending
+carry-pending i {old} p = carry-part p ∙ sym (part-held (i .at) (i .have) old)
 
 -- a read only moves bytes from what follows to what is pending
 pub comes-read : (i j : Intake) (old new got future : List ℕ) → pending j new ≡ pending i old ++ got → j .long ≡ i .long

@@ -2,12 +2,12 @@
 use mathlib.Core.Path.{_≡_, refl, sym, ap, _∙_, subst}
 use mathlib.Core.Bool.{Bool, true, false}
 use mathlib.Core.List.{List, [], _∷_, _++_}
-use Prim.Native.Nat.{ℕ, suc, _+_, _-_, _≤_, _<_}
+use Prim.Native.Nat.{ℕ, zero, suc, _+_, _-_, _≤_, _<_, min}
 use native.Mathlib.Omega.{arith}
-use lib.Dec.{eqb}
-use lib.ListN.{length, getD, take, drop, length-take, length-drop, take-append-drop}
-use lib.Seq.{take-all, drop-cons, take-append-le, drop-append-le}
-use borrow.Author.Tests.{eqb-true, eqb-false}
+use lib.Dec.{leb, eqb}
+use lib.ListN.{length, getD, take, drop, length-take, length-drop, length-append, take-append-drop}
+use lib.Seq.{take-all, take-nil, take-at, drop-cons}
+use borrow.Author.Tests.{leb-true, leb-false, eqb-true, eqb-false}
 use Rattle.laws.specs.Pick.{pick, pick-all}
 use Rattle.laws.specs.Over.{over}
 use Rattle.paper.specs.Answer.{same}
@@ -67,15 +67,30 @@ plain-begun l h = subst Plain (take-all (plainLength l) l h) (plain-taken l)
 unfoldable pub partOf : ℕ → ℕ → List ℕ → List ℕ
 partOf from to bytes = take (to - from) (drop from bytes)
 
--- a part of a buffer's first bytes is a part of the buffer
-pub part-held : (buffer : List ℕ) (have at n : ℕ) → at + n ≤ length (take have buffer) → take n (drop at (take have buffer)) ≡ take n (drop at buffer)
-part-held buffer have at n h =
-    let held = take have buffer in
-    let rest = drop have buffer in
-    sym
-    (ap (λ (l : List ℕ). take n (drop at l)) (sym (take-append-drop have buffer))
-    ∙ ap (take n) (drop-append-le at held rest (omega arith))
-    ∙ take-append-le n (drop at held) rest (omega (arith, length-drop at held)))
+-- which are those of the buffer's first bytes too
+pub part-held : (from to : ℕ) (l : List ℕ) → drop from (take to l) ≡ partOf from to l
+unfolding partOf
+part-held zero to l = let all : to - 0 ≡ to = omega arith in ap (λ (n : ℕ). take n l) (sym all)
+part-held (suc from) zero l = let none : 0 - suc from ≡ 0 = omega arith in ap (λ (n : ℕ). take n (drop (suc from) l)) (sym none)
+part-held (suc from) (suc to) [] = sym (take-nil (suc to - suc from))
+part-held (suc from) (suc to) (x ∷ xs) = let less : to - from ≡ suc to - suc from = omega arith in part-held from to xs ∙ ap (λ (n : ℕ). take n (drop from xs)) less
+
+-- no more bytes are taken than there are
+pub take-least : (n : ℕ) (l : List ℕ) → take (min n (length l)) l ≡ take n l
+take-least n l = go (leb n (length l)) refl
+  where
+    go : (t : Bool) → leb n (length l) ≡ t → take (min n (length l)) l ≡ take n l
+    go true e =
+        let fits = leb-true n (length l) e in
+        let m : min n (length l) ≡ n = omega arith in
+        ap (λ (j : ℕ). take j l) m
+    go false e =
+        let more = leb-false n (length l) e in
+        let m : min n (length l) ≡ length l = omega arith in
+        ap (λ (j : ℕ). take j l) m ∙ take-all (length l) l (omega arith) ∙ sym (take-all n l (omega arith))
+
+pub part-least : (from to : ℕ) (l : List ℕ) → partOf from (min to (length l)) l ≡ partOf from to l
+part-least from to l = sym (part-held from (min to (length l)) l) ∙ ap (drop from) (take-least to l) ∙ part-held from to l
 
 -- they stand at the buffer's start, the rest of it is as it was
 pub record Carries (from to : ℕ) (old new : List ℕ) (r : ℕ) : Type 0 where
@@ -86,7 +101,14 @@ pub record Carries (from to : ℕ) (old new : List ℕ) (r : ℕ) : Type 0 where
 pub carry-determined : {from to r s : ℕ} {old new new' : List ℕ} → Carries from to old new r → Carries from to old new' s → (r ≡ s) × (new ≡ new')
 carry-determined p q = (same (p .len) (q .len), same (p .left) (q .left))
 
--- no more bytes are moved than there are
-pub carry-inside : {from to r : ℕ} {old new : List ℕ} → Carries from to old new r → r ≤ length old
-unfolding partOf
-carry-inside {from} {to} {r} {old} p = omega (arith, p .len, length-take (to - from) (drop from old), length-drop from old)
+-- the bytes that were moved are the part, and no more than there are
+pub carry-part : {from to r : ℕ} {old new : List ℕ} → Carries from to old new r → take r new ≡ partOf from to old
+unfolding over
+carry-part {from} {to} {r} {old} {new} p = ap (take r) (p .left) ∙ take-at (partOf from to old) (drop (length (partOf from to old)) old) r (sym (p .len))
+
+pub carry-inside : {from to r : ℕ} {old new : List ℕ} → Carries from to old new r → (r ≤ length old) × (length new ≡ length old)
+unfolding partOf over
+carry-inside {from} {to} {r} {old} {new} p =
+    let part = take (to - from) (drop from old) in
+    let few : length part ≤ length old = omega (arith, length-take (to - from) (drop from old), length-drop from old) in
+    (omega (arith, p .len), ap length (p .left) ∙ omega (arith, length-append part (drop (length part) old), length-drop (length part) old))

@@ -133,12 +133,10 @@ impl Intake {
 pub fn carry(buffer: &mut [u8], from: usize, to: usize) -> usize
     ensures { λ r. ⌜ Carries from to (now (buffer .entry)) (now (buffer .exit)) r ⌝ }
 {
+    let end = least(to, buffer.len());
     let mut i = from;
     let mut n: usize = 0;
-    while i < to {
-        if buffer.len() <= i {
-            return n;
-        }
+    while i < end {
         buffer[n] = buffer[i];
         n += 1;
         i += 1;

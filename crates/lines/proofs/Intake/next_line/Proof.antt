@@ -1,33 +1,20 @@
-use mathlib.Core.Path.{_≡_, refl, sym, ap, _∙_}
-use mathlib.Core.Bool.{Bool, true, false}
+use mathlib.Core.Path.{_≡_, sym, ap, _∙_}
 use mathlib.Core.List.{List}
-use Prim.Native.Nat.{ℕ, _+_, _≤_, _<_, min}
+use Prim.Native.Nat.{ℕ, _≤_, _<_, min}
 use native.Mathlib.Omega.{arith}
 use denote.Ref.{now}
-use lib.Dec.{leb}
-use lib.ListN.{length, take, drop}
-use lib.Seq.{length-take-le, take-all}
-use borrow.Author.Tests.{lt-ltb, le-ltb, leb-true, leb-false}
+use lib.ListN.{length, take}
+use lib.Seq.{length-take-le}
+use borrow.Author.Tests.{lt-ltb, le-ltb}
 use Rattle.laws.specs.Pick.{pick-t, pick-f}
 use Rattle.lines.specs.declared.Intake.{Intake}
 use Rattle.lines.specs.declared.Taken.{Taken}
 use Rattle.lines.specs.declared.Next.the-variants.{More}
-use Rattle.lines.specs.Places.{plainLength, endOf}
+use Rattle.lines.specs.Places.{endOf, take-least}
 use Rattle.lines.specs.Intake.{lineTo, begunTo, nextOf}
 use borrow.Author.Needs.{needs}
 use Rattle.lines.proofs.Intake.next_line.Statement.{statement}
 use Rattle.lines.proofs.Intake.next_line.Tie as tie
-
--- as many bytes as are held, at most all
-held-are : (n : ℕ) (l : List ℕ) → take (min n (length l)) l ≡ take n l
-held-are n l = go (leb n (length l)) refl
-  where
-    go : (t : Bool) → leb n (length l) ≡ t → take (min n (length l)) l ≡ take n l
-    go true e = let k = leb-true n (length l) e in let m : min n (length l) ≡ n = omega arith in ap (λ (j : ℕ). take j l) m
-    go false e =
-        let k = leb-false n (length l) e in
-        let m : min n (length l) ≡ length l = omega arith in
-        ap (λ (j : ℕ). take j l) m ∙ take-all (length l) l (omega arith) ∙ sym (take-all n l (omega arith))
 
 -- where the line that goes on ends
 record Ends (i : Intake) (buffer : List ℕ) (have end : ℕ) : Type 0 where
@@ -37,7 +24,7 @@ record Ends (i : Intake) (buffer : List ℕ) (have end : ℕ) : Type 0 where
 
 ends-from : (i : Intake) (buffer : List ℕ) {have end : ℕ} → have ≡ min (i .have) (length buffer) → end ≡ endOf (take have buffer) (i .at) → Ends i buffer have end
 ends-from i buffer {have} {end} h e =
-    let held = ap (λ (n : ℕ). take n buffer) h ∙ held-are (i .have) buffer in
+    let held = ap (λ (n : ℕ). take n buffer) h ∙ take-least (i .have) buffer in
     record {
       held = held;
       size = sym (length-take-le have buffer (omega arith)) ∙ ap length held;
