@@ -1,3 +1,4 @@
 pub mod Recording
 pub mod Noting
 pub mod Keeps
+pub mod Feed

@@ -8,12 +8,18 @@ use lib.ListN.{length}
 use lib.Seq.{sets}
 use Rattle.laws.specs.Over.{over, sets-over}
 use Rattle.paper.specs.Answer.{same}
+use Rattle.laws.specs.Decimal.{Parsed}
+use Rattle.controller.specs.declared.Controller.{Controller}
 use Rattle.controller.specs.Promises.{Recordable}
-use Rattle.recorder.specs.Recording.{Note, note, startOf, Carries}
+use Rattle.calls.specs.Call.{Call, callOf}
+use Rattle.acts.specs.Acts.{madeBy}
+use Rattle.recorder.specs.Recording.{heardOf, Note, note, heardBy, noteOf, nextOf, startOf, Carries}
 use Rattle.recorder.specs.declared.Heard.{Heard}
 use Rattle.recorder.specs.declared.Heard.the-variants.{Ticked, Dosed, Restarted, Lost, Other}
 use Rattle.recorder.specs.declared.Clock.{Clock}
 use Rattle.recorder.specs.declared.Marked.{Marked}
+use Rattle.recorder.specs.declared.Hearing.{Hearing}
+use Rattle.recorder.specs.declared.Noted.{Noted}
 use Rattle.recorder.specs.declared.Recorder.{Recorder}
 
 -- ---- before the first line
@@ -66,3 +72,20 @@ writes-as {n} {m} {old} {new} {r} e w = subst (λ (x : Note). Writes x old new r
 pub writes-none : {next : Clock} {n : Note} {old : List ℕ} → note next [] ≡ n → Writes n old old (record { next = next; len = 0 })
 unfolding over
 writes-none e = writes-as (sym e) (record { next = refl; left = refl; len = refl })
+
+-- ---- a line
+
+-- the call of a line is made and heard
+pub record Hears (c : Controller) (p : Parsed Call) (r : Hearing) : Type 0 where
+  pub next : r .next ≡ madeBy c p
+  pub heard : r .heard ≡ heardOf c p
+
+-- the next recorder is the line's; what it adds stands at the buffer's start, the rest of which is as it was
+pub record Records (r : Recorder) (l old new : List ℕ) (n : Noted) : Type 0 where
+  pub box : n .next .controller ≡ madeBy (r .controller) (callOf l)
+  pub writes : Writes (heardBy (r .clock) (heardOf (r .controller) (callOf l))) old new (record { next = n .next .clock; len = n .len })
+
+pub record Notes (r : Recorder) (l old new : List ℕ) (n : Noted) : Type 0 where
+  pub next : n .next ≡ nextOf r l
+  pub left : new ≡ over (noteOf r l .text) old
+  pub len : n .len ≡ length (noteOf r l .text)
