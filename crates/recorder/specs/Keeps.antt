@@ -40,11 +40,15 @@ ask-sound c (event e) s = event-sound c e s
 ask-sound c counters s = s
 ask-sound c nothing s = s
 
+pub made-sound : (c : Controller) (p : Parsed Call) → Sound c → Sound (madeBy c p)
+unfolding madeBy
+made-sound c p s = ask-sound c (askBy p) s
+
 -- every line leaves a sound controller
 box-sound : (stage : Stage) (c : Controller) (l : List ℕ) → Sound c → Sound (boxBy stage c l)
-unfolding boxBy madeBy
+unfolding boxBy
 box-sound First c l s = s
-box-sound Recording c l s = ask-sound c (askBy (callOf l)) s
+box-sound Recording c l s = made-sound c (callOf l) s
 box-sound Over c l s = s
 
 -- ---- doses
