@@ -1,85 +1,29 @@
 // From samples on standard input to a journal on standard output.
-use libc::STDIN_FILENO;
 use libc::STDOUT_FILENO;
-use recorder::Intake;
-ghost use Prim.Native.Nat.{_≤_};
-ghost use lib.ListN.{length};
+use lines::Intake;
+use recorder::Recorder;
 ghost use Rattle.recorder.specs.Recording.{Carries};
-ghost use Rattle.record.specs.Kept.{Left, Kept};
 
-// What is carried on behind a block, and how many of its bytes are done with.
-struct Done {
-    now: Intake,
-    used: usize,
-}
-
-// What is carried on behind a read, how many bytes are held at the buffer's start, and whether there may be more.
-struct Carried {
-    now: Intake,
-    held: usize,
-    more: bool,
-}
-
-// Prints what the whole lines of a block add to the journal.
-fn note_block(r: Intake, block: &[u8], output: &mut [u8]) -> Done
-    requires { ⌜ Carries (r .recorder) × (64 ≤ length (now output)) ⌝ }
-    ensures { λ d. ⌜ Left (now (block .entry)) d ⌝ }
-{
-    let mut now = r;
-    let mut used: usize = 0;
-    while used < block.len() {
-        let fed = recorder::feed(now, &block[used..], output);
-        let len = fed.len;
-        let more = fed.used;
-        now = fed.next;
-        io::write_all(STDOUT_FILENO, &output[..len]);
-        if more == 0 {
-            return Done { now, used };
-        }
-        used += more;
-    }
-    Done { now, used }
-}
-
-// Reads once behind what is held, and notes it.
-fn turn(r: Intake, held: usize, input: &mut [u8], output: &mut [u8]) -> Carried
-    requires { ⌜ Carries (r .recorder) × (held ≤ 4095) × (4096 ≤ length (now input)) × (64 ≤ length (now output)) ⌝ }
-    ensures { λ t. ⌜ Kept t ⌝ }
-{
-    let got = libc::read(STDIN_FILENO, &mut input[held..]);
-    let n = io::count(got, &input[held..]);
-    if n == 0 {
-        return Carried {
-            now: r,
-            held: 0,
-            more: false,
-        };
-    }
-    let have = held + n;
-    let done = note_block(r, &input[..have], output);
-    let now = done.now;
-    let held = lines::carry(input, done.used, have);
-    Carried {
-        now,
-        held,
-        more: true,
-    }
-}
-
-// Reads to the end of the input; the turns are counted down from a number that no input uses up.
+// Notes what is held, prints what it adds, and reads on where no whole line is left; the turns are counted down from a number that no input uses up.
 fn main() {
     let mut input = io::large_buffer();
     let mut output = io::large_buffer();
-    let mut now = Intake::start();
-    let mut held: usize = 0;
+    let mut state = Recorder::start();
+    let mut intake = Intake::start();
     let mut turns: u64 = 9223372036854775808;
     while 0 < turns {
-        let t = turn(now, held, &mut input, &mut output);
-        if !t.more {
-            return;
+        let fed = recorder::feed(state, intake, &input, &mut output);
+        let len = fed.len;
+        state = fed.next;
+        intake = fed.intake;
+        io::write_all(STDOUT_FILENO, &output[..len]);
+        if recorder::ENOUGH <= output.len() - len {
+            let refilled = refill::refill(intake, &mut input);
+            if !refilled.more {
+                return;
+            }
+            intake = refilled.intake;
         }
-        now = t.now;
-        held = t.held;
         turns -= 1;
     }
 }

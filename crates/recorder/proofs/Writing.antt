@@ -1,39 +1,51 @@
 -- Lines put into a part of a lent buffer, and what a counted tick writes. Assumes nothing.
 use mathlib.Core.Path.{_≡_, refl, sym, ap, _∙_}
 use mathlib.Core.Bool.{Bool, true, false, _&&_}
-use mathlib.Core.List.{List, [], _∷_, _++_, append-nil}
+use mathlib.Core.List.{List, [], _∷_, _++_, append-assoc, append-nil}
 use Prim.Native.Nat.{ℕ, _+_, _-_, _≤_, _<_}
-use native.Mathlib.Nat.{add-zero}
+use native.Mathlib.Nat.{add-assoc, add-zero}
 use native.Mathlib.Omega.{arith}
 use lib.Dec.{eqb}
-use lib.ListN.{length}
-use lib.Seq.{sets, length-sets}
+use lib.ListN.{length, take, drop, length-append, length-drop, drop-of-length-le}
+use lib.Seq.{sets, sets-eq, take-all, length-take-le, drop-drop}
 use borrow.Author.Tests.{le-ltb, lt-ltb, eq-eqb, ne-eqb}
 use borrow.Rule.Slice.PartMut.{midOf, putMid}
 use Rattle.laws.specs.Pick.{pick, pick-t, pick-f}
+use Rattle.laws.specs.Over.{over, sets-append}
 use Rattle.laws.specs.Decimal.{decimal, digitsOf, glyph}
 use Rattle.laws.specs.DecimalLaws.{decimal-small}
 use Rattle.paper.specs.Answer.{Answer, done, refused, told, leaves, Fills}
 use Rattle.paper.specs.AnswerLaws.{refused-done}
-use Rattle.paper.specs.Numbers.{R10}
 use Rattle.journal.specs.Line.{textOf, inRange, writeOf}
 use Rattle.journal.specs.LineLaws.{text-most, write-fits}
-use Rattle.entry.specs.Says.{saysWrote}
 use Rattle.journal.specs.Journal.{journalText}
 use Rattle.journal.specs.declared.Line.{Line}
-use Rattle.journal.specs.declared.Line.the-variants.{Dose, On}
+use Rattle.journal.specs.declared.Line.the-variants.{On}
+use Rattle.entry.specs.Says.{saysWrote}
 use Rattle.entry.specs.declared.Wrote.{Wrote}
 use Rattle.entry.specs.declared.Wrote.the-variants as W
-use Rattle.controller.specs.declared.Record.{Record}
-use Rattle.answers.specs.Text.{numberText, valuesText, lineText, refusedText}
-use Rattle.answers.specs.Print.{Prints, prints-text, prints-as, prints-then, prints-over}
-use Rattle.lines.specs.Places.{put-part, part-length}
-use Rattle.recorder.specs.Recording.{ticksAnHour, greatestHour, note, refuse, doseIn, closing, nextHour, withTicks, oneMore, counted}
-use Rattle.recorder.specs.Noting.{Writes, writes-as}
-use Rattle.recorder.specs.Readable.{journal-append}
-use Rattle.recorder.specs.declared.Recorder.{Recorder}
+use Rattle.recorder.specs.Recording.{ticksAnHour, greatestHour, Note, note, refusalText, refuse, closing, nextHour, withTicks, oneMore, counts}
+use Rattle.recorder.specs.Noting.{Prints, prints-over, Adds, Writes, writes-as}
+use Rattle.recorder.specs.declared.Clock.{Clock}
+use Rattle.recorder.specs.declared.Marked.{Marked}
 
 -- ---- a line in the part of a buffer from a place on
+
+-- bytes written over the start of the part are a run of stores
+pub put-part : (out : List ℕ) (len : ℕ) (text ys : List ℕ) → len ≤ length out → length text ≤ length out - len → ys ≡ over text (midOf len (length out - len) out)
+    → putMid len (length out - len) out ys ≡ sets out len text
+unfolding over
+put-part out len text ys h k e =
+    let size = length-drop len out in
+    ap (λ (l : List ℕ). take len out ++ (l ++ drop (length out - len) (drop len out))) e
+    ∙ ap (λ (l : List ℕ). take len out ++ ((text ++ drop (length text) l) ++ drop (length out - len) (drop len out))) (take-all (length out - len) (drop len out) (omega arith))
+    ∙ ap (λ (l : List ℕ). take len out ++ ((text ++ drop (length text) (drop len out)) ++ l)) (drop-of-length-le (drop len out) {i = length out - len} (omega arith))
+    ∙ ap (λ (l : List ℕ). take len out ++ l) (append-nil (text ++ drop (length text) (drop len out)) ∙ ap (λ (l : List ℕ). text ++ l) (drop-drop (length text) len out))
+    ∙ sym (append-assoc (take len out) text (drop (len + length text) out))
+    ∙ sym (sets-eq text out len (omega arith))
+
+pub part-length : (out : List ℕ) (len : ℕ) → length (midOf len (length out - len) out) ≡ length out - len
+part-length out len = length-take-le (length out - len) (drop len out) (omega (arith, length-drop len out))
 
 module _ (old sub : List ℕ) (at : ℕ) (l : Line) (w : Wrote) (range : inRange l ≡ true) (room : at + 27 ≤ length old)
     (f : Fills (saysWrote w) (writeOf l (length (midOf at (length old - at) old))) (midOf at (length old - at) old) sub) where
@@ -47,9 +59,11 @@ module _ (old sub : List ℕ) (at : ℕ) (l : Line) (w : Wrote) (range : inRange
       let says : done n ≡ done (length (textOf l)) = sym (ap saysWrote e) ∙ f .says ∙ ap (told length) fits in
       let same : n ≡ length (textOf l) = cc in
       let most = text-most l range in
-      let left : putMid at (length old - at) old sub ≡ sets old at (textOf l) =
-      put-part old at (textOf l) sub (omega arith) (omega arith) (f .left ∙ ap (λ (a : Answer (List ℕ)). leaves a (midOf at (length old - at) old)) fits) in
-      record { left = left; next = ap (λ (k : ℕ). at + k) same; long = ap length left ∙ length-sets old at (textOf l); short = most }
+      record {
+        left = put-part old at (textOf l) sub (omega arith) (omega arith) (f .left ∙ ap (λ (a : Answer (List ℕ)). leaves a (midOf at (length old - at) old)) fits);
+        next = ap (λ (k : ℕ). at + k) same;
+        short = most;
+      }
 
   -- and never refused
   pub wrote-always : {X : Type 0} (m : ℕ) (vs : List ℕ) → saysWrote w ≡ refused m vs → X
@@ -62,70 +76,90 @@ ten : decimal 10 ≡ 49 ∷ 48 ∷ []
 unfolding decimal digitsOf glyph pick
 ten = refl
 
-refusal-text : (n : ℕ) → n < 10 → refusedText R10 (n ∷ []) [] ≡ 82 ∷ 9 ∷ 49 ∷ 48 ∷ 9 ∷ (48 + n) ∷ 10 ∷ []
-unfolding refusedText valuesText lineText numberText
+refusal-text : (n : ℕ) → n < 10 → refusalText n ≡ 82 ∷ 9 ∷ 49 ∷ 48 ∷ 9 ∷ (48 + n) ∷ 10 ∷ []
+unfolding refusalText
 refusal-text n h =
     ap (λ (d : List ℕ). 82 ∷ 9 ∷ (decimal 10 ++ 9 ∷ (d ++ 10 ∷ []))) (decimal-small n h)
     ∙ ap (λ (d : List ℕ). 82 ∷ 9 ∷ (d ++ 9 ∷ (48 + n) ∷ 10 ∷ [])) ten
 
-pub refusal-put : (old : List ℕ) (n : ℕ) → n < 10 → Prints 64 old 0 (refusedText R10 (n ∷ []) []) (sets old 0 (82 ∷ 9 ∷ 49 ∷ 48 ∷ 9 ∷ (48 + n) ∷ 10 ∷ [])) 7
-refusal-put old n h = prints-text (sym (refusal-text n h)) (record { left = refl; next = refl; long = length-sets old 0 (82 ∷ 9 ∷ 49 ∷ 48 ∷ 9 ∷ (48 + n) ∷ 10 ∷ []); short = omega arith })
+pub refusal-put : (old : List ℕ) (n : ℕ) → n < 10 → Prints 7 old 0 (refusalText n) (sets old 0 (82 ∷ 9 ∷ 49 ∷ 48 ∷ 9 ∷ (48 + n) ∷ 10 ∷ [])) 7
+refusal-put old n h =
+    let e = refusal-text n h in
+    let size : length (refusalText n) ≡ 7 = ap length e in
+    record { left = ap (sets old 0) (sym e); next = omega (arith, size); short = omega (arith, size) }
+
+pub refuse-writes : {old new : List ℕ} {n : ℕ} {next : Clock} (k : Clock) (line : ℕ) → 64 ≤ length old → next ≡ refuse line k .next → Prints 7 old 0 (refusalText line) new n
+    → Writes (refuse line k) old new (record { next = next; len = n })
+unfolding refuse
+refuse-writes k line h e p = let o = prints-over (omega arith) p in record { next = e; left = o .0; len = o .1 }
+
+-- ---- one tick more
+
+-- nothing is put
+pub adds-none : {next : Clock} {n : Note} (at : ℕ) (old : List ℕ) → n ≡ note next [] → Adds at n old old (record { next = next; len = at })
+adds-none at old e =
+    record {
+      next = sym (ap (λ (m : Note). m .next) e);
+      prints = record { left = ap (λ (m : Note). sets old at (m .text)) (sym e); next = sym (ap (λ (m : Note). at + length (m .text)) e ∙ add-zero at); short = omega (arith, ap (λ (m : Note). length (m .text)) e) };
+    }
+
+pub adds-text : {next : Clock} {n : Note} {at r : ℕ} {old text new : List ℕ} → n ≡ note next text → Prints 27 old at text new r → Adds at n old new (record { next = next; len = r })
+adds-text {next} {n} {at} {r} {old} {text} {new} e p =
+    record {
+      next = sym (ap (λ (m : Note). m .next) e);
+      prints = record { left = p .left ∙ ap (λ (m : Note). sets old at (m .text)) (sym e); next = p .next ∙ ap (λ (m : Note). at + length (m .text)) (sym e); short = omega (arith, p .short, ap (λ (m : Note). length (m .text)) e) };
+    }
+
+pub more-same : (k : Clock) → (k .ticks + 1 ≡ ticksAnHour → ⊥) → oneMore k [] ≡ note (withTicks (k .ticks + 1) k) []
+unfolding oneMore journalText
+more-same k h = pick-f _ _ _ (ne-eqb (k .ticks + 1) ticksAnHour h)
+
+more-next : (k : Clock) → k .ticks + 1 ≡ ticksAnHour → oneMore k [] ≡ note (nextHour k) (journalText (closing k))
+unfolding oneMore
+more-next k h = pick-t _ _ _ (eq-eqb (k .ticks + 1) ticksAnHour h)
+
+pub more-broken : (k : Clock) → k .ticks + 1 ≡ ticksAnHour → (k .whole && k .known) ≡ false → oneMore k [] ≡ note (nextHour k) []
+unfolding closing journalText
+more-broken k h e = more-next k h ∙ ap (λ (ls : List Line). note (nextHour k) (journalText ls)) (pick-f _ _ _ e)
+
+pub more-closed : (k : Clock) → k .ticks + 1 ≡ ticksAnHour → (k .whole && k .known) ≡ true → oneMore k [] ≡ note (nextHour k) (textOf (On (k .hour)))
+unfolding closing journalText
+more-closed k h e = more-next k h ∙ ap (λ (ls : List Line). note (nextHour k) (journalText ls)) (pick-t _ _ _ e) ∙ ap (note (nextHour k)) (append-nil (textOf (On (k .hour))))
 
 -- ---- a counted tick
 
--- the H line, if this tick closes an hour of which nothing was missed
-abbrev pub closingText : ℕ → ℕ → Bool → List ℕ
-closingText hour ticks whole = pick (eqb (ticks + 1) ticksAnHour && whole) (textOf (On hour)) []
-
-closing-text : (r : Recorder) → journalText (closing r) ≡ pick (r .whole) (textOf (On (r .hour))) []
-unfolding closing journalText pick
-closing-text r = go (r .whole)
+-- a dose stands before what the tick adds else
+more-dosed : (k : Clock) (d : Line) → oneMore k (d ∷ []) ≡ note (oneMore k [] .next) (textOf d ++ oneMore k [] .text)
+unfolding oneMore journalText pick
+more-dosed k d = go (eqb (k .ticks + 1) ticksAnHour)
   where
-    go : (b : Bool) → journalText (pick b (On (r .hour) ∷ []) []) ≡ pick b (textOf (On (r .hour))) []
-    go true = append-nil (textOf (On (r .hour)))
+    go : (b : Bool) → pick b (note (nextHour k) (textOf d ++ journalText (closing k))) (note (withTicks (k .ticks + 1) k) (textOf d ++ []))
+        ≡ note (pick b (note (nextHour k) (journalText (closing k))) (note (withTicks (k .ticks + 1) k) []) .next) (textOf d ++ pick b (note (nextHour k) (journalText (closing k))) (note (withTicks (k .ticks + 1) k) []) .text)
+    go true = refl
     go false = refl
 
-pub more-is : (r : Recorder) (doses : List Line) → oneMore r doses ≡ note (oneMore r [] .next) (journalText doses ++ closingText (r .hour) (r .ticks) (r .whole))
-unfolding oneMore pick
-more-is r doses = go (eqb (r .ticks + 1) ticksAnHour)
-  where
-    go : (b : Bool)
-        → pick b (note (nextHour r) (journalText (doses ++ closing r))) (note (withTicks (r .ticks + 1) r) (journalText doses))
-        ≡ note (pick b (note (nextHour r) (journalText ([] ++ closing r))) (note (withTicks (r .ticks + 1) r) (journalText [])) .next) (journalText doses ++ pick (b && r .whole) (textOf (On (r .hour))) [])
-    go true = ap (note (nextHour r)) (journal-append doses (closing r) ∙ ap (λ (t : List ℕ). journalText doses ++ t) (closing-text r))
-    go false = ap (note (withTicks (r .ticks + 1) r)) (sym (append-nil (journalText doses)))
+counts-more : (k : Clock) (doses : List Line) → k .hour ≤ greatestHour → counts k doses ≡ oneMore k doses
+unfolding counts
+counts-more k doses h = pick-f _ _ _ (le-ltb greatestHour (k .hour) h)
 
-pub counted-writes : {old new : List ℕ} {n : ℕ} {next : Recorder} (r : Recorder) (doses : List Line) → r .hour ≤ greatestHour → 64 ≤ length old
-    → next ≡ oneMore r [] .next → Prints 64 old 0 (journalText doses ++ closingText (r .hour) (r .ticks) (r .whole)) new n → Writes (counted r doses) old new (record { next = next; len = n })
-unfolding counted
-counted-writes {old} {new} {n} {next} r doses h room e p =
-    let is : counted r doses ≡ note (oneMore r [] .next) (journalText doses ++ closingText (r .hour) (r .ticks) (r .whole)) = pick-f _ _ _ (le-ltb greatestHour (r .hour) h) ∙ more-is r doses in
-    let o = prints-over {m = 64} room p in
-    writes-as is (record { next = e; left = o .0; len = o .1 })
+pub counts-refuses : (k : Clock) (doses : List Line) → greatestHour < k .hour → counts k doses ≡ refuse 0 k
+unfolding counts
+counts-refuses k doses h = pick-t _ _ _ (lt-ltb greatestHour (k .hour) h)
 
-pub counted-refuses : (r : Recorder) (doses : List Line) → greatestHour < r .hour → counted r doses ≡ refuse 0 r
-unfolding counted
-counted-refuses r doses h = pick-t _ _ _ (lt-ltb greatestHour (r .hour) h)
+pub ticked-writes : {old new : List ℕ} {r : Marked} (k : Clock) → k .hour ≤ greatestHour → 64 ≤ length old → Adds 0 (oneMore k []) old new r → Writes (counts k []) old new r
+ticked-writes k h room a =
+    let o = prints-over (omega arith) (a .prints) in
+    writes-as (counts-more k [] h) (record { next = a .next; left = o .0; len = o .1 })
 
-pub ticked-writes : {old new : List ℕ} {n : ℕ} {next : Recorder} (r : Recorder) → r .hour ≤ greatestHour → 64 ≤ length old
-    → next ≡ oneMore r [] .next → Prints 27 old 0 (closingText (r .hour) (r .ticks) (r .whole)) new n → Writes (counted r []) old new (record { next = next; len = n })
-unfolding journalText
-ticked-writes r h room e p = counted-writes r [] h room e (prints-as {m = 27} {n = 64} refl p (omega arith))
-
-pub dosed-writes : {old mid new : List ℕ} {q n : ℕ} {next : Recorder} (r : Recorder) (d : Record) (settled : ℕ) → settled ≡ pick (d .settled) 1 0 → r .hour ≤ greatestHour → 64 ≤ length old
-    → next ≡ oneMore r [] .next → Prints 27 old 0 (textOf (Dose (r .hour) (d .count) (d .amount) settled)) mid q → Prints 27 mid q (closingText (r .hour) (r .ticks) (r .whole)) new n
-    → Writes (counted r (doseIn (r .hour) d)) old new (record { next = next; len = n })
-unfolding doseIn journalText
-dosed-writes r d settled s h room e p k =
-    let first = prints-text (ap (λ (v : ℕ). textOf (Dose (r .hour) (d .count) (d .amount) v)) s ∙ sym (append-nil (textOf (Dose (r .hour) (d .count) (d .amount) (pick (d .settled) 1 0))))) p in
-    counted-writes r (doseIn (r .hour) d) h room e (prints-as {m = 54} {n = 64} refl (prints-then first k) (omega arith))
-
--- no H line
-pub closing-none : (old : List ℕ) (at hour ticks : ℕ) (whole : Bool) → (eqb (ticks + 1) ticksAnHour && whole) ≡ false → Prints 27 old at (closingText hour ticks whole) old at
-closing-none old at hour ticks whole e = prints-text (sym (pick-f _ _ _ e)) (record { left = refl; next = sym (add-zero at); long = refl; short = omega arith })
-
-pub closing-not : (ticks : ℕ) (whole : Bool) → (ticks + 1 ≡ ticksAnHour → ⊥) → (eqb (ticks + 1) ticksAnHour && whole) ≡ false
-closing-not ticks whole h = ap (λ (b : Bool). b && whole) (ne-eqb (ticks + 1) ticksAnHour h)
-
-pub closing-by : (ticks : ℕ) (whole b : Bool) → ticks + 1 ≡ ticksAnHour → whole ≡ b → (eqb (ticks + 1) ticksAnHour && whole) ≡ b
-closing-by ticks whole b h e = ap (λ (t : Bool). t && whole) (eq-eqb (ticks + 1) ticksAnHour h) ∙ e
+pub dosed-writes : {old mid new : List ℕ} {q : ℕ} {r : Marked} (k : Clock) (d : Line) → k .hour ≤ greatestHour → 64 ≤ length old
+    → Prints 27 old 0 (textOf d) mid q → Adds q (oneMore k []) mid new r → Writes (counts k (d ∷ [])) old new r
+dosed-writes {old} {mid} {new} {q} {r} k d h room p a =
+    let more = oneMore k [] .text in
+    let both : Prints 54 old 0 (textOf d ++ more) new (r .len) =
+    record {
+      left = a .prints .left ∙ ap (λ (x : List ℕ). sets x q more) (p .left) ∙ ap (λ (n : ℕ). sets (sets old 0 (textOf d)) n more) (p .next) ∙ sym (sets-append old 0 (textOf d) more);
+      next = a .prints .next ∙ ap (λ (n : ℕ). n + length more) (p .next) ∙ add-assoc 0 (length (textOf d)) (length more) ∙ ap (λ (n : ℕ). 0 + n) (sym (length-append (textOf d) more));
+      short = omega (arith, length-append (textOf d) more, p .short, a .prints .short);
+    } in
+    let o = prints-over (omega arith) both in
+    writes-as (counts-more k (d ∷ []) h ∙ more-dosed k d) (record { next = a .next; left = o .0; len = o .1 })
