@@ -1,12 +1,12 @@
 // What a call makes of the controller, and what it answers.
 use calls::Call;
 use controller::Controller;
-use controller::Counters;
 use controller::RequestAnswer;
 use controller::ResetAnswer;
 use controller::RestartAnswer;
 use controller::SetAnswer;
 use controller::TickAnswer;
+use counters::Counters;
 use settings::Settings;
 ghost use mathlib.Core.Path.{_≡_};
 ghost use Prim.Native.Nat.{min};

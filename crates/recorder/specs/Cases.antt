@@ -8,7 +8,7 @@ use Rattle.laws.specs.Decimal.{numberAt, digitsFrom, isDigit, decimal, digitsOf
 use Rattle.paper.specs.Answer.{refused, fault}
 use Rattle.journal.specs.Line.{textOf, fieldsText}
 use Rattle.journal.specs.Journal.{journalText}
-use Rattle.controller.specs.declared.Record.{Record}
+use Rattle.counters.specs.declared.Record.{Record}
 use Rattle.recorder.specs.Recording.{greatestHour, Note, note, heardTick, heardRestart, withStage, withHour, withTicks, withWhole, withKnown, refusalText, refuse, firstOf, doseIn, closing, nextHour, oneMore, counts, restartedBy, lostBy, heardBy, startOf}
 use Rattle.recorder.specs.declared.Heard.{Heard}
 use Rattle.recorder.specs.declared.Heard.the-variants.{Ticked, Dosed, Restarted, Lost, Other}

@@ -14,11 +14,12 @@ use Rattle.journal.specs.Line.{inRange, within, mostOfD, mostOfH}
 use Rattle.journal.specs.declared.Line.{Line}
 use Rattle.journal.specs.declared.Line.the-variants.{On}
 use Rattle.controller.specs.declared.Controller.{Controller}
-use Rattle.controller.specs.declared.Record.{Record}
+use Rattle.counters.specs.declared.Record.{Record}
 use Rattle.controller.specs.Tick.{Told, tickOf}
 use Rattle.controller.specs.Sound.{Sound}
 use Rattle.controller.specs.Keeps.{fresh-sound}
-use Rattle.controller.specs.Promises.{Recordable, AllRecordable, tick-recordable}
+use Rattle.counters.specs.Laws.{Recordable, AllRecordable}
+use Rattle.controller.specs.Promises.{tick-recordable}
 use Rattle.series.specs.Events.{Event, tick, link, request, settings, reset, restart, run}
 use Rattle.series.specs.Kept.{event-sound}
 use Rattle.calls.specs.Call.{Call, callOf}
@@ -98,8 +99,7 @@ on-in-range h m = rw (le-leb h greatestHour m)
 pub dose-in-range : (h : ℕ) (d : Record) → h ≤ greatestHour → Recordable d → inRange (doseIn h d) ≡ true
 unfolding inRange within mostOfD doseIn
 dose-in-range h d m k =
-    rw (le-leb h greatestHour m, le-leb (d .count) 999999 (k .count), le-leb (d .amount) 1800000 (k .amount))
-    (pick-all (λ (n : ℕ). (leb n 1 && true) ≡ true) (d .settled) refl refl)
+    rw (le-leb h greatestHour m, le-leb (d .count) 999999 (k .count), le-leb (d .amount) 1800000 (k .amount), le-leb (d .settled) 1 (k .settled))
 
 -- ---- the clock
 

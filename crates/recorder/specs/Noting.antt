@@ -10,7 +10,7 @@ use Rattle.laws.specs.Over.{over, sets-over}
 use Rattle.paper.specs.Answer.{same}
 use Rattle.laws.specs.Decimal.{Parsed}
 use Rattle.controller.specs.declared.Controller.{Controller}
-use Rattle.controller.specs.Promises.{Recordable}
+use Rattle.counters.specs.Laws.{Recordable}
 use Rattle.calls.specs.Call.{Call, callOf}
 use Rattle.acts.specs.Acts.{madeBy}
 use Rattle.recorder.specs.Recording.{heardOf, Note, note, heardBy, noteOf, nextOf, startOf, Carries}

@@ -22,7 +22,7 @@ use Rattle.journal.specs.Journal.{hourIn, closes, noPast, ordered, journalOf, f
 use Rattle.journal.specs.JournalLaws.{Reads, none, more, Each, each-map, linesFrom, lines-bad, lines-good, journal-lines, journal-reads}
 use Rattle.journal.specs.Order.{Steps, ordered-journal}
 use Rattle.controller.specs.declared.Controller.{Controller}
-use Rattle.controller.specs.declared.Record.{Record}
+use Rattle.counters.specs.declared.Record.{Record}
 use Rattle.controller.specs.Sound.{Sound}
 use Rattle.lines.specs.Lines.{linesOf}
 use Rattle.calls.specs.Call.{callOf}

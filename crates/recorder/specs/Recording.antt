@@ -12,7 +12,7 @@ use Rattle.journal.specs.declared.Line.{Line}
 use Rattle.journal.specs.declared.Line.the-variants.{Dose, On}
 use Rattle.journal.specs.Journal.{journalText}
 use Rattle.controller.specs.declared.Controller.{Controller}
-use Rattle.controller.specs.declared.Record.{Record}
+use Rattle.counters.specs.declared.Record.{Record}
 use Rattle.controller.specs.Tick.{Told}
 use Rattle.controller.specs.Calls.{freshOf}
 use Rattle.controller.specs.Sound.{Sound}
@@ -107,7 +107,7 @@ firstOf k bad = refuse 1 k
 
 -- A completed dose prints `D`, the tick's hour, count, amount, settled
 unfoldable pub doseIn : ℕ → Record → Line
-doseIn h d = Dose h (d .count) (d .amount) (pick (d .settled) 1 0)
+doseIn h d = Dose h (d .count) (d .amount) (d .settled)
 
 -- `H` and the hour are printed if nothing of the hour was missed and the box is known
 unfoldable pub closing : Clock → List Line

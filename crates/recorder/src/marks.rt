@@ -5,7 +5,7 @@ use crate::Heard;
 use crate::Marked;
 use crate::Stage;
 use crate::TICKS;
-use controller::Record;
+use counters::Record;
 use entry::Wrote;
 use journal::Line;
 use text::Num;
@@ -17,7 +17,7 @@ ghost use lib.ListN.{length};
 ghost use Rattle.laws.specs.Pick.{pick};
 ghost use Rattle.laws.specs.Decimal.{numberAt};
 ghost use Rattle.journal.specs.Line.{textOf, inRange};
-ghost use Rattle.controller.specs.Promises.{Recordable};
+ghost use Rattle.counters.specs.Laws.{Recordable};
 ghost use Rattle.recorder.specs.Recording.{greatestHour, refusalText, refuse, firstOf, doseIn, oneMore, counts, restartedBy, heardBy, Runs};
 ghost use Rattle.recorder.specs.Noting.{Prints, Adds, Writable, Writes};
 
@@ -126,19 +126,11 @@ fn ticked(k: Clock, out: &mut [u8]) -> Marked
 fn dose_line(hour: u32, dose: Record) -> Line
     ensures { λ r. ⌜ r ≡ doseIn hour dose ⌝ }
 {
-    if dose.settled {
-        return Line::Dose {
-            hour,
-            count: dose.count,
-            amount: dose.amount,
-            settled: 1,
-        };
-    }
     Line::Dose {
         hour,
         count: dose.count,
         amount: dose.amount,
-        settled: 0,
+        settled: dose.settled,
     }
 }
 
