@@ -49,7 +49,7 @@ ticks-heard = (refl, refl, refl)
 
 -- dose 8 of 480, not settled
 abbrev dose : Record
-dose = record { count = 8; amount = 480; settled = false }
+dose = record { count = 8; amount = 480; settled = 0 }
 
 -- a dose is written with the hour of its tick; the last tick of an hour writes its H, after its D; then the next hour begins
 pub hours-closed :
