@@ -1,21 +1,12 @@
 -- Laws that the proofs of the code cite. Assumes nothing.
-use mathlib.Core.Path.{_≡_, refl}
-use mathlib.Core.Bool.{Bool, true, false, not, _||_}
+use mathlib.Core.Path.{_≡_}
 use Prim.Native.Nat.{_≤_}
 use native.Mathlib.Omega.{arith}
 use lib.IntN.{ℤ, natAbs, _-ℤ_}
 use mir.Syntax.{w32}
 use mir.Val.{toZ, ofZ, SFits}
 use mir.Facts.{toZ-ofZ}
-use Rattle.laws.specs.Pick.{pick}
 use Rattle.laws.specs.Whole.{abs-sub, fits32}
-
--- C0 alone is asked more
-pub asked-more : {A : Type 0} (b r : Bool) (x y : A) → pick b (pick r x y) x ≡ pick (not b || r) x y
-unfolding pick
-asked-more true true x y = refl
-asked-more true false x y = refl
-asked-more false r x y = refl
 
 -- a difference of two small numbers in i32
 module _ (a b : ℤ) (ha : natAbs a ≤ 900000) (hb : natAbs b ≤ 24998) where

@@ -1,6 +1,6 @@
 -- A line request, put together from what its stages give. Assumes nothing.
 use mathlib.Core.Path.{_≡_, refl, sym, ap, subst, _∙_}
-use mathlib.Core.Bool.{Bool, true, false, not, _&&_, _||_}
+use mathlib.Core.Bool.{Bool, true, false, not, _&&_}
 use mathlib.Core.List.{List, [], _∷_}
 use Prim.Native.Nat.{ℕ}
 use native.Mathlib.Omega.{arith}
@@ -40,7 +40,7 @@ use Rattle.asking.specs.declared.Reply.{Reply}
 use Rattle.controller.specs.State.{withZ}
 use Rattle.controller.specs.Tick.{Result, still}
 use Rattle.controller.specs.Calls.{isReady}
-use Rattle.controller.specs.Line.{timeOf, zeroable, zeroOf, allowed, askedOf, replyData, replyFrame, zeroedBy, Replied, replied, repliesTo, requestOf}
+use Rattle.controller.specs.Line.{timely, timeOf, zeroable, mayZero, zeroOf, allowed, askedOf, replyData, replyFrame, zeroedBy, Replied, replied, repliesTo, requestOf}
 use Rattle.controller.specs.Sound.{Sound}
 use Rattle.controller.specs.Says.{saysReply, placeAndLength, bytesOf, Replies}
 use Rattle.controller.specs.Stages.{Times, Zeroes, unheard}
@@ -53,7 +53,6 @@ use Rattle.controller.specs.declared.line.Zeroing.{Zeroing}
 use Rattle.controller.specs.declared.line.Zeroing.the-variants as Z
 use Rattle.controller.proofs.line.Timed.{the-type as timed-type}
 use Rattle.controller.proofs.line.Zeroing.{the-type as zeroing-type}
-use Rattle.controller.proofs.Laws.{asked-more}
 
 -- ---- the zero
 
@@ -99,23 +98,20 @@ module _ (c : Controller) (s : List ℕ) {place : ℕ} {p : Parts} (heard : done
     not-known (C.R7 other) k e = by-stages ∙ rw (← us, refusal (known (p .operation) && bare p) R7 (place ∷ []) (other ∷ []) e)
 
     module _ (good : done tt ≡ codeOf place p) where
-      pub not-timed : (r : Timed) → OneOf (1 ∷ []) (tagOf timed-type r) → Times place (p .operation) (isReady c) r → askedOf c s ≡ refused R3 (place ∷ [])
+      pub not-timed : (r : Timed) → OneOf (1 ∷ []) (tagOf timed-type r) → Times place (timely (p .operation) (isReady c)) r → askedOf c s ≡ refused R3 (place ∷ [])
       unfolding timeOf allowed onDone
       not-timed T.Allowed k e = absurd (miss (1 ∷ []) 0 tt k)
-      not-timed (T.R3 other) k e =
-          let so = asked-more (eqb (p .operation) 0xC0) (isReady c) (done tt) (refused R3 (place ∷ [])) in
-          by-stages ∙ rw (← us, ← good, so ∙ refusal _ R3 (place ∷ []) (other ∷ []) (e ∙ so))
+      not-timed (T.R3 other) k e = by-stages ∙ rw (← us, ← good, refusal (timely (p .operation) (isReady c)) R3 (place ∷ []) (other ∷ []) e)
 
-      module _ (timed : done tt ≡ timeOf place (p .operation) (isReady c)) where
-        pub not-zeroable : (r : Zeroing) → OneOf (1 ∷ []) (tagOf zeroing-type r) → Zeroes place (p .operation) (c .set) (c .window) r → askedOf c s ≡ refused R4 (place ∷ [])
+      module _ (timed : done tt ≡ timeOf place (timely (p .operation) (isReady c))) where
+        pub not-zeroable : (r : Zeroing) → OneOf (1 ∷ []) (tagOf zeroing-type r) → Zeroes place (mayZero (p .operation) (c .set) (c .window)) r → askedOf c s ≡ refused R4 (place ∷ [])
         unfolding zeroOf allowed onDone
         not-zeroable Z.Allowed k e = absurd (miss (1 ∷ []) 0 tt k)
         not-zeroable (Z.R4 other) k e =
-            let so = asked-more (eqb (p .operation) 0xC0) (zeroable (c .set) (c .window)) (done tt) (refused R4 (place ∷ [])) in
-            by-stages ∙ rw (← us, ← good, ← timed, so ∙ refusal _ R4 (place ∷ []) (other ∷ []) (e ∙ so))
+            by-stages ∙ rw (← us, ← good, ← timed, refusal (mayZero (p .operation) (c .set) (c .window)) R4 (place ∷ []) (other ∷ []) e)
 
         -- no stage refuses
-        pub is-asked : done tt ≡ zeroOf place (p .operation) (c .set) (c .window) → askedOf c s ≡ done (askedBy place p)
+        pub is-asked : done tt ≡ zeroOf place (mayZero (p .operation) (c .set) (c .window)) → askedOf c s ≡ done (askedBy place p)
         unfolding allowed onDone
         is-asked zeroed = by-stages ∙ rw (← us, ← good, ← timed, ← zeroed)
 

@@ -1,6 +1,6 @@
 -- Every call keeps `Sound`, and only a set that was taken makes a sound controller. Assumes nothing.
 use mathlib.Core.Path.{_≡_, refl, sym, subst, _∙_, ap}
-use mathlib.Core.Bool.{Bool, true, false, not, _&&_}
+use mathlib.Core.Bool.{Bool, true, false, not, _&&_, _||_}
 use mathlib.Core.List.{List, []}
 use Prim.Native.Nat.{ℕ, _≤_}
 use native.Mathlib.Omega.{arith}
@@ -32,7 +32,7 @@ use Rattle.asking.specs.Asking.{Asked, askOf}
 use Rattle.controller.specs.State.{restarted, withZ}
 use Rattle.controller.specs.Tick.{Result, step8, step7, seenOf, wOf, tickOf}
 use Rattle.controller.specs.Calls.{isReady, storedBad, restartOf, freshOf, noSet, noController, taken, settingsAnswer, after, settingsOf, resetAnswer, resetOf, linkOf}
-use Rattle.controller.specs.Line.{timeOf, zeroable, zeroOf, allowed, askedOf, zeroedBy, replied, repliesTo, requestOf}
+use Rattle.controller.specs.Line.{timely, timeOf, zeroable, mayZero, zeroOf, allowed, askedOf, zeroedBy, replied, repliesTo, requestOf}
 use Rattle.controller.specs.Sound.{Sound, Abandoned}
 use Rattle.controller.specs.Setters.{zero-sound, counters-sound}
 use Rattle.controller.specs.Ways.{tick-ways, clear-watched}
@@ -165,7 +165,7 @@ link-sound c on s = search needs
 -- ---- a line request
 
 -- what passed a stage of C0 passed its test
-passed-zero : (zeroes test : Bool) (n : ℕ) (vs : List ℕ) (u : Unit {0}) → pick zeroes (pick test (done tt) (refused n vs)) (done tt) ≡ done u → zeroes ≡ true → test ≡ true
+passed-zero : (zeroes test : Bool) (n : ℕ) (vs : List ℕ) (u : Unit {0}) → pick (not zeroes || test) (done tt) (refused n vs) ≡ done u → zeroes ≡ true → test ≡ true
 unfolding pick
 passed-zero true true n vs u e h = refl
 passed-zero true false n vs u e h = refused-done e
@@ -173,10 +173,10 @@ passed-zero false test n vs u e h = false-true h
 
 -- C0 is done only in Ready, and where the zero can be taken
 allowed-zero : (c : Controller) (a b : Asked) → allowed c a ≡ done b → eqb (b .operation) 0xC0 ≡ true → (isReady c ≡ true) × (zeroable (c .set) (c .window) ≡ true)
-unfolding allowed timeOf zeroOf
+unfolding allowed timeOf timely zeroOf mayZero
 allowed-zero c a b e h =
-    on-done (timeOf (a .place) (a .operation) (isReady c)) _ b e
-    (λ u timed k. on-done (zeroOf (a .place) (a .operation) (c .set) (c .window)) _ b k
+    on-done (timeOf (a .place) (timely (a .operation) (isReady c))) _ b e
+    (λ u timed k. on-done (zeroOf (a .place) (mayZero (a .operation) (c .set) (c .window))) _ b k
     (λ v zeroed l.
     let same : a ≡ b = cc in
     let zeroes : eqb (a .operation) 0xC0 ≡ true = ap (λ (x : Asked). eqb (x .operation) 0xC0) same ∙ h in

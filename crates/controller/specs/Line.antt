@@ -1,5 +1,5 @@
 -- Requests on the line (document 01, "On the line", R9, R6, R5, R7, R3, R4, R8). Assumes nothing.
-use mathlib.Core.Bool.{Bool, not, _&&_}
+use mathlib.Core.Bool.{Bool, not, _&&_, _||_}
 use mathlib.Core.List.{List, [], _∷_}
 use Prim.Native.Nat.{ℕ}
 use lib.Dec.{leb, eqb}
@@ -23,23 +23,30 @@ use Rattle.controller.specs.declared.Controller.{Controller}
 
 -- ---- the request
 
+-- C0 wants Ready; no other request does
+unfoldable pub timely : ℕ → Bool → Bool
+timely op ready = not (eqb op 0xC0) || ready
+
 -- R3: C0 when not in Ready
-unfoldable pub timeOf : ℕ → ℕ → Bool → Answer (Unit {0})
-timeOf place op ready = pick (eqb op 0xC0) (pick ready (done tt) (refused R3 (place ∷ []))) (done tt)
+unfoldable pub timeOf : ℕ → Bool → Answer (Unit {0})
+timeOf place inTime = pick inTime (done tt) (refused R3 (place ∷ []))
 
 -- not in AL2 or AL3, nor with no sample, and with -M < F < M
 unfoldable pub zeroable : Settings → Window → Bool
 zeroable set window = leb (set .algorithm) 1 && not (none (samplesOf window)) && nearZero set (filtered window (set .p8))
 
+unfoldable pub mayZero : ℕ → Settings → Window → Bool
+mayZero op set window = not (eqb op 0xC0) || zeroable set window
+
 -- R4: C0 in AL2 or AL3, with no sample, or without -M < F < M
-unfoldable pub zeroOf : ℕ → ℕ → Settings → Window → Answer (Unit {0})
-zeroOf place op set window = pick (eqb op 0xC0) (pick (zeroable set window) (done tt) (refused R4 (place ∷ []))) (done tt)
+unfoldable pub zeroOf : ℕ → Bool → Answer (Unit {0})
+zeroOf place may = pick may (done tt) (refused R4 (place ∷ []))
 
 -- R3, R4
 unfoldable pub allowed : Controller → Asked → Answer Asked
 allowed c a =
-    onDone (timeOf (a .place) (a .operation) (isReady c))
-    (λ u. onDone (zeroOf (a .place) (a .operation) (c .set) (c .window)) (λ v. done a))
+    onDone (timeOf (a .place) (timely (a .operation) (isReady c)))
+    (λ u. onDone (zeroOf (a .place) (mayZero (a .operation) (c .set) (c .window))) (λ v. done a))
 
 -- R9, R6, R5, R7, R3, R4
 unfoldable pub askedOf : Controller → List ℕ → Answer Asked

@@ -19,7 +19,7 @@ use Rattle.controller.specs.Tick.{Told}
 use Rattle.controller.specs.Calls.{freshOf}
 use Rattle.scale.specs.Scale.{weightFrom, weightBy}
 use Rattle.asking.specs.Asking.{heardOf, ours, addressOf, known, bare, codeOf, askOf, fieldBytes, answerFrame}
-use Rattle.controller.specs.Line.{Replied, timeOf, zeroable, zeroOf, allowed, askedOf, weightOf, replyData, replyFrame, zeroedBy, replied, repliesTo, requestOf}
+use Rattle.controller.specs.Line.{Replied, timely, timeOf, zeroable, mayZero, zeroOf, allowed, askedOf, weightOf, replyData, replyFrame, zeroedBy, replied, repliesTo, requestOf}
 use Rattle.controller.specs.Cases.{answers, lastOf, ticked, rules}
 use Rattle.controller.specs.declared.Controller.{Controller}
 
@@ -31,7 +31,7 @@ box =
 
 -- to unfold this is to unfold every rule of a request, and of the calls before it
 unfoldable requests : Unit {0}
-unfolding rules box told requestOf repliesTo replied askedOf askOf heardOf addressOf codeOf allowed timeOf zeroOf zeroable ours known bare replyFrame answerFrame replyData fieldBytes zeroedBy weightFrom weightBy readOf readAll run step grown answerOf judged bad tooShort extended partsOf formOf addressLength bodyOf addressBytes frame sent sentByte check enterAll enter enterBits enterBit fellOut fieldOf bcdOf conOf bitOf negative
+unfolding rules box told requestOf repliesTo replied askedOf askOf heardOf addressOf codeOf allowed timely timeOf zeroOf mayZero zeroable ours known bare replyFrame answerFrame replyData fieldBytes zeroedBy weightFrom weightBy readOf readAll run step grown answerOf judged bad tooShort extended partsOf formOf addressLength bodyOf addressBytes frame sent sentByte check enterAll enter enterBits enterBit fellOut fieldOf bcdOf conOf bitOf negative
 requests = tt
 
 abbrev asked : List ℕ → ℕ → Answer Replied

@@ -5,8 +5,6 @@ use mathlib.Core.List.{[], _∷_}
 use Prim.Native.Nat.{ℕ}
 use Rattle.paper.specs.Answer.{Answer, done, refused}
 use Rattle.paper.specs.Numbers.{R3, R4}
-use Rattle.settings.specs.declared.Settings.{Settings}
-use Rattle.window.specs.declared.Window.{Window}
 use Rattle.asking.specs.declared.Heard.{Heard}
 use Rattle.asking.specs.declared.Heard.the-variants as H
 use Rattle.controller.specs.Line.{timeOf, zeroOf}
@@ -31,8 +29,8 @@ abbrev pub saysZeroing : Zeroing → Answer (Unit {0})
 saysZeroing Z.Allowed = done tt
 saysZeroing (Z.R4 place) = refused R4 (place ∷ [])
 
-abbrev pub Times : ℕ → ℕ → Bool → Timed → Type 0
-Times place op ready r = saysTimed r ≡ timeOf place op ready
+abbrev pub Times : ℕ → Bool → Timed → Type 0
+Times place inTime r = saysTimed r ≡ timeOf place inTime
 
-abbrev pub Zeroes : ℕ → ℕ → Settings → Window → Zeroing → Type 0
-Zeroes place op set window r = saysZeroing r ≡ zeroOf place op set window
+abbrev pub Zeroes : ℕ → Bool → Zeroing → Type 0
+Zeroes place may r = saysZeroing r ≡ zeroOf place may

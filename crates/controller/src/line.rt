@@ -21,7 +21,7 @@ ghost use Rattle.field.specs.Field.{writable, fieldOf};
 ghost use Rattle.dosing.specs.Rules.{units};
 ghost use Rattle.scale.specs.Scale.{filtered, weightBy};
 ghost use Rattle.asking.specs.Asking.{replyBytes};
-ghost use Rattle.controller.specs.Line.{replyData};
+ghost use Rattle.controller.specs.Line.{mayZero, replyData};
 ghost use Rattle.controller.specs.Sound.{Sound};
 ghost use Rattle.controller.specs.Says.{Replies};
 ghost use Rattle.controller.specs.Stages.{Times, Zeroes, unheard};
@@ -59,10 +59,12 @@ impl Controller {
         };
         let condition = self.condition;
         let phase = self.phase;
-        let Timed::Allowed = ready_stage(place, operation, is_ready(condition, phase)) else {
+        let timely = (operation != 0xC0) | is_ready(condition, phase);
+        let zeroable = may_zero(operation, self.set, self.window);
+        let Timed::Allowed = ready_stage(place, timely) else {
             return refused(self, RequestAnswer::R3(place));
         };
-        let Zeroing::Allowed = zero_stage(place, operation, self.set, self.window) else {
+        let Zeroing::Allowed = zero_stage(place, zeroable) else {
             return refused(self, RequestAnswer::R4(place));
         };
         let z = zero_after(operation, self.set, self.window, self.z);
@@ -97,28 +99,37 @@ fn unread(heard: Heard) -> RequestAnswer
     }
 }
 
-// R3: C0 when not in Ready.
-fn ready_stage(place: usize, operation: u8, ready: bool) -> Timed
-    ensures { λ r. ⌜ Times place operation ready r ⌝ }
+// R3: not in time.
+fn ready_stage(place: usize, timely: bool) -> Timed
+    ensures { λ r. ⌜ Times place timely r ⌝ }
 {
-    if (operation != 0xC0) | ready {
-        return Timed::Allowed;
+    if timely {
+        Timed::Allowed
+    } else {
+        Timed::R3(place)
     }
-    Timed::R3(place)
 }
 
-// R4: C0 in AL2 or AL3, with no sample, or without -M < F < M.
-fn zero_stage(place: usize, operation: u8, set: Settings, window: Window) -> Zeroing
-    ensures { λ r. ⌜ Zeroes place operation set window r ⌝ }
+// What C0 asks of the samples: AL0 or AL1, a sample held, and -M < F < M; no other request asks it.
+fn may_zero(operation: u8, set: Settings, window: Window) -> bool
+    ensures { λ r. ⌜ r ≡ mayZero operation set window ⌝ }
 {
     if operation != 0xC0 {
-        return Zeroing::Allowed;
+        return true;
     }
     let near = dosing::near_zero(set, scale::mean_of(window, set.p8));
-    if (set.algorithm <= 1) & (window.held != 0) & near {
-        return Zeroing::Allowed;
+    (set.algorithm <= 1) & (window.held != 0) & near
+}
+
+// R4: the samples do not allow it.
+fn zero_stage(place: usize, zeroable: bool) -> Zeroing
+    ensures { λ r. ⌜ Zeroes place zeroable r ⌝ }
+{
+    if zeroable {
+        Zeroing::Allowed
+    } else {
+        Zeroing::R4(place)
     }
-    Zeroing::R4(place)
 }
 
 // C0 zeroes: Z becomes F, by p8.

@@ -8,9 +8,9 @@ use Rattle.message.specs.declared.Parts.{Parts}
 use Rattle.asking.specs.Asking.{askedBy, heardOf, addressOf, codeOf}
 use Rattle.asking.specs.Says.{saysHeard, saysAddressed, saysCoded}
 use Rattle.controller.specs.Calls.{isReady}
-use Rattle.controller.specs.Line.{timeOf, askedOf}
+use Rattle.controller.specs.Line.{timely, timeOf, mayZero, askedOf}
 use Rattle.controller.specs.Says.{saysReply}
-use Rattle.controller.specs.Stages.{saysTimed, saysZeroing, Times}
+use Rattle.controller.specs.Stages.{saysTimed, saysZeroing, Times, Zeroes}
 use Rattle.controller.specs.declared.Controller.{Controller}
 use Rattle.controller.proofs.Lines.{zeroed-is, not-ours, not-known, not-timed, not-zeroable, is-asked, framed, refuses, unheard-refuses, no-room, sends}
 use Rattle.controller.proofs.Controller.request.Statement.{statement}
@@ -49,14 +49,18 @@ known : (c : tie.After-enum-told3) → let h = at-ours (at-known c) in done tt �
 known c = sym (ap saysCoded (c .enum-told3 .given .1)) ∙ c .before .before .code-stage .ensures
 
 -- what the stage of R3 says of the controller
-times : (c : tie.After-ready-stage) → let h = at-ours (at-known (c .before .before)) in Times (place h) (parts h .operation) (isReady (self h)) (c .ready-stage .result)
-unfolding isReady
-times c = c .ready-stage .ensures ∙ ap (timeOf _ _) (c .before .is-ready .ensures)
+times : (c : tie.After-ready-stage) → let h = at-ours (at-known (c .before .before .before)) in Times (place h) (timely (parts h .operation) (isReady (self h))) (c .ready-stage .result)
+unfolding isReady timely
+times c = rw (c .before .before .is-ready .ensures) at (c .ready-stage .ensures)
+
+-- what the stage of R4 says of the samples
+zeroes : (c : tie.After-zero-stage) → let r = c .before .before .before in let h = at-ours (at-known (r .before .before .before)) in Zeroes (place h) (mayZero (parts h .operation) (self h .set) (self h .window)) (c .zero-stage .result)
+zeroes c = rw (c .before .before .before .before .may-zero .ensures) at (c .zero-stage .ensures)
 
 abbrev at-timed : tie.After-enum-told5 → tie.After-enum-told3
-at-timed c = c .before .before .before .before
+at-timed c = c .before .before .before .before .before
 
-timed : (c : tie.After-enum-told5) → let h = at-ours (at-known (at-timed c)) in done tt ≡ timeOf (place h) (parts h .operation) (isReady (self h))
+timed : (c : tie.After-enum-told5) → let h = at-ours (at-known (at-timed c)) in done tt ≡ timeOf (place h) (timely (parts h .operation) (isReady (self h)))
 timed c = sym (ap saysTimed (c .enum-told5 .given .1)) ∙ times (c .before .before)
 
 abbrev at-zeroing : tie.After-enum-told7 → tie.After-enum-told5
@@ -74,7 +78,7 @@ asked c =
     let t = at-zeroing c in
     let k = at-timed t in
     is-asked _ _ (heard (ends c)) (ours (at-known k)) (known k) (timed t)
-    (sym (ap saysZeroing (c .enum-told7 .given .1)) ∙ c .before .before .zero-stage .ensures)
+    (sym (ap saysZeroing (c .enum-told7 .given .1)) ∙ zeroes (c .before .before))
 
 abbrev at-written : tie.After-write-reply → tie.After-enum-told7
 at-written c = c .before .before .before .before
@@ -145,6 +149,9 @@ returns-3 c =
 is-ready-requires : tie.Need-is-ready-requires
 is-ready-requires c κs = search needs
 
+may-zero-requires : tie.Need-may-zero-requires
+may-zero-requires c κs = search needs
+
 ready-stage-requires : tie.Need-ready-stage-requires
 ready-stage-requires c κs = search needs
 
@@ -161,7 +168,7 @@ refused-requires-4 c κs = search needs
 returns-4 : tie.Need-returns-4
 returns-4 c =
     let a = c .before .before .before in
-    let k = a .before .before in
+    let k = a .before .before .before in
     let h = at-ours (at-known k) in
     refuses _ _ _ (start h .pre)
     (not-timed _ _ (heard h) (ours (at-known k)) (known k) (a .ready-stage .result) (c .before .before .match4 .keys2) (times a))
@@ -187,7 +194,7 @@ returns-5 c =
     let k = at-timed t in
     let h = at-ours (at-known k) in
     refuses _ _ _ (start h .pre)
-    (not-zeroable _ _ (heard h) (ours (at-known k)) (known k) (timed t) (a .zero-stage .result) (c .before .before .match5 .keys2) (a .zero-stage .ensures))
+    (not-zeroable _ _ (heard h) (ours (at-known k)) (known k) (timed t) (a .zero-stage .result) (c .before .before .match5 .keys2) (zeroes a))
     (c .refused5 .ensures .0) (ap saysReply (c .refused5 .ensures .1))
 
 zero-after-requires : tie.Need-zero-after-requires
@@ -248,6 +255,7 @@ request-spec =
     refused-requires-3
     returns-3
     is-ready-requires
+    may-zero-requires
     ready-stage-requires
     enum-told-5
     enum-told-6
