@@ -22,7 +22,6 @@ use Rattle.journal.specs.Says.{saysRefusal, refusal-done, refusal-told}
 use Rattle.hourly.specs.Accepted.{InRange, Ranged}
 use Rattle.hourly.specs.Tally.{outside, noTally, counted, summaryOf, Tells, acceptedAfter, refusedBy}
 use Rattle.hourly.specs.Contracts.{Counts}
-use Rattle.hourly.specs.declared.Judged.the-variants as J
 use Rattle.hourly.specs.declared.Tally.{Tally}
 use Rattle.hourly.specs.declared.Tallied.{Tallied}
 use Rattle.hourly.proofs.Tallying.{tells-none, tells-start, tells-more, old-few}
