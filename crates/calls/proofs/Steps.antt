@@ -1,5 +1,5 @@
 -- What is read behind a field, the answer at a line's end, and that of a whole line. Assumes nothing.
-use mathlib.Core.Path.{_≡_, refl, ap, _∙_, sym}
+use mathlib.Core.Path.{_≡_, refl, sym, ap, _∙_, subst}
 use mathlib.Core.Bool.{Bool, _&&_}
 use mathlib.Core.List.{List, [], _∷_}
 use Prim.Native.Nat.{ℕ, _+_, _≤_, _<_}
@@ -94,6 +94,10 @@ module _ {s : List ℕ} {rule : Parsed Call} where
       (λ t. record { reads = end _ (from-byte s e (leb-false _ _ t)); carries = omega arith; within = tt }))
 
 -- ---- the answer to a whole line
+
+-- by a letter that is k
+pub by-key : {s : List ℕ} {b k : ℕ} {r : declared.Call} → b ≡ getD s 0 0 → b ≡ k → Asks s (callBy k (drop 1 s)) r → Asks s (callBy (getD s 0 0) (drop 1 s)) r
+by-key {s} {b} {k} {r} e f a = subst (λ (n : ℕ). Asks s (callBy n (drop 1 s)) r) (sym f ∙ e) a
 
 -- no letter is no call
 call-by : (l : List ℕ) → callOf l ≡ atEnd (callBy (getD l 0 0) (drop 1 l))

@@ -11,6 +11,7 @@ ghost use mathlib.Core.Path.{_≡_};
 ghost use Prim.Native.Nat.{_≤_};
 ghost use lib.ListN.{length, drop};
 ghost use Rattle.calls.specs.Call.{tickAt, linkAt, settingsAt, restartAt, roomAt, bytesCall, writeFieldAt, readFieldAt, doseAt, onAt};
+ghost use Rattle.calls.specs.Reads.{sizeOf};
 ghost use Rattle.calls.specs.Reading.{aloneCall, roomCall, roomMost, Ended, Asks, Carries};
 
 const TAB: u8 = 9;
@@ -27,7 +28,7 @@ pub(crate) fn ended(line: &[u8], end: usize, call: Call) -> Call
 
 // T sample inputs
 pub(crate) fn tick(line: &[u8]) -> Call
-    ensures { λ r. ⌜ Asks (now (line .entry)) (tickAt (drop 1 (now (line .entry)))) r ⌝ }
+    ensures { λ r. ⌜ Asks (now (line .entry)) (tickAt (drop 1 (now (line .entry)))) r × (sizeOf r ≡ 0) ⌝ }
 {
     let Signed::Good(sample, after) = fields::signed_at(line, 1) else {
         return Call::Unknown;

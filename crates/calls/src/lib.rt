@@ -66,14 +66,14 @@ pub const BYTES: usize = 2048;
 // The bytes of the longest line, its LF left out.
 const LONGEST: usize = 4095;
 
-// The call of a line by its letter; its bytes are only looked at.
+// The call of a line that is no tick, by its letter; its bytes are only looked at.
 fn call_of(line: &[u8]) -> Call
-    requires { ⌜ length (now line) ≤ 4095 ⌝ }
+    requires line { ⌜ length (now line) ≤ 4095 ⌝ }
+    requires letter { ⌜ (getD (now line) 0 0 ≡ 84 → ⊥) ⌝ }
     ensures { λ r. ⌜ Asks (now (line .entry)) (callBy (getD (now (line .entry)) 0 0) (drop 1 (now (line .entry)))) r ⌝ }
 {
     let letter = text::byte_at(line, 0);
     match letter {
-        b'T' => asks::tick(line),
         b'L' => asks::link(line),
         b'S' => asks::set(line),
         b'C' => asks::ended(line, 1, Call::Reset),
@@ -117,6 +117,9 @@ pub fn read(line: &[u8], bytes: &mut [u8]) -> Call
     }
     if LONGEST < line.len() {
         return Call::Unknown;
+    }
+    if text::byte_at(line, 0) == b'T' {
+        return asks::tick(line);
     }
     let call = call_of(line);
     fields::store(line, size_of(call), bytes);
