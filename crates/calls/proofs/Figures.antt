@@ -6,7 +6,7 @@ use native.Mathlib.Omega.{arith}
 use native.Mathlib.Numerals.{add-one}
 use lib.IntN.{pos, _-ℤ_, negℤ, +ℤ-idl}
 use lib.ListN.{length, getD, take, drop, set}
-use lib.Seq.{take-suc-set}
+use lib.Seq.{take-suc-set, getD-take}
 use borrow.Author.Tests.{eq-eqb, ne-eqb}
 use mir.Syntax.{w32, w64}
 use mir.Val.{toZ, ofZ, SFits}
@@ -16,8 +16,9 @@ use Rattle.laws.specs.Whole.{fits64, abs-neg}
 use Rattle.laws.specs.Decimal.{Parsed, good, bad, numberAt}
 use Rattle.text.specs.Scan.{onGood, fieldAt}
 use Rattle.text.specs.ScanLaws.{from-place}
-use Rattle.calls.specs.Call.{greatest32, minus, plus, signedAt}
-use Rattle.calls.specs.Reading.{on-good, on-bad, on-on, on-same, numbersAt, on-id}
+use Rattle.journal.specs.declared.Line.the-variants.{Dose}
+use Rattle.calls.specs.Call.{writeLine, greatest32, minus, plus, signedAt, numbersField}
+use Rattle.calls.proofs.Steps.{on-good, on-bad, on-on, on-same, on-id}
 
 -- ---- signs
 
@@ -63,21 +64,21 @@ signed-plus s p n =
 -- ---- k numbers are in `values`, and what is left from place p on gives the whole
 
 abbrev pub Left : List ℕ → ℕ → ℕ → List ℕ → ℕ → ℕ → Type 0
-Left s at n values k p = onGood (numbersAt (n - k) (drop p s)) (λ vs rest. good (take k values ++ vs) rest) ≡ numbersAt n (drop at s)
+Left s at n values k p = onGood (numbersField (n - k) (drop p s)) (λ vs rest. good (take k values ++ vs) rest) ≡ numbersField n (drop at s)
 
 module _ (s : List ℕ) (at n : ℕ) (values : List ℕ) (k p : ℕ) (left : Left s at n values k p) where
-  next-of : k < n → numbersAt (n - k) (drop p s) ≡ onGood (fieldAt greatest32 (drop p s)) (λ v rest. onGood (numbersAt (n - (k + 1)) rest) (λ vs rest'. good (v ∷ vs) rest'))
-  unfolding numbersAt
-  next-of h = let e : n - k ≡ suc (n - (k + 1)) = omega arith in ap (λ (m : ℕ). numbersAt m (drop p s)) e
+  next-of : k < n → numbersField (n - k) (drop p s) ≡ onGood (fieldAt greatest32 (drop p s)) (λ v rest. onGood (numbersField (n - (k + 1)) rest) (λ vs rest'. good (v ∷ vs) rest'))
+  unfolding numbersField
+  next-of h = let e : n - k ≡ suc (n - (k + 1)) = omega arith in ap (λ (m : ℕ). numbersField m (drop p s)) e
 
-  pub left-bad : k < n → fieldAt greatest32 (drop p s) ≡ bad → numbersAt n (drop at s) ≡ bad
+  pub left-bad : k < n → fieldAt greatest32 (drop p s) ≡ bad → numbersField n (drop at s) ≡ bad
   left-bad h e = sym left ∙ on-bad _ (next-of h ∙ on-bad _ e)
 
   pub left-more : (v next : ℕ) → k < n → k < length values → fieldAt greatest32 (drop p s) ≡ good v (drop next s) → Left s at n (set values k v) (k + 1) next
   unfolding onGood
   left-more v next h l e =
-      on-same (numbersAt (n - (k + 1)) (drop next s)) (λ vs rest. ap (λ (r : List ℕ). good r rest) (grown v l vs))
-      ∙ sym (on-on (numbersAt (n - (k + 1)) (drop next s)) (λ vs rest. good (v ∷ vs) rest) (λ vs rest. good (take k values ++ vs) rest))
+      on-same (numbersField (n - (k + 1)) (drop next s)) (λ vs rest. ap (λ (r : List ℕ). good r rest) (grown v l vs))
+      ∙ sym (on-on (numbersField (n - (k + 1)) (drop next s)) (λ vs rest. good (v ∷ vs) rest) (λ vs rest. good (take k values ++ vs) rest))
       ∙ ap (λ (r : Parsed (List ℕ)). onGood r (λ vs rest. good (take k values ++ vs) rest)) (sym (next-of h ∙ on-good _ e))
       ∙ left
     where
@@ -87,13 +88,13 @@ module _ (s : List ℕ) (at n : ℕ) (values : List ℕ) (k p : ℕ) (left : Lef
           ∙ ap (λ (r : List ℕ). r ++ vs) (take-suc-set values k v l)
           ∙ append-assoc (take k values) (v ∷ []) vs
 
-  pub left-all : n ≤ k → k ≤ n → numbersAt n (drop at s) ≡ good (take n values) (drop p s)
-  unfolding numbersAt onGood
+  pub left-all : n ≤ k → k ≤ n → numbersField n (drop at s) ≡ good (take n values) (drop p s)
+  unfolding numbersField onGood
   left-all h g =
       let z : n - k ≡ 0 = omega arith in
       let e : k ≡ n = omega arith in
       sym left
-      ∙ ap (λ (m : ℕ). onGood (numbersAt m (drop p s)) (λ vs rest. good (take k values ++ vs) rest)) z
+      ∙ ap (λ (m : ℕ). onGood (numbersField m (drop p s)) (λ vs rest. good (take k values ++ vs) rest)) z
       ∙ ap (λ (r : List ℕ). good r (drop p s)) (append-nil (take k values))
       ∙ ap (λ (m : ℕ). good (take m values) (drop p s)) e
 
@@ -101,4 +102,10 @@ pub left-none : (s : List ℕ) (at n : ℕ) (values : List ℕ) → Left s at n 
 unfolding onGood
 left-none s at n values =
     let z : n - 0 ≡ n = omega arith in
-    ap (λ (m : ℕ). onGood (numbersAt m (drop at s)) (λ vs rest. good vs rest)) z ∙ on-id (numbersAt n (drop at s))
+    ap (λ (m : ℕ). onGood (numbersField m (drop at s)) (λ vs rest. good vs rest)) z ∙ on-id (numbersField n (drop at s))
+
+-- the first four of the numbers read
+pub dose-of : (vs : List ℕ) (room : ℕ)
+    → good (writeLine (Dose (getD (take 4 vs) 0 0) (getD (take 4 vs) 1 0) (getD (take 4 vs) 2 0) (getD (take 4 vs) 3 0)) room) []
+    ≡ good (writeLine (Dose (getD vs 0 0) (getD vs 1 0) (getD vs 2 0) (getD vs 3 0)) room) []
+dose-of vs room = rw (getD-take 4 vs 0 0 (omega arith), getD-take 4 vs 1 0 (omega arith), getD-take 4 vs 2 0 (omega arith), getD-take 4 vs 3 0 (omega arith))

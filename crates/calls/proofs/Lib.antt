@@ -1,3 +1,4 @@
+pub mod Steps
 pub mod Hex
 pub mod Figures
-pub mod Lines
+pub mod Answers

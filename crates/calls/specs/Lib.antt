@@ -1,5 +1,3 @@
 pub mod Call
-pub mod Letters
-pub mod Reading
 pub mod Reads
-pub mod Cases
+pub mod Reading

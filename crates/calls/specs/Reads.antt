@@ -1,13 +1,18 @@
 -- The call that a line is read as, and what the reader promises. Assumes nothing.
-use mathlib.Core.Path.{_≡_}
-use mathlib.Core.Bool.{_&&_}
+use mathlib.Core.Path.{_≡_, refl, sym, ap, _∙_}
+use mathlib.Core.Bool.{Bool, _&&_}
 use mathlib.Core.List.{List, []}
-use Prim.Native.Nat.{ℕ, _≤_}
+use Prim.Native.Nat.{ℕ, _≤_, _<_}
+use native.Mathlib.Omega.{arith}
+use native.Mathlib.Decide.{decLt}
 use lib.Dec.{leb}
-use lib.ListN.{length, take}
-use Rattle.laws.specs.Pick.{pick}
+use lib.ListN.{length, take, drop, length-append, length-drop, length-take}
+use lib.Seq.{length-take-le}
+use borrow.Author.Tests.{le-leb, lt-leb}
+use Rattle.laws.specs.Pick.{pick, pick-t, pick-f}
 use Rattle.laws.specs.Over.{over}
 use Rattle.laws.specs.Decimal.{Parsed, good, bad}
+use Rattle.text.specs.ScanLaws.{bad-good}
 use Rattle.calls.specs.Call.{Call, tick, link, settings, reset, counters, restart, request, writeFrame, readFrame, writeField, readField, writeLine, readLine, hour, hours, callOf}
 use Rattle.calls.specs.declared.Call as declared
 use Rattle.calls.specs.declared.Call.the-variants as C
@@ -50,6 +55,25 @@ bytesIn (good (hour s h) rest) = s
 bytesIn (good (hours s room) rest) = s
 bytesIn bad = []
 
+-- how many bytes an answer carries
+unfoldable pub sizeOf : declared.Call → ℕ
+sizeOf (C.Tick x i) = 0
+sizeOf (C.Link on) = 0
+sizeOf (C.Settings set) = 0
+sizeOf C.Reset = 0
+sizeOf C.Counters = 0
+sizeOf (C.Restart set count total) = 0
+sizeOf (C.Request n room) = n
+sizeOf (C.WriteFrame n room) = n
+sizeOf (C.ReadFrame n) = n
+sizeOf (C.WriteField w) = 0
+sizeOf (C.ReadField f) = 0
+sizeOf (C.WriteLine l room) = 0
+sizeOf (C.ReadLine n) = n
+sizeOf (C.Hour n h) = n
+sizeOf (C.Hours n room) = n
+sizeOf C.Unknown = 0
+
 -- a line of at most 4,095 bytes, its LF left out, read with room for the bytes of every line; else nothing is asked
 unfoldable pub readIn : ℕ → List ℕ → Parsed Call
 readIn room l = pick (leb 2048 room && leb (length l) 4095) (callOf l) bad
@@ -78,3 +102,87 @@ pub record Reads (l old new : List ℕ) (r : declared.Call) : Type 0 where
   pub reads : asCall new r ≡ readIn (length old) l
   pub left : new ≡ over (bytesIn (readIn (length old) l)) old
   pub within : Within r
+
+-- ---- an answer and its bytes
+
+-- the answer of the reader that stands for a call
+unfoldable pub answered : Parsed Call → declared.Call
+answered (good (tick x i) rest) = C.Tick x i
+answered (good (link on) rest) = C.Link on
+answered (good (settings set) rest) = C.Settings set
+answered (good reset rest) = C.Reset
+answered (good counters rest) = C.Counters
+answered (good (restart set count total) rest) = C.Restart set count total
+answered (good (request s room) rest) = C.Request (length s) room
+answered (good (writeFrame s room) rest) = C.WriteFrame (length s) room
+answered (good (readFrame s) rest) = C.ReadFrame (length s)
+answered (good (writeField w) rest) = C.WriteField w
+answered (good (readField f) rest) = C.ReadField f
+answered (good (writeLine l room) rest) = C.WriteLine l room
+answered (good (readLine s) rest) = C.ReadLine (length s)
+answered (good (hour s h) rest) = C.Hour (length s) h
+answered (good (hours s room) rest) = C.Hours (length s) room
+answered bad = C.Unknown
+
+pub record Known (r : declared.Call) : Type 0 where
+  pub bytes : (b : List ℕ) → bytesIn (asCall b r) ≡ take (sizeOf r) b
+  pub same : (a b : List ℕ) → take (sizeOf r) a ≡ take (sizeOf r) b → asCall a r ≡ asCall b r
+  pub few : Within r → sizeOf r ≤ 2048
+  pub none : (b : List ℕ) → asCall b r ≡ bad → sizeOf r ≡ 0
+  pub back : (b : List ℕ) → sizeOf r ≤ length b → answered (asCall b r) ≡ r
+
+pub known : (r : declared.Call) → Known r
+unfolding asCall bytesIn sizeOf Within answered
+known (C.Tick x i) = record { bytes = λ b. refl; same = λ a b e. refl; few = λ w. omega arith; none = λ b e. refl; back = λ b i. refl }
+known (C.Link on) = record { bytes = λ b. refl; same = λ a b e. refl; few = λ w. omega arith; none = λ b e. refl; back = λ b i. refl }
+known (C.Settings set) = record { bytes = λ b. refl; same = λ a b e. refl; few = λ w. omega arith; none = λ b e. refl; back = λ b i. refl }
+known C.Reset = record { bytes = λ b. refl; same = λ a b e. refl; few = λ w. omega arith; none = λ b e. refl; back = λ b i. refl }
+known C.Counters = record { bytes = λ b. refl; same = λ a b e. refl; few = λ w. omega arith; none = λ b e. refl; back = λ b i. refl }
+known (C.Restart set count total) = record { bytes = λ b. refl; same = λ a b e. refl; few = λ w. omega arith; none = λ b e. refl; back = λ b i. refl }
+known (C.Request n room) = record { bytes = λ b. refl; same = λ a b e. ap (λ (s : List ℕ). good (request s room) []) e; few = λ w. w .0; none = λ b e. bad-good (sym e); back = λ b i. ap (λ (m : ℕ). C.Request m room) (length-take-le n b i) }
+known (C.WriteFrame n room) = record { bytes = λ b. refl; same = λ a b e. ap (λ (s : List ℕ). good (writeFrame s room) []) e; few = λ w. w .0; none = λ b e. bad-good (sym e); back = λ b i. ap (λ (m : ℕ). C.WriteFrame m room) (length-take-le n b i) }
+known (C.ReadFrame n) = record { bytes = λ b. refl; same = λ a b e. ap (λ (s : List ℕ). good (readFrame s) []) e; few = λ w. w; none = λ b e. bad-good (sym e); back = λ b i. ap (λ (m : ℕ). C.ReadFrame m) (length-take-le n b i) }
+known (C.WriteField w) = record { bytes = λ b. refl; same = λ a b e. refl; few = λ w. omega arith; none = λ b e. refl; back = λ b i. refl }
+known (C.ReadField f) = record { bytes = λ b. refl; same = λ a b e. refl; few = λ w. omega arith; none = λ b e. refl; back = λ b i. refl }
+known (C.WriteLine l room) = record { bytes = λ b. refl; same = λ a b e. refl; few = λ w. omega arith; none = λ b e. refl; back = λ b i. refl }
+known (C.ReadLine n) = record { bytes = λ b. refl; same = λ a b e. ap (λ (s : List ℕ). good (readLine s) []) e; few = λ w. w; none = λ b e. bad-good (sym e); back = λ b i. ap (λ (m : ℕ). C.ReadLine m) (length-take-le n b i) }
+known (C.Hour n h) = record { bytes = λ b. refl; same = λ a b e. ap (λ (s : List ℕ). good (hour s h) []) e; few = λ w. w; none = λ b e. bad-good (sym e); back = λ b i. ap (λ (m : ℕ). C.Hour m h) (length-take-le n b i) }
+known (C.Hours n room) = record { bytes = λ b. refl; same = λ a b e. ap (λ (s : List ℕ). good (hours s room) []) e; few = λ w. w .0; none = λ b e. bad-good (sym e); back = λ b i. ap (λ (m : ℕ). C.Hours m room) (length-take-le n b i) }
+known C.Unknown = record { bytes = λ b. refl; same = λ a b e. refl; few = λ w. omega arith; none = λ b e. refl; back = λ b i. refl }
+
+-- ---- what a caller of the reader knows
+
+module _ {l old new : List ℕ} {r : declared.Call} (p : Reads l old new r) where
+  size-fits : sizeOf r ≤ length old
+  unfolding readIn
+  size-fits =
+      elim (decLt (length old) 2048) [
+        | yes h ↦ omega (arith, known r .none new (p .reads ∙ pick-f _ _ _ (ap (λ (t : Bool). t && leb (length l) 4095) (lt-leb 2048 (length old) h))))
+        | no h ↦ omega (arith, known r .few (p .within))
+      ]
+
+  -- the buffer keeps its length
+  pub read-long : length new ≡ length old
+  unfolding over
+  read-long =
+      let b = bytesIn (readIn (length old) l) in
+      let e : length b ≡ length (take (sizeOf r) new) = ap length (ap bytesIn (sym (p .reads)) ∙ known r .bytes new) in
+      let f = size-fits in
+      let h : length b ≤ length old = omega (arith, e, length-take (sizeOf r) new) in
+      omega (arith, ap length (p .left), length-append b (drop (length b) old), length-drop (length b) old)
+
+  -- the bytes lie in it
+  pub read-inside : sizeOf r ≤ length new
+  read-inside = let f = size-fits in omega (arith, read-long)
+
+  -- a line of a fitting length, read with room, is read as its call
+  pub read-call : 2048 ≤ length old → length l ≤ 4095 → asCall new r ≡ callOf l
+  unfolding readIn
+  read-call h k = p .reads ∙ pick-t _ _ _ (ap (λ (t : Bool). t && leb (length l) 4095) (le-leb _ _ h) ∙ le-leb _ _ k)
+
+-- two results that both meet the contract are equal
+pub read-determined : {l old new new' : List ℕ} {r r' : declared.Call} → Reads l old new r → Reads l old new' r' → (r ≡ r') × (new ≡ new')
+read-determined {l} {old} {new} {new'} {r} {r'} p q =
+    let n : new ≡ new' = p .left ∙ sym (q .left) in
+    let e : asCall new r ≡ asCall new' r' = p .reads ∙ sym (q .reads) in
+    (sym (known r .back new (read-inside p)) ∙ ap answered e ∙ known r' .back new' (read-inside q), n)

@@ -1,10 +1,17 @@
 // What a line of a script asks: one reader, and the calls that it answers.
-mod read;
+mod asks;
+mod fields;
 
 use field::Field;
 use field::Weight;
 use journal::Line;
 use settings::Settings;
+ghost use mathlib.Core.Path.{_≡_};
+ghost use Prim.Native.Nat.{_≤_};
+ghost use lib.ListN.{length, drop, getD};
+ghost use Rattle.calls.specs.Call.{callBy};
+ghost use Rattle.calls.specs.Reads.{sizeOf, Reads};
+ghost use Rattle.calls.specs.Reading.{Asks};
 
 // A number that may be below 0, read at a place: its value and the place after it, or none.
 enum Signed {
@@ -15,12 +22,6 @@ enum Signed {
 // 0 or 1, read at a place.
 enum Flag {
     Good(bool, usize),
-    Bad,
-}
-
-// Bytes read at a place: how many, and the place after them.
-enum Bytes {
-    Good(usize, usize),
     Bad,
 }
 
@@ -73,3 +74,63 @@ const GREATEST: u32 = 4294967295;
 
 // So many bytes hold those of every line.
 pub const BYTES: usize = 2048;
+
+// The bytes of the longest line, its LF left out.
+const LONGEST: usize = 4095;
+
+// The call of a line by its letter; its bytes are only looked at.
+fn call_of(line: &[u8]) -> Call
+    requires { ⌜ length (now line) ≤ 4095 ⌝ }
+    ensures { λ r. ⌜ Asks (now (line .entry)) (callBy (getD (now (line .entry)) 0 0) (drop 1 (now (line .entry)))) r ⌝ }
+{
+    let letter = text::byte_at(line, 0);
+    match letter {
+        b'T' => asks::tick(line),
+        b'L' => asks::link(line),
+        b'S' => asks::set(line),
+        b'C' => asks::bare(line, letter),
+        b'Q' => asks::bare(line, letter),
+        b'N' => asks::restart(line),
+        b'B' => asks::room(line, letter, 64),
+        b'W' => asks::room(line, letter, 600),
+        b'X' => asks::alone(line, letter),
+        b'G' => asks::weight(line),
+        b'K' => asks::four(line),
+        b'D' => asks::dose(line),
+        b'H' => asks::on(line),
+        b'l' => asks::alone(line, letter),
+        b'u' => asks::room(line, letter, GREATEST),
+        b'j' => asks::room(line, letter, 2000),
+        _ => Call::Unknown,
+    }
+}
+
+// How many bytes a call carries.
+fn size_of(call: Call) -> usize
+    ensures { λ r. ⌜ r ≡ sizeOf call ⌝ }
+{
+    match call {
+        Call::Request(n, _) => n,
+        Call::WriteFrame(n, _) => n,
+        Call::ReadFrame(n) => n,
+        Call::ReadLine(n) => n,
+        Call::Hour(n, _) => n,
+        Call::Hours(n, _) => n,
+        _ => 0,
+    }
+}
+
+// The call of a line, its LF left out; its bytes are stored at the start of `bytes`, which is left as it was where the line is no call.
+pub fn read(line: &[u8], bytes: &mut [u8]) -> Call
+    ensures { λ r. ⌜ Reads (now (line .entry)) (now (bytes .entry)) (now (bytes .exit)) r ⌝ }
+{
+    if bytes.len() < BYTES {
+        return Call::Unknown;
+    }
+    if LONGEST < line.len() {
+        return Call::Unknown;
+    }
+    let call = call_of(line);
+    fields::store(line, size_of(call), bytes);
+    call
+}

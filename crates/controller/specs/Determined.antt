@@ -48,12 +48,12 @@ toldBack : ℕ → List Record → TickAnswer
 toldBack o [] = T.Outputs o
 toldBack o (r ∷ rs) = T.Dose o r
 
-tickBack : Answer Told → TickAnswer
+pub tickBack : Answer Told → TickAnswer
 tickBack (done t) = toldBack (t .outputs) (t .doses)
 tickBack (refused n vs) = T.R1
 tickBack (fault n vs) = T.Fault (pick (eqb n F14) (F.F14 (named vs)) F.F21)
 
-tick-back : (a : TickAnswer) → tickBack (saysTick a) ≡ a
+pub tick-back : (a : TickAnswer) → tickBack (saysTick a) ≡ a
 unfolding tickBack toldBack saysFault pick
 tick-back (T.Outputs o) = refl
 tick-back (T.Dose o r) = refl
@@ -64,12 +64,12 @@ tick-back T.R1 = refl
 pub tick-one : (a b : TickAnswer) → saysTick a ≡ saysTick b → a ≡ b
 tick-one = back-one saysTick tickBack tick-back
 
-setBack : Answer (Unit {0}) → SetAnswer
+pub setBack : Answer (Unit {0}) → SetAnswer
 setBack (done u) = S.Taken
 setBack (refused n vs) = pick (eqb n R3) S.R3 (S.R2 (named vs))
 setBack (fault n vs) = S.Taken
 
-set-back : (a : SetAnswer) → setBack (saysSet a) ≡ a
+pub set-back : (a : SetAnswer) → setBack (saysSet a) ≡ a
 unfolding setBack pick
 set-back S.Taken = refl
 set-back S.R3 = refl
@@ -78,12 +78,12 @@ set-back (S.R2 row) = refl
 pub set-one : (a b : SetAnswer) → saysSet a ≡ saysSet b → a ≡ b
 set-one = back-one saysSet setBack set-back
 
-resetBack : Answer (Unit {0}) → ResetAnswer
+pub resetBack : Answer (Unit {0}) → ResetAnswer
 resetBack (done u) = C.Done
 resetBack (refused n vs) = C.R3
 resetBack (fault n vs) = C.R3
 
-reset-back : (a : ResetAnswer) → resetBack (saysReset a) ≡ a
+pub reset-back : (a : ResetAnswer) → resetBack (saysReset a) ≡ a
 unfolding resetBack
 reset-back C.Done = refl
 reset-back C.R3 = refl
@@ -91,12 +91,12 @@ reset-back C.R3 = refl
 pub reset-one : (a b : ResetAnswer) → saysReset a ≡ saysReset b → a ≡ b
 reset-one = back-one saysReset resetBack reset-back
 
-restartBack : Answer (Unit {0}) → RestartAnswer
+pub restartBack : Answer (Unit {0}) → RestartAnswer
 restartBack (done u) = N.Done
 restartBack (refused n vs) = pick (eqb n R15) N.R15 (N.R2 (named vs))
 restartBack (fault n vs) = N.Done
 
-restart-back : (a : RestartAnswer) → restartBack (saysRestart a) ≡ a
+pub restart-back : (a : RestartAnswer) → restartBack (saysRestart a) ≡ a
 unfolding restartBack pick
 restart-back N.Done = refl
 restart-back (N.R2 row) = refl
@@ -112,12 +112,12 @@ refusedBack n place =
     (pick (eqb n R5) (P.R5 place)
     (pick (eqb n R7) (P.R7 place) (pick (eqb n R3) (P.R3 place) (pick (eqb n R4) (P.R4 place) (P.R8 place))))))
 
-replyBack : Answer (ℕ × ℕ) → RequestAnswer
+pub replyBack : Answer (ℕ × ℕ) → RequestAnswer
 replyBack (done p) = P.Sent (p .0) (p .1)
 replyBack (refused n vs) = refusedBack n (named vs)
 replyBack (fault n vs) = P.R9 0
 
-reply-back : (a : RequestAnswer) → replyBack (saysReply a) ≡ a
+pub reply-back : (a : RequestAnswer) → replyBack (saysReply a) ≡ a
 unfolding replyBack refusedBack pick
 reply-back (P.Sent place len) = refl
 reply-back (P.R9 place) = refl
