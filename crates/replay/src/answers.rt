@@ -1,25 +1,24 @@
 // The answers of the box.
 use crate::put;
 use acts::Answer;
-use controller::Counters;
 use controller::Fault;
-use controller::Record;
 use controller::RequestAnswer;
 use controller::ResetAnswer;
 use controller::RestartAnswer;
 use controller::SetAnswer;
 use controller::TickAnswer;
+use counters::Counters;
+use counters::Record;
 
 // D, the outputs, count, amount, settled
 fn dose(out: &mut [u8], outputs: u8, record: Record) -> usize {
-    let settled = put::flag(record.settled);
     put::four(
         out,
         b'D',
         outputs as u64,
         record.count as u64,
         record.amount as u64,
-        settled,
+        record.settled as u64,
     )
 }
 

@@ -4,7 +4,7 @@ use Rattle.paper.specs.Answer.{done}
 use Rattle.hourly.specs.declared.Hour.{Hour}
 use Rattle.hourly.specs.declared.Asked.{Asked}
 use Rattle.hourly.specs.Exact.{Numbered, ask-numbered}
-use Rattle.hourly.specs.Says.{saysAsked}
+use Rattle.hourly.specs.Says.{saysHour, saysAsked}
 use borrow.Author.Needs.{needs}
 use Rattle.replay.proofs.hours.ask.Statement.{statement}
 use Rattle.replay.proofs.hours.ask.Tie as tie
@@ -34,18 +34,15 @@ figures-requires : tie.Need-figures-requires
 figures-requires c κs =
     let start = c .before .before .before .before .before .before .before .before .before .before in
     let asked = c .before .before .before .before .before .before .before .hour-of in
-    subst (λ (h : Hour). Numbered (done h)) (c .before .before .found2 .given .1)
+    subst (λ (h : Hour). Numbered (done (saysHour h))) (c .before .before .found2 .given .1)
     (subst (λ (a : Asked). Numbered (saysAsked a)) (c .before .before .before .before .before .found .given .1)
     (subst Numbered (sym (asked .ensures)) (ask-numbered (now (start .args .bytes)) (start .args .hour))))
 
 enum-known-refusal : tie.Need-enum-known-refusal
 enum-known-refusal c = search needs
 
-number-requires : tie.Need-number-requires
-number-requires c κs = search needs
-
-line-requires : tie.Need-line-requires
-line-requires c κs = search needs
+number-and-line-requires : tie.Need-number-and-line-requires
+number-and-line-requires c κs = search needs
 
 two-requires : tie.Need-two-requires
 two-requires c κs = search needs
@@ -75,8 +72,7 @@ ask-spec =
     returns
     figures-requires
     enum-known-refusal
-    number-requires
-    line-requires
+    number-and-line-requires
     two-requires
     same-length-2
     returns-2
