@@ -124,6 +124,7 @@ answered (good (hour s h) rest) = C.Hour (length s) h
 answered (good (hours s room) rest) = C.Hours (length s) room
 answered bad = C.Unknown
 
+-- its bytes are the first of the buffer, and with them it is determined by the call that it stands for
 pub record Known (r : declared.Call) : Type 0 where
   pub bytes : (b : List ℕ) → bytesIn (asCall b r) ≡ take (sizeOf r) b
   pub same : (a b : List ℕ) → take (sizeOf r) a ≡ take (sizeOf r) b → asCall a r ≡ asCall b r
