@@ -18,8 +18,8 @@ use Rattle.journal.specs.Line.{textOf, inRange, lineOf}
 use Rattle.journal.specs.LineLaws.{read-text}
 use Rattle.journal.specs.Journal.{journalOf, journalText}
 use Rattle.journal.specs.JournalLaws.{Each, journal-text, journal-range}
-use Rattle.hourly.specs.declared.Hour.the-variants.{Missing}
-use Rattle.hourly.specs.Hours.{doseAt, amountsAt, isOn, hasOn, measuredOrIdle, hourOf}
+use Rattle.hourly.specs.declared.Hour.the-variants.{Measured, Idle, Missing}
+use Rattle.hourly.specs.Hours.{doseAt, amountsAt, isOn, hasOn, figuresOf, measuredOrIdle, hourOf}
 use Rattle.controller.specs.declared.Controller.{Controller}
 use Rattle.controller.specs.declared.Record.{Record}
 use Rattle.controller.specs.Calls.{freshOf}
@@ -509,3 +509,17 @@ module _ (input : List ℕ) (s : Script input) (ls : List Line) (accepted : jour
   before-first h b =
       ap (λ (m : List Line). hourOf m h) lines-are
       ∙ pick-f _ _ _ (later-none (heardIn s) (opens (s .first) true) h b .0)
+
+  -- so it is measured if it was seen in full and a dose completed in it, idle if it was seen in full and none did, missing else
+  pub measured : (k : ℕ) (d : Record) (ds : List Record) → seenInFull k (heardIn s) ≡ true → dosesIn (hourLines k (heardIn s)) ≡ d ∷ ds
+      → hourOf ls (s .first + k) ≡ Measured (figuresOf (amountsOf (d ∷ ds)))
+  unfolding hourWith measuredOrIdle
+  measured k d ds e f = consumption k ∙ pick-t _ _ _ e ∙ ap (λ (rs : List Record). measuredOrIdle (amountsOf rs)) f
+
+  pub idle : (k : ℕ) → seenInFull k (heardIn s) ≡ true → dosesIn (hourLines k (heardIn s)) ≡ [] → hourOf ls (s .first + k) ≡ Idle
+  unfolding hourWith measuredOrIdle
+  idle k e f = consumption k ∙ pick-t _ _ _ e ∙ ap (λ (rs : List Record). measuredOrIdle (amountsOf rs)) f
+
+  pub missing : (k : ℕ) → seenInFull k (heardIn s) ≡ false → hourOf ls (s .first + k) ≡ Missing
+  unfolding hourWith
+  missing k e = consumption k ∙ pick-f _ _ _ e
