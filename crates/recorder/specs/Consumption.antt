@@ -8,7 +8,7 @@ use lib.Dec.{eqb, ltb}
 use lib.ListN.{length}
 use borrow.Author.Tests.{eq-eqb, ne-eqb, eqb-true, eqb-false, ltb-false}
 use Rattle.laws.specs.Pick.{pick, pick-t, pick-f, pick-all, pick-if}
-use Rattle.laws.specs.Decimal.{Parsed, good, bad, numberAt}
+use Rattle.laws.specs.Decimal.{Parsed, good, numberAt}
 use Rattle.laws.specs.DecimalLaws.{number-only}
 use Rattle.paper.specs.Answer.{done}
 use Rattle.text.specs.ScanLaws.{bad-good}

@@ -1,5 +1,4 @@
 use mathlib.Core.Path.{sym, ap}
-use Prim.Native.Nat.{ℕ}
 use Rattle.laws.specs.Pick.{pick-t, pick-f}
 use Rattle.journal.specs.declared.Line.the-variants.{Dose}
 use Rattle.recorder.specs.Recording.{doseIn}
