@@ -9,7 +9,7 @@ use lib.IntN.{ℤ}
 use mathlib.Core.Bool.{Bool}
 use lib.ListN.{length, take, drop, replicate, length-take, length-replicate}
 use lib.Seq.{length-take-le}
-use Rattle.paper.specs.Answer.{Answer, done, told, leaves}
+use Rattle.paper.specs.Answer.{done, told, leaves}
 use Rattle.settings.specs.declared.Settings.{Settings}
 use Rattle.controller.specs.declared.Controller.{Controller}
 use Rattle.controller.specs.declared.Ticked.{Ticked}
@@ -24,13 +24,13 @@ use Rattle.controller.specs.Line.{requestOf}
 use Rattle.controller.specs.Made.{Made}
 use Rattle.controller.specs.Says.{saysRestart, placeAndLength, bytesOf, Ticks, Sets, Resets, Restarts, Replies}
 use Rattle.controller.specs.Sound.{Sound}
-use Rattle.series.specs.Events.{Event, tick, link, settings, reset, restart, request, eventOf, run}
+use Rattle.series.specs.Events.{tick, link, settings, reset, restart, request, eventOf, run}
 use Rattle.lines.specs.Places.{take-least}
 use Rattle.calls.specs.declared.Call as read
 use Rattle.calls.specs.declared.Call.the-variants as C
 use Rattle.calls.proofs.Call.{the-type as call-type}
 use Rattle.calls.specs.Reads.{asCall}
-use Rattle.acts.specs.Acts.{Ask, event, counters, nothing, blank, askOf, askBy, eventsIn, ticked, taken, cleared, counted, restarted, replied, aside, saidAt, saidTo, leftAt, leftBy, lentTo, lent}
+use Rattle.acts.specs.Acts.{Ask, event, nothing, blank, askOf, askBy, eventsIn, ticked, taken, cleared, restarted, replied, saidAt, saidTo, leftAt, leftBy, lent}
 use Rattle.acts.specs.Makes.{saysAct, Makes, Acts, inUse, restart-kept}
 use Rattle.acts.specs.declared.Answer.the-variants as A
 use Rattle.acts.specs.declared.Acted.{Acted}

@@ -1,17 +1,13 @@
 -- What calls ask of the box, run on a fresh one. Assumes nothing.
 use mathlib.Core.Path.{_≡_, refl}
 use mathlib.Core.Bool.{true}
-use mathlib.Core.List.{List, [], _∷_}
-use Prim.Native.Nat.{ℕ}
-use lib.IntN.{pos}
-use lib.ListN.{replicate}
+use mathlib.Core.List.{[], _∷_}
 use Rattle.laws.specs.Decimal.{good, bad}
-use Rattle.settings.specs.Table.{defaultSet}
 use Rattle.controller.specs.State.{restarted}
 use Rattle.controller.specs.Calls.{freshOf, linkOf}
-use Rattle.series.specs.Events.{Event, request, eventOf, run}
+use Rattle.series.specs.Events.{request, eventOf, run}
 use Rattle.calls.specs.Call as calls
-use Rattle.acts.specs.Acts.{Ask, event, nothing, blank, askOf, askBy, eventsIn, madeBy, aside, counted, saidTo, leftBy, lentTo, lent}
+use Rattle.acts.specs.Acts.{event, blank, askOf, askBy, eventsIn, madeBy, aside, counted, saidTo, leftBy, lentTo, lent}
 
 -- a line that is no call, the counters and a call that needs no box leave the controller; the link start is set
 pub made :

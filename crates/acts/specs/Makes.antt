@@ -3,7 +3,7 @@ use mathlib.Core.Path.{_≡_, refl, sym, ap, ap₂, _∙_}
 use mathlib.Core.List.{List}
 use Prim.Native.Nat.{ℕ, _≤_}
 use native.Mathlib.Omega.{arith}
-use lib.ListN.{length, take, replicate, length-replicate}
+use lib.ListN.{take, replicate, length-replicate}
 use lib.Seq.{take-all}
 use Rattle.paper.specs.Answer.{Answer, done, refused, fault, told, same}
 use Rattle.paper.specs.AnswerLaws.{refused-done, fault-done}

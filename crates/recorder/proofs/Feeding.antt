@@ -1,9 +1,9 @@
 -- What is left of a buffer, from the place that its lines so far have reached, gives the whole. Assumes nothing.
 use mathlib.Core.Path.{_≡_, refl, sym, ap, _∙_, subst}
-use mathlib.Core.List.{List, [], _∷_, _++_}
+use mathlib.Core.List.{List, []}
 use Prim.Native.Nat.{ℕ, zero, suc, _+_, _-_, _≤_, _<_}
 use native.Mathlib.Omega.{arith}
-use lib.ListN.{length, drop, length-append, length-drop}
+use lib.ListN.{length, drop, length-append}
 use lib.Seq.{sets, length-sets}
 use borrow.Author.Tests.{le-leb, lt-leb}
 use borrow.Rule.Slice.PartMut.{midOf, putMid}
@@ -21,7 +21,6 @@ use Rattle.recorder.specs.Keeps.{note-carries}
 use Rattle.recorder.specs.Feed.{Gave, gave, ahead, onNext, feedFrom, feedOf, Feeds}
 use Rattle.recorder.specs.declared.Recorder.{Recorder}
 use Rattle.recorder.specs.declared.Noted.{Noted}
-use Rattle.recorder.specs.declared.Fed.{Fed}
 use Rattle.recorder.proofs.Writing.{put-part, part-length}
 
 -- ---- one step

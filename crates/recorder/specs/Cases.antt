@@ -10,7 +10,6 @@ use Rattle.journal.specs.Line.{textOf, fieldsText}
 use Rattle.journal.specs.Journal.{journalText}
 use Rattle.counters.specs.declared.Record.{Record}
 use Rattle.recorder.specs.Recording.{greatestHour, Note, note, heardTick, heardRestart, withStage, withHour, withTicks, withWhole, withKnown, refusalText, refuse, firstOf, doseIn, closing, nextHour, oneMore, counts, restartedBy, lostBy, heardBy, startOf}
-use Rattle.recorder.specs.declared.Heard.{Heard}
 use Rattle.recorder.specs.declared.Heard.the-variants.{Ticked, Dosed, Restarted, Lost, Other}
 use Rattle.recorder.specs.declared.Stage.the-variants.{Recording, Over}
 use Rattle.recorder.specs.declared.Clock.{Clock}

@@ -6,7 +6,7 @@ use Prim.Native.Nat.{ℕ, _+_, _≤_}
 use native.Mathlib.Omega.{arith}
 use lib.Dec.{eqb, leb, ltb}
 use borrow.Author.Tests.{eqb-false, ltb-false, le-leb}
-use Rattle.laws.specs.Pick.{pick, pick-all, pick-if}
+use Rattle.laws.specs.Pick.{pick-all, pick-if}
 use Rattle.laws.specs.Decimal.{Parsed, good, bad, numberAt}
 use Rattle.laws.specs.DecimalLaws.{number-only}
 use Rattle.paper.specs.Answer.{Answer, done, refused, fault}
@@ -23,7 +23,7 @@ use Rattle.controller.specs.Promises.{tick-recordable}
 use Rattle.series.specs.Events.{Event, tick, link, request, settings, reset, restart, run}
 use Rattle.series.specs.Kept.{event-sound}
 use Rattle.calls.specs.Call.{Call, callOf}
-use Rattle.acts.specs.Acts.{Ask, event, counters, nothing, Said, askOf, askBy, eventsIn, madeBy, saidAt, saidTo}
+use Rattle.acts.specs.Acts.{Ask, event, counters, nothing, askOf, askBy, eventsIn, madeBy, saidAt, saidTo}
 use Rattle.recorder.specs.Recording.{ticksAnHour, greatestHour, heardDoses, heardTick, heardRestart, heardSaid, heardOf, Note, withStage, withHour, withTicks, withWhole, withKnown, refuse, firstOf, doseIn, nextHour, oneMore, counts, restartedBy, lostBy, heardBy, noteBy, noteOf, boxBy, nextOf, startOf, Runs, Carries}
 use Rattle.recorder.specs.Noting.{Writable}
 use Rattle.recorder.specs.declared.Heard.{Heard}

@@ -4,3 +4,4 @@ pub mod Keeps
 pub mod Feed
 pub mod Readable
 pub mod Cases
+pub mod Consumption

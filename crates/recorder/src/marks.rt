@@ -14,7 +14,6 @@ ghost use mathlib.Core.Bool.{true};
 ghost use mathlib.Core.List.{[], _∷_};
 ghost use Prim.Native.Nat.{_+_, _≤_, _<_};
 ghost use lib.ListN.{length};
-ghost use Rattle.laws.specs.Pick.{pick};
 ghost use Rattle.laws.specs.Decimal.{numberAt};
 ghost use Rattle.journal.specs.Line.{textOf, inRange};
 ghost use Rattle.counters.specs.Laws.{Recordable};

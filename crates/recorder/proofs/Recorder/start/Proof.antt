@@ -3,8 +3,6 @@ use Rattle.controller.specs.declared.Controller.{Controller}
 use Rattle.recorder.specs.Recording.{startOf, Carries}
 use Rattle.recorder.specs.Keeps.{start-carries}
 use Rattle.recorder.specs.declared.Recorder.{Recorder}
-use Rattle.recorder.specs.declared.Stage.the-variants.{First}
-use mathlib.Core.Bool.{true}
 use borrow.Author.Needs.{needs}
 use Rattle.recorder.proofs.Recorder.start.Statement.{statement}
 use Rattle.recorder.proofs.Recorder.start.Tie as tie
@@ -15,7 +13,7 @@ fresh-requires c κs = search needs
 returns : tie.Need-returns
 unfolding startOf
 returns c =
-    let is = ap {B = Recorder} (λ (b : Controller). record { controller = b; clock = record { stage = First; hour = 0; ticks = 0; whole = true; known = true } }) (c .fresh .ensures .is) in
+    let is = ap {B = Recorder} (λ (b : Controller). record { controller = b; clock = startOf .clock }) (c .fresh .ensures .is) in
     record { is = is; carries = subst Carries (sym is) start-carries }
 
 pub start-spec : {M : Type 1} → statement M
