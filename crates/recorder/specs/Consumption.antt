@@ -18,8 +18,7 @@ use Rattle.journal.specs.Line.{textOf, inRange, lineOf}
 use Rattle.journal.specs.LineLaws.{read-text}
 use Rattle.journal.specs.Journal.{journalOf, journalText}
 use Rattle.journal.specs.JournalLaws.{Each, journal-text, journal-range}
-use Rattle.hourly.specs.declared.Hour.the-variants.{Measured, Idle, Missing}
-use Rattle.hourly.specs.Hours.{doseAt, amountsAt, isOn, hasOn, figuresOf, measuredOrIdle, hourOf}
+use Rattle.hourly.specs.Hours.{measured, idle, missing, doseAt, amountsAt, isOn, hasOn, sumOf, largestOf, meanOf, measuredOrIdle, hourOf}
 use Rattle.controller.specs.declared.Controller.{Controller}
 use Rattle.counters.specs.declared.Record.{Record}
 use Rattle.controller.specs.Calls.{freshOf}
@@ -501,25 +500,25 @@ module _ (input : List ℕ) (s : Script input) (ls : List Line) (accepted : jour
   consumption k =
       let t = hour-tells k (s .first) true (heardIn s) in
       ap (λ (m : List Line). hourOf m (s .first + k)) lines-are
-      ∙ ap₂ (λ (on : Bool) (amounts : List ℕ). pick on (measuredOrIdle amounts) Missing) (t .on) (t .amounts)
+      ∙ ap₂ (λ (on : Bool) (amounts : List ℕ). pick on (measuredOrIdle amounts) missing) (t .on) (t .amounts)
 
   -- no hour before the first is anything but missing
-  pub before-first : (h : ℕ) → h < s .first → hourOf ls h ≡ Missing
+  pub before-first : (h : ℕ) → h < s .first → hourOf ls h ≡ missing
   unfolding hourOf
   before-first h b =
       ap (λ (m : List Line). hourOf m h) lines-are
       ∙ pick-f _ _ _ (later-none (heardIn s) (opens (s .first) true) h b .0)
 
   -- so it is measured if it was seen in full and a dose completed in it, idle if it was seen in full and none did, missing else
-  pub measured : (k : ℕ) (d : Record) (ds : List Record) → seenInFull k (heardIn s) ≡ true → dosesIn (hourLines k (heardIn s)) ≡ d ∷ ds
-      → hourOf ls (s .first + k) ≡ Measured (figuresOf (amountsOf (d ∷ ds)))
+  pub is-measured : (k : ℕ) (d : Record) (ds : List Record) → seenInFull k (heardIn s) ≡ true → dosesIn (hourLines k (heardIn s)) ≡ d ∷ ds
+      → hourOf ls (s .first + k) ≡ measured (sumOf (amountsOf (d ∷ ds))) (largestOf (amountsOf (d ∷ ds))) (meanOf (amountsOf (d ∷ ds)))
   unfolding hourWith measuredOrIdle
-  measured k d ds e f = consumption k ∙ pick-t _ _ _ e ∙ ap (λ (rs : List Record). measuredOrIdle (amountsOf rs)) f
+  is-measured k d ds e f = consumption k ∙ pick-t _ _ _ e ∙ ap (λ (rs : List Record). measuredOrIdle (amountsOf rs)) f
 
-  pub idle : (k : ℕ) → seenInFull k (heardIn s) ≡ true → dosesIn (hourLines k (heardIn s)) ≡ [] → hourOf ls (s .first + k) ≡ Idle
+  pub is-idle : (k : ℕ) → seenInFull k (heardIn s) ≡ true → dosesIn (hourLines k (heardIn s)) ≡ [] → hourOf ls (s .first + k) ≡ idle
   unfolding hourWith measuredOrIdle
-  idle k e f = consumption k ∙ pick-t _ _ _ e ∙ ap (λ (rs : List Record). measuredOrIdle (amountsOf rs)) f
+  is-idle k e f = consumption k ∙ pick-t _ _ _ e ∙ ap (λ (rs : List Record). measuredOrIdle (amountsOf rs)) f
 
-  pub missing : (k : ℕ) → seenInFull k (heardIn s) ≡ false → hourOf ls (s .first + k) ≡ Missing
+  pub is-missing : (k : ℕ) → seenInFull k (heardIn s) ≡ false → hourOf ls (s .first + k) ≡ missing
   unfolding hourWith
-  missing k e = consumption k ∙ pick-f _ _ _ e
+  is-missing k e = consumption k ∙ pick-f _ _ _ e
