@@ -37,7 +37,6 @@ use Rattle.asking.specs.declared.Coded.the-variants as C
 use Rattle.asking.specs.declared.Heard.{Heard}
 use Rattle.asking.specs.declared.Heard.the-variants as H
 use Rattle.asking.specs.declared.Reply.{Reply}
-use Rattle.controller.specs.State.{withZ}
 use Rattle.controller.specs.Tick.{Result, still}
 use Rattle.controller.specs.Calls.{isReady}
 use Rattle.controller.specs.Line.{timely, timeOf, zeroable, mayZero, zeroOf, allowed, askedOf, replyData, replyFrame, zeroedBy, Replied, replied, repliesTo, requestOf}
@@ -62,15 +61,6 @@ pub zeroable-by : (set : Settings) (window : Window) {near : Bool} {f : Units} �
     → zeroable set window ≡ (leb (set .algorithm) 1 && not (eqb (window .held) 0) && near)
 unfolding zeroable
 zeroable-by set window l m h = rw (none-held window l, h, m)
-
--- the controller with the Z after a request
-pub zeroed-is : (c : Controller) (op : ℕ) {z : Units} → z ≡ pick (eqb op 0xC0) (units (filtered (c .window) (c .set .p8))) (c .z) → withZ z c ≡ zeroedBy c op
-unfolding zeroedBy pick
-zeroed-is c op e = rw e (go (eqb op 0xC0))
-  where
-    go : (b : Bool) → withZ (pick b (units (filtered (c .window) (c .set .p8))) (c .z)) c ≡ pick b (withZ (units (filtered (c .window) (c .set .p8))) c) c
-    go true = refl
-    go false = refl
 
 -- ---- the stages
 

@@ -13,6 +13,7 @@ use Rattle.paper.specs.Numbers.{R1}
 use Rattle.window.specs.declared.Window.{Window}
 use Rattle.window.specs.Window.{pushOf}
 use Rattle.dosing.specs.Rules.{units, stepOf}
+use Rattle.dosing.specs.declared.Seen.{Seen}
 use Rattle.dosing.specs.declared.Moved.{Moved}
 use Rattle.dosing.specs.declared.Units.{Units}
 use Rattle.channels.specs.Channels.{outputsOf, startOf, runsAfter, watchOf}
@@ -44,10 +45,9 @@ gives {r = r} e g = subst (λ (x : Result Told). Gives x r) e g
 
 -- ---- steps 7 and 8
 
-pub steps-7-8 : (c : Controller) (start : Bool) {w : Units} {stable alarm : Bool} {m : Moved} {s outputs : ℕ} {n : Counters} {answer : TickAnswer}
-    → w ≡ units (c .f .v -ℤ c .z .v)
-    → stable ≡ stableOf (c .set) (c .s)
-    → m ≡ stepOf (c .set) (c .phase) (record { f = c .f; z = c .z; w = w; start = start; stable = stable })
+pub steps-7-8 : (c : Controller) (start : Bool) {t : Seen} {alarm : Bool} {m : Moved} {s outputs : ℕ} {n : Counters} {answer : TickAnswer}
+    → t ≡ record { f = c .f; z = c .z; w = units (c .f .v -ℤ c .z .v); start = start; stable = stableOf (c .set) (c .s) }
+    → m ≡ stepOf (c .set) (c .phase) t
     → alarm ≡ overCapacity (c .set) (c .f .v -ℤ m .z .v)
     → s ≡ calmAfter (c .gates) (m .gates) (c .s)
     → n ≡ countersAfter (c .counters) (m .dose)
@@ -55,8 +55,8 @@ pub steps-7-8 : (c : Controller) (start : Bool) {w : Units} {stable alarm : Bool
     → saysTick answer ≡ done (record { outputs = outputs; doses = recordsOf n (m .dose) })
     → Gives (step7 c start) (record { next = withCounters n (withAlarm alarm (withS s (withGates (m .gates) (withZ (m .z) (withPhase (m .phase) c))))); answer = answer })
 unfolding step7 step8 seenOf wOf
-steps-7-8 c start {m = m} ew eb em ea es en eo e =
-    let moved : m ≡ stepOf (c .set) (c .phase) (seenOf c start) = em ∙ rw (ew, eb) in
+steps-7-8 c start {m = m} et em ea es en eo e =
+    let moved : m ≡ stepOf (c .set) (c .phase) (seenOf c start) = em ∙ ap (stepOf (c .set) (c .phase)) et in
     record { next = rw (en, es, ea, moved); says = e ∙ rw (eo, en, ea, moved) }
 
 -- ---- from step 6 on

@@ -15,13 +15,11 @@ use settings::Settings;
 use window::Window;
 ghost use mathlib.Core.Path.{_≡_};
 ghost use mathlib.Core.Bool.{true};
-ghost use lib.Dec.{eqb};
-ghost use Rattle.laws.specs.Pick.{pick};
 ghost use Rattle.field.specs.Field.{writable, fieldOf};
-ghost use Rattle.dosing.specs.Rules.{units};
-ghost use Rattle.scale.specs.Scale.{filtered, weightBy};
+ghost use Rattle.scale.specs.Scale.{weightBy};
 ghost use Rattle.asking.specs.Asking.{replyBytes};
-ghost use Rattle.controller.specs.Line.{mayZero, replyData};
+ghost use Rattle.controller.specs.Calls.{isReady};
+ghost use Rattle.controller.specs.Line.{timely, mayZero, replyData, zeroedBy};
 ghost use Rattle.controller.specs.Sound.{Sound};
 ghost use Rattle.controller.specs.Says.{Replies};
 ghost use Rattle.controller.specs.Stages.{Times, Zeroes, unheard};
@@ -57,19 +55,15 @@ impl Controller {
         let Coded::Known = asking::code_stage(place, parts) else {
             return refused(self, RequestAnswer::R7(place));
         };
-        let condition = self.condition;
-        let phase = self.phase;
-        let timely = (operation != 0xC0) | is_ready(condition, phase);
-        let zeroable = may_zero(operation, self.set, self.window);
+        let timely = is_timely(self, operation);
+        let zeroable = may_zero(self, operation);
         let Timed::Allowed = ready_stage(place, timely) else {
             return refused(self, RequestAnswer::R3(place));
         };
         let Zeroing::Allowed = zero_stage(place, zeroable) else {
             return refused(self, RequestAnswer::R4(place));
         };
-        let z = zero_after(operation, self.set, self.window, self.z);
-        let mut next = self;
-        next.z = z;
+        let next = zeroed_by(self, operation);
         let holds = reply_of(self, operation);
         let Sent::Frame(len) = asking::write_reply(form, operation, holds, reply) else {
             return refused(self, RequestAnswer::R8(place));
@@ -110,15 +104,24 @@ fn ready_stage(place: usize, timely: bool) -> Timed
     }
 }
 
+// C0 wants Ready; no other request does.
+fn is_timely(c: Controller, operation: u8) -> bool
+    ensures { λ r. ⌜ r ≡ timely operation (isReady c) ⌝ }
+{
+    let condition = c.condition;
+    let phase = c.phase;
+    (operation != 0xC0) | is_ready(condition, phase)
+}
+
 // What C0 asks of the samples: AL0 or AL1, a sample held, and -M < F < M; no other request asks it.
-fn may_zero(operation: u8, set: Settings, window: Window) -> bool
-    ensures { λ r. ⌜ r ≡ mayZero operation set window ⌝ }
+fn may_zero(c: Controller, operation: u8) -> bool
+    ensures { λ r. ⌜ r ≡ mayZero operation (c .set) (c .window) ⌝ }
 {
     if operation != 0xC0 {
         return true;
     }
-    let near = dosing::near_zero(set, scale::mean_of(window, set.p8));
-    (set.algorithm <= 1) & (window.held != 0) & near
+    let near = dosing::near_zero(c.set, scale::mean_of(c.window, c.set.p8));
+    (c.set.algorithm <= 1) & (c.window.held != 0) & near
 }
 
 // R4: the samples do not allow it.
@@ -133,13 +136,15 @@ fn zero_stage(place: usize, zeroable: bool) -> Zeroing
 }
 
 // C0 zeroes: Z becomes F, by p8.
-fn zero_after(operation: u8, set: Settings, window: Window, z: Units) -> Units
-    ensures { λ r. ⌜ r ≡ pick (eqb operation 0xC0) (units (filtered window (set .p8))) z ⌝ }
+fn zeroed_by(mut c: Controller, operation: u8) -> Controller
+    ensures { λ r. ⌜ r ≡ zeroedBy c operation ⌝ }
 {
     if operation != 0xC0 {
-        return z;
+        return c;
     }
-    scale::mean_of(window, set.p8)
+    let f = scale::mean_of(c.window, c.set.p8);
+    c.z = f;
+    c
 }
 
 // Weight and CON, filtered by n samples, where they can be written.

@@ -12,8 +12,12 @@ use dosing::Gates;
 use dosing::Phase;
 use dosing::Seen;
 use dosing::Units;
+use settings::Settings;
 ghost use mathlib.Core.Path.{_≡_};
+ghost use lib.IntN.{_-ℤ_};
 ghost use Rattle.paper.specs.Answer.{done};
+ghost use Rattle.dosing.specs.Rules.{units};
+ghost use Rattle.scale.specs.Scale.{stableOf};
 ghost use Rattle.counters.specs.Counters.{recordsOf};
 ghost use Rattle.controller.specs.State.{withInputs};
 ghost use Rattle.controller.specs.Tick.{faulted, step7, steps6to8, steps4and5, step3};
@@ -79,29 +83,35 @@ fn answer_of(outputs: u8, after: Counters, dose: Dose) -> TickAnswer
     }
 }
 
+// What the phase rule sees: F, Z, w, start and stable.
+fn seen_of(set: Settings, f: Units, z: Units, s: u32, start: bool) -> Seen
+    requires { ⌜ Small f z ⌝ }
+    ensures { λ r. ⌜ r ≡ record { f = f; z = z; w = units (f .v -ℤ z .v); start = start; stable = stableOf set s } ⌝ }
+{
+    let w = weight(f, z);
+    let stable = scale::stable_of(set, s);
+    Seen {
+        f,
+        z,
+        w,
+        start,
+        stable,
+    }
+}
+
 // Step 7, the phase rule, and step 8: output 4 and S, the counters, and the answer.
 fn steps7and8(c: Controller, start: bool) -> Ticked
     requires { ⌜ Small (c .f) (c .z) ⌝ }
     ensures { λ r. ⌜ Gives (step7 c start) r ⌝ }
 {
-    let f = c.f;
-    let zero = c.z;
     let phase = c.phase;
-    let w = weight(f, zero);
-    let stable = scale::stable_of(c.set, c.s);
-    let seen = Seen {
-        f,
-        z: zero,
-        w,
-        start,
-        stable,
-    };
+    let seen = seen_of(c.set, c.f, c.z, c.s, start);
     let moved = dosing::step(c.set, phase, seen);
     let phase = moved.phase;
     let z = moved.z;
     let gates = moved.gates;
     let dose = moved.dose;
-    let alarm = scale::over_capacity(c.set, f, z);
+    let alarm = scale::over_capacity(c.set, c.f, z);
     let s = scale::calm_after(c.gates, gates, c.s);
     let counters = counters::counters_after(c.counters, dose);
     let answer = answer_of(channels::outputs_of(gates, alarm), counters, dose);

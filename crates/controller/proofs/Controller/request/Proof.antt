@@ -12,7 +12,7 @@ use Rattle.controller.specs.Line.{timely, timeOf, mayZero, askedOf}
 use Rattle.controller.specs.Says.{saysReply}
 use Rattle.controller.specs.Stages.{saysTimed, saysZeroing, Times, Zeroes}
 use Rattle.controller.specs.declared.Controller.{Controller}
-use Rattle.controller.proofs.Lines.{zeroed-is, not-ours, not-known, not-timed, not-zeroable, is-asked, framed, refuses, unheard-refuses, no-room, sends}
+use Rattle.controller.proofs.Lines.{not-ours, not-known, not-timed, not-zeroable, is-asked, framed, refuses, unheard-refuses, no-room, sends}
 use Rattle.controller.proofs.Controller.request.Statement.{statement}
 use Rattle.controller.proofs.Controller.request.Tie as tie
 
@@ -50,8 +50,7 @@ known c = sym (ap saysCoded (c .enum-told3 .given .1)) ∙ c .before .before .co
 
 -- what the stage of R3 says of the controller
 times : (c : tie.After-ready-stage) → let h = at-ours (at-known (c .before .before .before)) in Times (place h) (timely (parts h .operation) (isReady (self h))) (c .ready-stage .result)
-unfolding isReady timely
-times c = rw (c .before .before .is-ready .ensures) at (c .ready-stage .ensures)
+times c = rw (c .before .before .is-timely .ensures) at (c .ready-stage .ensures)
 
 -- what the stage of R4 says of the samples
 zeroes : (c : tie.After-zero-stage) → let r = c .before .before .before in let h = at-ours (at-known (r .before .before .before)) in Zeroes (place h) (mayZero (parts h .operation) (self h .set) (self h .window)) (c .zero-stage .result)
@@ -146,8 +145,8 @@ returns-3 c =
     (not-known _ _ (heard h) (ours (a .before)) (a .code-stage .result) (c .before .before .match3 .keys2) (a .code-stage .ensures))
     (c .refused3 .ensures .0) (ap saysReply (c .refused3 .ensures .1))
 
-is-ready-requires : tie.Need-is-ready-requires
-is-ready-requires c κs = search needs
+is-timely-requires : tie.Need-is-timely-requires
+is-timely-requires c κs = search needs
 
 may-zero-requires : tie.Need-may-zero-requires
 may-zero-requires c κs = search needs
@@ -197,11 +196,11 @@ returns-5 c =
     (not-zeroable _ _ (heard h) (ours (at-known k)) (known k) (timed t) (a .zero-stage .result) (c .before .before .match5 .keys2) (zeroes a))
     (c .refused5 .ensures .0) (ap saysReply (c .refused5 .ensures .1))
 
-zero-after-requires : tie.Need-zero-after-requires
-zero-after-requires c κs = search needs
+zeroed-by-requires : tie.Need-zeroed-by-requires
+zeroed-by-requires c κs = search needs
 
 reply-of-requires : tie.Need-reply-of-requires
-reply-of-requires c κs = search needs
+reply-of-requires c κs = start (ends (c .before)) .pre
 
 write-reply-requires : tie.Need-write-reply-requires
 write-reply-requires c κs = search needs
@@ -233,7 +232,7 @@ returns-7 c =
     let z = at-written w in
     sends _ _ _ (start (ends z) .pre) (w .write-reply .result) (asked z)
     (framed _ _ _ _ (w .before .before .reply-of .result) (w .write-reply .result) (start (ends z) .pre) (ours (at-ends z)) (w .before .before .reply-of .ensures) (w .write-reply .ensures))
-    (c .before .len .given .1) (zeroed-is (self (ends z)) _ (w .before .before .before .zero-after .ensures)) refl
+    (c .before .len .given .1) (w .before .before .before .zeroed-by .ensures) refl
 
 pub request-spec : {M : Type 1} → statement M
 request-spec =
@@ -254,7 +253,7 @@ request-spec =
     enum-told-4
     refused-requires-3
     returns-3
-    is-ready-requires
+    is-timely-requires
     may-zero-requires
     ready-stage-requires
     enum-told-5
@@ -266,7 +265,7 @@ request-spec =
     enum-told-8
     refused-requires-5
     returns-5
-    zero-after-requires
+    zeroed-by-requires
     reply-of-requires
     write-reply-requires
     enum-known-len

@@ -7,7 +7,7 @@ use Rattle.controller.proofs.Lines.{zeroable-by}
 use Rattle.controller.proofs.line.may_zero.Statement.{statement}
 use Rattle.controller.proofs.line.may_zero.Tie as tie
 
-places : (c : tie.Start) → length (c .args .window .samples) ≡ 128
+places : (c : tie.Start) → length (c .args .c .window .samples) ≡ 128
 places c = search needs
 
 returns : tie.Need-returns
@@ -25,7 +25,7 @@ unfolding mayZero
 returns-2 c =
     let n = c .before .before in
     let p = n .before .before .before in
-    rw (eq-eqb _ _ (n .before .before .if1 .left), zeroable-by (p .args .set) (p .args .window) (places p) (n .before .mean-of .ensures) (n .near-zero .ensures))
+    rw (eq-eqb _ _ (n .before .before .if1 .left), zeroable-by (p .args .c .set) (p .args .c .window) (places p) (n .before .mean-of .ensures) (n .near-zero .ensures))
 
 pub may-zero-spec : {M : Type 1} → statement M
 may-zero-spec = tie.close (tie.spec returns mean-of-requires near-zero-requires returns-2)

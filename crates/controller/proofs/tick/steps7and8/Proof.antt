@@ -3,11 +3,8 @@ use Rattle.controller.proofs.Steps.{steps-7-8}
 use Rattle.controller.proofs.tick.steps7and8.Statement.{statement}
 use Rattle.controller.proofs.tick.steps7and8.Tie as tie
 
-weight-requires : tie.Need-weight-requires
-weight-requires c κs = search needs
-
-stable-of-requires : tie.Need-stable-of-requires
-stable-of-requires c κs = search needs
+seen-of-requires : tie.Need-seen-of-requires
+seen-of-requires c κs = search needs
 
 step-requires : tie.Need-step-requires
 step-requires c κs = search needs
@@ -33,16 +30,14 @@ returns c =
     let n = a .before .before in
     let o = n .before .before in
     let m = o .before .before .before in
-    let w = m .before .before in
-    let p = w .before .before .before in
-    steps-7-8 (p .args .c) (p .args .start) (w .weight .ensures) (m .before .stable-of .ensures) (m .step .ensures) (o .over-capacity .ensures) (n .before .calm-after .ensures) (n .counters-after .ensures) (a .before .outputs-of .ensures) (a .answer-of .ensures)
+    let p = m .before .before in
+    steps-7-8 (p .args .c) (p .args .start) (m .before .seen-of .ensures) (m .step .ensures) (o .over-capacity .ensures) (n .before .calm-after .ensures) (n .counters-after .ensures) (a .before .outputs-of .ensures) (a .answer-of .ensures)
 
 pub steps7and8-spec : {M : Type 1} → statement M
 steps7and8-spec =
     tie.close
     (tie.spec
-    weight-requires
-    stable-of-requires
+    seen-of-requires
     step-requires
     over-capacity-requires
     calm-after-requires
