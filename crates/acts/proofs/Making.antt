@@ -1,7 +1,7 @@
 -- What each part gives from the contract of the box's call that it makes. Assumes nothing.
 use mathlib.Core.Path.{_≡_, refl, sym, ap, _∙_, subst}
 use mathlib.Core.List.{List, [], _∷_, _++_}
-use Prim.Native.Nat.{ℕ, zero, suc, _≤_, min}
+use Prim.Native.Nat.{ℕ, _≤_, min}
 use native.Mathlib.Nat.{min-le-left, min-comm}
 use types.Run.{OneOf, miss}
 use denote.Enum.Declared.{tagOf}
@@ -25,6 +25,7 @@ use Rattle.controller.specs.Made.{Made}
 use Rattle.controller.specs.Says.{saysRestart, placeAndLength, bytesOf, Ticks, Sets, Resets, Restarts, Replies}
 use Rattle.controller.specs.Sound.{Sound}
 use Rattle.series.specs.Events.{Event, tick, link, settings, reset, restart, request, eventOf, run}
+use Rattle.lines.specs.Places.{take-least}
 use Rattle.calls.specs.declared.Call as read
 use Rattle.calls.specs.declared.Call.the-variants as C
 use Rattle.calls.proofs.Call.{the-type as call-type}
@@ -75,12 +76,6 @@ least-left a b e = subst (λ (n : ℕ). n ≤ a) (sym e) (min-le-left a b)
 pub least-right : {k : ℕ} (a b : ℕ) → k ≡ min a b → k ≤ b
 least-right a b e = least-left b a (e ∙ min-comm a b)
 
--- the part of `bytes` that is read
-take-most : (n : ℕ) (l : List ℕ) → take (length (take n l)) l ≡ take n l
-take-most zero l = refl
-take-most (suc n) [] = refl
-take-most (suc n) (x ∷ l) = ap (λ (m : List ℕ). x ∷ m) (take-most n l)
-
 acts-part : {c : Controller} (t reply old part : List ℕ) (r : Requested) → length reply ≤ length old → Replies c t (take (length reply) old) part r
     → Acts c (event (request t reply)) old (part ++ drop (length reply) old) (record { next = r .next; answer = A.Request (r .answer) })
 unfolding eventsIn run eventOf saidTo saidAt saysAct leftBy leftAt
@@ -101,7 +96,7 @@ unfolding blank
 acts-request {c} s old part n room size most r e f h =
     let reply : List ℕ = take (length old) (replicate room 0xA5) in
     let k : length reply ≡ min (length old) room = length-take {A = ℕ} (length old) (replicate room 0xA5) ∙ ap (min (length old)) (length-replicate {A = ℕ} room 0xA5) in
-    let t : take size s ≡ take n s = ap (λ (m : ℕ). take m s) (e ∙ sym (length-take n s)) ∙ take-most n s in
+    let t : take size s ≡ take n s = ap (λ (m : ℕ). take m s) e ∙ take-least n s in
     let m : most ≡ length reply = f ∙ sym k in
     let few : length reply ≤ length old = subst (λ (x : ℕ). x ≤ length old) (sym k) (min-le-left (length old) room) in
     subst (λ (x : ℕ). Acts c (event (request (take n s) reply)) old (part ++ drop x old) (record { next = r .next; answer = A.Request (r .answer) })) (sym m)

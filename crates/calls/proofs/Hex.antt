@@ -7,7 +7,7 @@ use native.Mathlib.Omega.{arith}
 use native.Mathlib.Numerals.{add-one}
 use lib.Dec.{leb, eqb}
 use lib.ListN.{length, getD, take, drop, set, length-drop}
-use lib.Seq.{sets, take-suc, getD-drop, drop-drop, length-take-le}
+use lib.Seq.{sets, take-all, take-suc, getD-drop, drop-drop, length-take-le}
 use borrow.Author.Tests.{eq-eqb, ne-eqb, leb-true}
 use Rattle.laws.specs.Pick.{pick, pick-t, pick-f, pick-all, pick-if}
 use Rattle.laws.specs.Over.{sets-append}
@@ -120,6 +120,10 @@ pub carried-inside : (s : List ℕ) (k : ℕ) → k < length (carried s) → 3 +
 unfolding carried
 carried-inside s k h = omega (arith, lead-half (drop 2 s), length-drop 2 s)
 
+-- all of them
+pub whole : {l : List ℕ} {n : ℕ} → n ≡ length l → l ≡ take n l
+whole {l} {n} e = sym (take-all n l (omega arith))
+
 -- one byte more is stored
 pub store-more : (old bytes : List ℕ) (k : ℕ) → k < length bytes → set (sets old 0 (take k bytes)) k (getD bytes k 0) ≡ sets old 0 (take (k + 1) bytes)
 store-more old bytes k h =
@@ -210,6 +214,7 @@ pub four-not : (bytes : List ℕ) {n : ℕ} (next : Field → Parsed Call) → n
 unfolding fieldFrom
 four-not bytes next e n = pick-f _ _ _ (ne-eqb _ _ (λ f. n (e ∙ f)))
 
-pub four-is : (bytes : List ℕ) {n : ℕ} (next : Field → Parsed Call) → n ≡ length bytes → n ≡ 4 → fieldFrom bytes next ≡ next (four (getD bytes 0 0) (getD bytes 1 0) (getD bytes 2 0) (getD bytes 3 0))
+pub four-is : (s bytes : List ℕ) {n : ℕ} → n ≡ length bytes → n ≡ 4
+    → fieldFrom bytes (λ f. good (readField f) (drop (2 + 2 * n) s)) ≡ good (readField (four (getD bytes 0 0) (getD bytes 1 0) (getD bytes 2 0) (getD bytes 3 0))) (drop 10 s)
 unfolding fieldFrom
-four-is bytes next e f = pick-t _ _ _ (eq-eqb _ _ (sym e ∙ f))
+four-is s bytes e f = pick-t _ _ _ (eq-eqb _ _ (sym e ∙ f)) ∙ ap (λ (i : ℕ). good (readField (four (getD bytes 0 0) (getD bytes 1 0) (getD bytes 2 0) (getD bytes 3 0))) (drop (2 + 2 * i) s)) f

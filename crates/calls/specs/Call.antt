@@ -84,10 +84,6 @@ unfoldable pub numbersField : ℕ → List ℕ → Parsed (List ℕ)
 numbersField zero l = good [] l
 numbersField (suc n) l = onGood (fieldAt greatest32 l) (λ v rest. onGood (numbersField n rest) (λ vs rest'. good (v ∷ vs) rest'))
 
--- SET stands for the 17 settings in the order of document 01's table
-unfoldable pub setField : List ℕ → Parsed Settings
-setField l = onGood (numbersField 17 l) (λ vs rest. good (setOf vs) rest)
-
 -- four bytes
 unfoldable pub fieldFrom : {X : Type 0} → List ℕ → (Field → Parsed X) → Parsed X
 fieldFrom bytes next =
@@ -103,16 +99,13 @@ tickAt l = onGood (signedField l) (λ x rest. onGood (fieldAt 255 rest) (λ i re
 unfoldable pub linkAt : List ℕ → Parsed Call
 linkAt l = onGood (flagField l) (λ on rest. good (link on) rest)
 
--- S SET
+-- S SET: the 17 settings in the order of document 01's table
 unfoldable pub settingsAt : List ℕ → Parsed Call
-settingsAt l = onGood (setField l) (λ set rest. good (settings set) rest)
+settingsAt l = onGood (numbersField 17 l) (λ vs rest. good (settings (setOf vs)) rest)
 
--- N SET count total
+-- N SET count total, the count behind the 17 settings
 unfoldable pub restartAt : List ℕ → Parsed Call
-restartAt l =
-    onGood (setField l) (λ set rest.
-    onGood (fieldAt greatest32 rest) (λ count rest'.
-    onGood (fieldAt greatest32 rest') (λ total rest''. good (restart set count total) rest'')))
+restartAt l = onGood (numbersField 19 l) (λ vs rest. good (restart (setOf vs) (getD vs 17 0) (getD vs 18 0)) rest)
 
 -- B, W and j: bytes, and the room of a buffer; u: bytes, and an hour
 unfoldable pub roomAt : ℕ → (List ℕ → ℕ → Call) → List ℕ → Parsed Call

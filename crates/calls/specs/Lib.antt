@@ -1,3 +1,4 @@
 pub mod Call
 pub mod Reads
 pub mod Reading
+pub mod Cases

@@ -1,23 +1,19 @@
 -- What the steps of the reader answer: fields at a place of a line, and a line's call. Assumes nothing.
 use mathlib.Core.Path.{_≡_}
-use mathlib.Core.Bool.{Bool, _&&_}
+use mathlib.Core.Bool.{_&&_}
 use mathlib.Core.List.{List, [], _∷_}
 use Prim.Native.Nat.{ℕ, _+_, _*_, _≤_}
-use lib.Dec.{eqb}
+use lib.Dec.{leb, eqb}
 use lib.IntN.{ℤ}
 use lib.ListN.{length, take, drop}
 use Rattle.laws.specs.Pick.{pick}
 use Rattle.laws.specs.Decimal.{Parsed, good, bad}
-use Rattle.settings.specs.declared.Settings.{Settings}
-use Rattle.calls.specs.Call.{Call, reset, counters, request, writeFrame, readFrame, readLine, hour, hours, greatest32, isHex, hexValue, atEnd}
+use Rattle.calls.specs.Call.{Call, request, writeFrame, readFrame, readLine, hour, hours, greatest32, isHex, hexValue, atEnd}
 use Rattle.calls.specs.Reads.{asCall, sizeOf, Within}
 use Rattle.calls.specs.declared.Call as declared
+use Rattle.calls.specs.declared.Call.the-variants.{Unknown}
 use Rattle.calls.specs.declared.Signed.{Signed}
 use Rattle.calls.specs.declared.Signed.the-variants as S
-use Rattle.calls.specs.declared.Flag.{Flag}
-use Rattle.calls.specs.declared.Flag.the-variants as F
-use Rattle.calls.specs.declared.Set.{Set}
-use Rattle.calls.specs.declared.Set.the-variants as T
 use Rattle.calls.specs.declared.Numbers.{Numbers}
 
 -- ---- what a step answers: the value, and the bytes of s that follow it
@@ -26,22 +22,13 @@ abbrev pub leadsSigned : List ℕ → Signed → Parsed ℤ
 leadsSigned s (S.Good v next) = good v (drop next s)
 leadsSigned s S.Bad = bad
 
-abbrev pub leadsFlag : List ℕ → Flag → Parsed Bool
-leadsFlag s (F.Good v next) = good v (drop next s)
-leadsFlag s F.Bad = bad
-
-abbrev pub leadsSet : List ℕ → Set → Parsed Settings
-leadsSet s (T.Good v next) = good v (drop next s)
-leadsSet s T.Bad = bad
-
--- a step that answers what a rule reads somewhere in s
-pub record Yields {X R : Type 0} (leads : List ℕ → R → Parsed X) (s : List ℕ) (rule : Parsed X) (r : R) : Type 0 where
-  pub reads : rule ≡ leads s r
+pub record ScansSigned (s : List ℕ) (rule : Parsed ℤ) (r : Signed) : Type 0 where
+  pub reads : rule ≡ leadsSigned s r
 
 -- n numbers
 pub record Counts (s : List ℕ) (n : ℕ) (rule : Parsed (List ℕ)) (r : Numbers) : Type 0 where
   pub reads : rule ≡ pick (r .good) (good (take n (r .values)) (drop (r .next) s)) bad
-  pub all : length (r .values) ≡ 17
+  pub all : length (r .values) ≡ 19
 
 -- ---- the bytes of a line: its first field, two digits a byte
 
@@ -55,10 +42,6 @@ leadingBytes (a ∷ b ∷ l) = let more = (hexValue a * 16 + hexValue b) ∷ lea
 unfoldable pub carried : List ℕ → List ℕ
 carried s = leadingBytes (drop 2 s)
 
--- the call of a letter that takes nothing
-unfoldable pub bareCall : ℕ → Call
-bareCall letter = pick (eqb letter 67) reset counters
-
 -- the call of a letter that takes bytes alone
 unfoldable pub aloneCall : ℕ → List ℕ → Call
 aloneCall letter bytes = pick (eqb letter 88) (readFrame bytes) (readLine bytes)
@@ -70,6 +53,10 @@ roomCall letter bytes n =
 
 unfoldable pub roomMost : ℕ → ℕ
 roomMost letter = pick (eqb letter 66) 64 (pick (eqb letter 87) 600 (pick (eqb letter 106) 2000 greatest32))
+
+-- a call where the line ends at a place
+pub record Ended (s : List ℕ) (end : ℕ) (call r : declared.Call) : Type 0 where
+  pub is : r ≡ pick (leb (length s) end) call Unknown
 
 -- the answer is the call of a rule with nothing behind it, its bytes the first of those that the line carries
 pub record Asks (s : List ℕ) (rule : Parsed Call) (r : declared.Call) : Type 0 where

@@ -2,7 +2,7 @@
 use mathlib.Core.Path.{_≡_, refl, sym, ap, _∙_}
 use mathlib.Core.Bool.{Bool, _&&_}
 use mathlib.Core.List.{List, []}
-use Prim.Native.Nat.{ℕ, _≤_, _<_}
+use Prim.Native.Nat.{ℕ, _≤_}
 use native.Mathlib.Omega.{arith}
 use native.Mathlib.Decide.{decLt}
 use lib.Dec.{leb}
@@ -124,6 +124,7 @@ answered (good (hour s h) rest) = C.Hour (length s) h
 answered (good (hours s room) rest) = C.Hours (length s) room
 answered bad = C.Unknown
 
+-- its bytes are the first of the buffer, and with them it is determined by the call that it stands for
 pub record Known (r : declared.Call) : Type 0 where
   pub bytes : (b : List ℕ) → bytesIn (asCall b r) ≡ take (sizeOf r) b
   pub same : (a b : List ℕ) → take (sizeOf r) a ≡ take (sizeOf r) b → asCall a r ≡ asCall b r

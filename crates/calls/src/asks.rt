@@ -1,8 +1,6 @@
 // Each kind of line, read behind its letter.
 use crate::Call;
-use crate::Flag;
 use crate::GREATEST;
-use crate::Set;
 use crate::Signed;
 use crate::fields;
 use field::Field;
@@ -12,15 +10,25 @@ use text::Num;
 ghost use mathlib.Core.Path.{_≡_};
 ghost use Prim.Native.Nat.{_≤_};
 ghost use lib.ListN.{length, drop};
-ghost use Rattle.laws.specs.Decimal.{good};
 ghost use Rattle.calls.specs.Call.{tickAt, linkAt, settingsAt, restartAt, roomAt, bytesCall, writeFieldAt, readFieldAt, doseAt, onAt};
-ghost use Rattle.calls.specs.Reading.{bareCall, aloneCall, roomCall, roomMost, Asks, Carries};
+ghost use Rattle.calls.specs.Reads.{sizeOf};
+ghost use Rattle.calls.specs.Reading.{aloneCall, roomCall, roomMost, Ended, Asks, Carries};
 
 const TAB: u8 = 9;
 
+// The call, where nothing of the line follows it.
+pub(crate) fn ended(line: &[u8], end: usize, call: Call) -> Call
+    ensures { λ r. ⌜ Ended (now (line .entry)) end call r ⌝ }
+{
+    if end < line.len() {
+        return Call::Unknown;
+    }
+    call
+}
+
 // T sample inputs
 pub(crate) fn tick(line: &[u8]) -> Call
-    ensures { λ r. ⌜ Asks (now (line .entry)) (tickAt (drop 1 (now (line .entry)))) r ⌝ }
+    ensures { λ r. ⌜ Asks (now (line .entry)) (tickAt (drop 1 (now (line .entry)))) r × (sizeOf r ≡ 0) ⌝ }
 {
     let Signed::Good(sample, after) = fields::signed_at(line, 1) else {
         return Call::Unknown;
@@ -28,69 +36,45 @@ pub(crate) fn tick(line: &[u8]) -> Call
     let Num::Good(inputs, end) = text::field_at(line, after, 255) else {
         return Call::Unknown;
     };
-    if end < line.len() {
-        return Call::Unknown;
-    }
-    Call::Tick(sample, inputs as u8)
+    ended(line, end, Call::Tick(sample, inputs as u8))
 }
 
 // L 0 or 1
 pub(crate) fn link(line: &[u8]) -> Call
     ensures { λ r. ⌜ Asks (now (line .entry)) (linkAt (drop 1 (now (line .entry)))) r ⌝ }
 {
-    let Flag::Good(on, end) = fields::flag_at(line, 1) else {
+    let Num::Good(on, end) = text::field_at(line, 1, 1) else {
         return Call::Unknown;
     };
-    if end < line.len() {
-        return Call::Unknown;
-    }
-    Call::Link(on)
+    ended(line, end, Call::Link(on == 1))
 }
 
 // S SET
 pub(crate) fn set(line: &[u8]) -> Call
     ensures { λ r. ⌜ Asks (now (line .entry)) (settingsAt (drop 1 (now (line .entry)))) r ⌝ }
 {
-    let Set::Good(set, end) = fields::set_at(line, 1) else {
-        return Call::Unknown;
-    };
-    if end < line.len() {
+    let numbers = fields::numbers_at(line, 1, 17);
+    if !numbers.good {
         return Call::Unknown;
     }
-    Call::Settings(set)
-}
-
-// C or Q alone
-pub(crate) fn bare(line: &[u8], letter: u8) -> Call
-    ensures { λ r. ⌜ Asks (now (line .entry)) (good (bareCall letter) (drop 1 (now (line .entry)))) r ⌝ }
-{
-    if 1 < line.len() {
-        return Call::Unknown;
-    }
-    if letter == b'C' {
-        Call::Reset
-    } else {
-        Call::Counters
-    }
+    let v = numbers.values;
+    ended(line, numbers.next, Call::Settings(fields::set_of(v)))
 }
 
 // N SET count total
 pub(crate) fn restart(line: &[u8]) -> Call
     ensures { λ r. ⌜ Asks (now (line .entry)) (restartAt (drop 1 (now (line .entry)))) r ⌝ }
 {
-    let Set::Good(set, after_set) = fields::set_at(line, 1) else {
-        return Call::Unknown;
-    };
-    let Num::Good(count, after_count) = text::field_at(line, after_set, GREATEST) else {
-        return Call::Unknown;
-    };
-    let Num::Good(total, end) = text::field_at(line, after_count, GREATEST) else {
-        return Call::Unknown;
-    };
-    if end < line.len() {
+    let numbers = fields::numbers_at(line, 1, 19);
+    if !numbers.good {
         return Call::Unknown;
     }
-    Call::Restart(set, count, total)
+    let v = numbers.values;
+    ended(
+        line,
+        numbers.next,
+        Call::Restart(fields::set_of(v), v[17], v[18]),
+    )
 }
 
 // The call of a letter that takes bytes and a number.
@@ -119,10 +103,7 @@ pub(crate) fn room(line: &[u8], letter: u8, most: u32) -> Call
     let Num::Good(number, end) = text::field_at(line, 2 + 2 * n, most) else {
         return Call::Unknown;
     };
-    if end < line.len() {
-        return Call::Unknown;
-    }
-    room_call(letter, n, number)
+    ended(line, end, room_call(letter, n, number))
 }
 
 // X and l: bytes alone.
@@ -134,14 +115,10 @@ pub(crate) fn alone(line: &[u8], letter: u8) -> Call
         return Call::Unknown;
     }
     let n = fields::count(line);
-    if 2 + 2 * n < line.len() {
-        return Call::Unknown;
-    }
     if letter == b'X' {
-        Call::ReadFrame(n)
-    } else {
-        Call::ReadLine(n)
+        return ended(line, 2 + 2 * n, Call::ReadFrame(n));
     }
+    ended(line, 2 + 2 * n, Call::ReadLine(n))
 }
 
 // G weight stable over point
@@ -151,24 +128,22 @@ pub(crate) fn weight(line: &[u8]) -> Call
     let Signed::Good(value, after_value) = fields::signed_at(line, 1) else {
         return Call::Unknown;
     };
-    let Flag::Good(stable, after_stable) = fields::flag_at(line, after_value) else {
+    let Num::Good(stable, after_stable) = text::field_at(line, after_value, 1) else {
         return Call::Unknown;
     };
-    let Flag::Good(over, after_over) = fields::flag_at(line, after_stable) else {
+    let Num::Good(over, after_over) = text::field_at(line, after_stable, 1) else {
         return Call::Unknown;
     };
     let Num::Good(point, end) = text::field_at(line, after_over, 255) else {
         return Call::Unknown;
     };
-    if end < line.len() {
-        return Call::Unknown;
-    }
-    Call::WriteField(Weight {
+    let weight = Weight {
         value,
-        stable,
-        over,
+        stable: stable == 1,
+        over: over == 1,
         point: point as u8,
-    })
+    };
+    ended(line, end, Call::WriteField(weight))
 }
 
 // K four bytes
@@ -182,15 +157,13 @@ pub(crate) fn four(line: &[u8]) -> Call
     if fields::count(line) != 4 {
         return Call::Unknown;
     }
-    if 10 < line.len() {
-        return Call::Unknown;
-    }
-    Call::ReadField(Field {
+    let field = Field {
         low: fields::byte_of(line, 0),
         middle: fields::byte_of(line, 1),
         high: fields::byte_of(line, 2),
         con: fields::byte_of(line, 3),
-    })
+    };
+    ended(line, 10, Call::ReadField(field))
 }
 
 // D hour count amount settled room
@@ -204,19 +177,14 @@ pub(crate) fn dose(line: &[u8]) -> Call
     let Num::Good(room, end) = text::field_at(line, numbers.next, 64) else {
         return Call::Unknown;
     };
-    if end < line.len() {
-        return Call::Unknown;
-    }
     let v = numbers.values;
-    Call::WriteLine(
-        Line::Dose {
-            hour: v[0],
-            count: v[1],
-            amount: v[2],
-            settled: v[3],
-        },
-        room as usize,
-    )
+    let dose = Line::Dose {
+        hour: v[0],
+        count: v[1],
+        amount: v[2],
+        settled: v[3],
+    };
+    ended(line, end, Call::WriteLine(dose, room as usize))
 }
 
 // H hour room
@@ -229,8 +197,5 @@ pub(crate) fn on(line: &[u8]) -> Call
     let Num::Good(room, end) = text::field_at(line, after, 64) else {
         return Call::Unknown;
     };
-    if end < line.len() {
-        return Call::Unknown;
-    }
-    Call::WriteLine(Line::On { hour }, room as usize)
+    ended(line, end, Call::WriteLine(Line::On { hour }, room as usize))
 }

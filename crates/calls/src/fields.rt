@@ -1,8 +1,6 @@
 // Numbers and bytes, read at a place of a line.
-use crate::Flag;
 use crate::GREATEST;
 use crate::Numbers;
-use crate::Set;
 use crate::Signed;
 use settings::Settings;
 use text::Num;
@@ -11,59 +9,34 @@ ghost use mathlib.Core.Bool.{true};
 ghost use Prim.Native.Nat.{_≤_, _<_};
 ghost use lib.ListN.{length, take, drop, getD};
 ghost use lib.Seq.{sets};
-ghost use Rattle.laws.specs.Decimal.{numberAt};
 ghost use Rattle.settings.specs.Cases.{setOf};
-ghost use Rattle.calls.specs.Call.{flagField, minus, plus, signedField, isHex, hexValue, numbersField, setField};
-ghost use Rattle.calls.specs.Reading.{leadsSigned, leadsFlag, leadsSet, Yields, Counts, carried};
+ghost use Rattle.calls.specs.Call.{signedField, isHex, hexValue, numbersField};
+ghost use Rattle.calls.specs.Reading.{ScansSigned, Counts, carried};
 
 const TAB: u8 = 9;
 
 const MINUS: u8 = 45;
 
-// A tab and 0 or 1 at a place.
-pub(crate) fn flag_at(s: &[u8], at: usize) -> Flag
-    ensures { λ r. ⌜ Yields leadsFlag (now (s .entry)) (flagField (drop at (now (s .entry)))) r ⌝ }
+// A tab and a number that may begin with a minus, at a place; 0 has none.
+pub(crate) fn signed_at(s: &[u8], at: usize) -> Signed
+    ensures { λ r. ⌜ ScansSigned (now (s .entry)) (signedField (drop at (now (s .entry)))) r ⌝ }
 {
-    let Num::Good(v, next) = text::field_at(s, at, 1) else {
-        return Flag::Bad;
-    };
-    Flag::Good(v == 1, next)
-}
-
-// What follows a minus: a number that is not 0.
-fn minus_at(s: &[u8], at: usize) -> Signed
-    ensures { λ r. ⌜ Yields leadsSigned (now (s .entry)) (minus (numberAt 2147483648 (drop at (now (s .entry))))) r ⌝ }
-{
-    let Num::Good(v, next) = text::number_at(s, at, 2147483648) else {
+    if text::byte_at(s, at) != TAB {
+        return Signed::Bad;
+    }
+    if text::byte_at(s, at + 1) != MINUS {
+        let Num::Good(v, next) = text::number_at(s, at + 1, 2147483647) else {
+            return Signed::Bad;
+        };
+        return Signed::Good(v as i32, next);
+    }
+    let Num::Good(v, next) = text::number_at(s, at + 2, 2147483648) else {
         return Signed::Bad;
     };
     if v == 0 {
         return Signed::Bad;
     }
     Signed::Good((0 - v as i64) as i32, next)
-}
-
-// A number without a minus.
-fn plus_at(s: &[u8], at: usize) -> Signed
-    ensures { λ r. ⌜ Yields leadsSigned (now (s .entry)) (plus (numberAt 2147483647 (drop at (now (s .entry))))) r ⌝ }
-{
-    let Num::Good(v, next) = text::number_at(s, at, 2147483647) else {
-        return Signed::Bad;
-    };
-    Signed::Good(v as i32, next)
-}
-
-// A tab and a number that may begin with a minus, at a place.
-pub(crate) fn signed_at(s: &[u8], at: usize) -> Signed
-    ensures { λ r. ⌜ Yields leadsSigned (now (s .entry)) (signedField (drop at (now (s .entry)))) r ⌝ }
-{
-    if text::byte_at(s, at) != TAB {
-        return Signed::Bad;
-    }
-    if text::byte_at(s, at + 1) == MINUS {
-        return minus_at(s, at + 2);
-    }
-    plus_at(s, at + 1)
 }
 
 // Whether a byte is a hexadecimal digit, in upper case.
@@ -130,10 +103,10 @@ pub(crate) fn store(s: &[u8], n: usize, out: &mut [u8])
 
 // n numbers, a tab before each.
 pub(crate) fn numbers_at(s: &[u8], at: usize, n: usize) -> Numbers
-    requires { ⌜ n ≤ 17 ⌝ }
+    requires { ⌜ n ≤ 19 ⌝ }
     ensures { λ r. ⌜ Counts (now (s .entry)) n (numbersField n (drop at (now (s .entry)))) r ⌝ }
 {
-    let mut values = [0u32; 17];
+    let mut values = [0u32; 19];
     let mut k: usize = 0;
     let mut p = at;
     while k < n {
@@ -155,8 +128,8 @@ pub(crate) fn numbers_at(s: &[u8], at: usize, n: usize) -> Numbers
     }
 }
 
-// The set of 17 values in the table's order.
-fn set_of(v: [u32; 17]) -> Settings
+// The set of the first 17 values, in the table's order.
+pub(crate) fn set_of(v: [u32; 19]) -> Settings
     ensures { λ r. ⌜ r ≡ setOf v ⌝ }
 {
     Settings {
@@ -178,16 +151,4 @@ fn set_of(v: [u32; 17]) -> Settings
         serial: v[15],
         point: v[16],
     }
-}
-
-// A set at a place.
-pub(crate) fn set_at(s: &[u8], at: usize) -> Set
-    ensures { λ r. ⌜ Yields leadsSet (now (s .entry)) (setField (drop at (now (s .entry)))) r ⌝ }
-{
-    let numbers = numbers_at(s, at, 17);
-    if !numbers.good {
-        return Set::Bad;
-    }
-    let values = numbers.values;
-    Set::Good(set_of(values), numbers.next)
 }

@@ -19,23 +19,11 @@ enum Signed {
     Bad,
 }
 
-// 0 or 1, read at a place.
-enum Flag {
-    Good(bool, usize),
-    Bad,
-}
-
 // n numbers read at a place; the others are 0.
 struct Numbers {
     good: bool,
     next: usize,
-    values: [u32; 17],
-}
-
-// A set read at a place.
-enum Set {
-    Good(Settings, usize),
-    Bad,
+    values: [u32; 19],
 }
 
 // Every call of the box and of its writers and readers, or that a line is none. A call with bytes says how many stand at the start of the lent buffer.
@@ -78,18 +66,18 @@ pub const BYTES: usize = 2048;
 // The bytes of the longest line, its LF left out.
 const LONGEST: usize = 4095;
 
-// The call of a line by its letter; its bytes are only looked at.
+// The call of a line that is no tick, by its letter; its bytes are only looked at.
 fn call_of(line: &[u8]) -> Call
-    requires { ⌜ length (now line) ≤ 4095 ⌝ }
+    requires line { ⌜ length (now line) ≤ 4095 ⌝ }
+    requires letter { ⌜ (getD (now line) 0 0 ≡ 84 → ⊥) ⌝ }
     ensures { λ r. ⌜ Asks (now (line .entry)) (callBy (getD (now (line .entry)) 0 0) (drop 1 (now (line .entry)))) r ⌝ }
 {
     let letter = text::byte_at(line, 0);
     match letter {
-        b'T' => asks::tick(line),
         b'L' => asks::link(line),
         b'S' => asks::set(line),
-        b'C' => asks::bare(line, letter),
-        b'Q' => asks::bare(line, letter),
+        b'C' => asks::ended(line, 1, Call::Reset),
+        b'Q' => asks::ended(line, 1, Call::Counters),
         b'N' => asks::restart(line),
         b'B' => asks::room(line, letter, 64),
         b'W' => asks::room(line, letter, 600),
@@ -129,6 +117,9 @@ pub fn read(line: &[u8], bytes: &mut [u8]) -> Call
     }
     if LONGEST < line.len() {
         return Call::Unknown;
+    }
+    if text::byte_at(line, 0) == b'T' {
+        return asks::tick(line);
     }
     let call = call_of(line);
     fields::store(line, size_of(call), bytes);

@@ -35,16 +35,8 @@ unfolding sizeOf
 size-of-spec =
     tie.close
     (tie.spec
-    (λ c. search needs)
-    (λ c. search needs)
-    (λ c. search needs)
-    (λ c. search needs)
-    (λ c. search needs)
-    (λ c. search needs)
-    (λ c. sym (ap sizeOf (c .before .call .given .1)))
-    (λ c. sym (ap sizeOf (c .before .call2 .given .1)))
-    (λ c. sym (ap sizeOf (c .before .call3 .given .1)))
-    (λ c. sym (ap sizeOf (c .before .call4 .given .1)))
-    (λ c. sym (ap sizeOf (c .before .call5 .given .1)))
-    (λ c. sym (ap sizeOf (c .before .call6 .given .1)))
-    (λ c. none (c .before .args .call) (c .match .keys7)))
+    (λ c. search needs) (λ c. search needs) (λ c. search needs) (λ c. search needs) (λ c. search needs)
+    (λ c. search needs) (λ c. sym (ap sizeOf (c .before .call .given .1)))
+    (λ c. sym (ap sizeOf (c .before .call2 .given .1))) (λ c. sym (ap sizeOf (c .before .call3 .given .1)))
+    (λ c. sym (ap sizeOf (c .before .call4 .given .1))) (λ c. sym (ap sizeOf (c .before .call5 .given .1)))
+    (λ c. sym (ap sizeOf (c .before .call6 .given .1))) (λ c. none (c .before .args .call) (c .match .keys7)))

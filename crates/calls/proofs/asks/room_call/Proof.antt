@@ -1,4 +1,4 @@
-use mathlib.Core.Path.{_≡_, refl, sym, ap, _∙_, subst}
+use mathlib.Core.Path.{_≡_, refl, sym, _∙_, subst}
 use Prim.Native.Nat.{ℕ, _≤_}
 use borrow.Author.Tests.{ne-eqb}
 use Rattle.laws.specs.Pick.{pick, pick-f}
@@ -6,7 +6,6 @@ use Rattle.calls.specs.Reads.{asCall, sizeOf, Within}
 use Rattle.calls.specs.Reading.{roomCall, roomMost, Carries}
 use Rattle.calls.proofs.Steps.{good-as}
 use Rattle.calls.specs.declared.Call as declared
-use borrow.Author.Needs.{needs}
 use Rattle.calls.proofs.asks.room_call.Statement.{statement}
 use Rattle.calls.proofs.asks.room_call.Tie as tie
 

@@ -1,11 +1,10 @@
-use mathlib.Core.Path.{_≡_, sym, ap, _∙_}
+use mathlib.Core.Path.{sym, ap, _∙_}
 use Prim.Native.Nat.{ℕ, _+_, _*_}
 use native.Mathlib.Omega.{arith}
 use denote.Ref.{now}
 use lib.ListN.{getD}
 use Rattle.calls.specs.Call.{hexValue}
 use Rattle.calls.proofs.Hex.{carried-at, carried-inside}
-use borrow.Author.Needs.{needs}
 use Rattle.calls.proofs.fields.byte_of.Statement.{statement}
 use Rattle.calls.proofs.fields.byte_of.Tie as tie
 
@@ -29,5 +28,4 @@ byte-of-spec =
     (λ c. omega (arith, carried-inside (now (c .before .before .before .args .s)) (c .before .before .before .args .k) (c .before .before .before .pre)))
     (λ c. omega (arith, carried-inside (now (c .before .before .before .before .args .s)) (c .before .before .before .before .args .k) (c .before .before .before .before .pre)))
     (λ c κs. carried-at (now (c .before .before .before .before .args .s)) (c .before .before .before .before .args .k) (c .before .before .before .before .pre) .low)
-    (λ c. omega (arith, c .hex-value2 .ensures .1, c .before .before .hex-value .ensures .1))
-    returns)
+    (λ c. omega (arith, c .hex-value2 .ensures .1, c .before .before .hex-value .ensures .1)) returns)

@@ -44,19 +44,9 @@ pub count-spec : {M : Type 1} → statement M
 count-spec =
     tie.close
     (tie.spec
-    Inv-loop
-    μ-loop
-    loop-holds
-    (λ c. omega (arith, c .before .before .pre))
-    (λ c. search needs)
-    (λ c κs. search needs)
-    returns
-    (λ c. omega (arith, c .before .before .before .loop-test .taken))
-    (λ c. omega (arith, c .before .before .before .before .loop-test .taken))
-    (λ c κs. search needs)
-    returns-2
+    Inv-loop μ-loop loop-holds (λ c. omega (arith, c .before .before .pre)) (λ c. search needs)
+    (λ c κs. search needs) returns (λ c. omega (arith, c .before .before .before .loop-test .taken))
+    (λ c. omega (arith, c .before .before .before .before .loop-test .taken)) (λ c κs. search needs) returns-2
     (λ c. omega (arith, c .before .before .before .before .before .before .loop-test .taken))
     (λ c. omega (arith, c .before .before .before .before .before .before .loop-test .taken))
-    (λ c. omega (arith, c .before .before .before .before .before .before .loop-test .taken))
-    loop-again
-    returns-3)
+    (λ c. omega (arith, c .before .before .before .before .before .before .loop-test .taken)) loop-again returns-3)

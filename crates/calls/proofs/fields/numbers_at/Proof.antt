@@ -1,5 +1,5 @@
 -- What is left from the next number on, after those that are there, gives the whole row.
-use mathlib.Core.Path.{_≡_, sym, ap, _∙_}
+use mathlib.Core.Path.{_≡_, sym, _∙_}
 use mathlib.Core.List.{[]}
 use Prim.Native.Nat.{_-_, _≤_, _<_}
 use native.Mathlib.Omega.{arith}
@@ -13,7 +13,7 @@ use Rattle.calls.proofs.fields.numbers_at.Statement.{statement}
 use Rattle.calls.proofs.fields.numbers_at.Tie as tie
 
 abbrev Inv-loop : tie.InvT-loop
-Inv-loop s at n values₀ k₀ p₀ values k p = (k ≤ n) × (length values ≡ 17) × Left s at n values k p
+Inv-loop s at n values₀ k₀ p₀ values k p = (k ≤ n) × (length values ≡ 19) × Left s at n values k p
 
 abbrev μ-loop : tie.MeasureT-loop
 μ-loop s at n values₀ k₀ p₀ values k p = n - k
@@ -49,16 +49,8 @@ pub numbers-at-spec : {M : Type 1} → statement M
 numbers-at-spec =
     tie.close
     (tie.spec
-    Inv-loop
-    μ-loop
+    Inv-loop μ-loop
     (λ c. (omega arith, search needs, left-none (now (c .before .args .s)) (c .before .args .at) (c .before .args .n) []))
-    (λ c κs. search needs)
-    (λ c. search needs)
-    (λ c. search needs)
-    returns
-    (λ c. search needs)
+    (λ c κs. search needs) (λ c. search needs) (λ c. search needs) returns (λ c. search needs)
     (λ c. omega (arith, c .before .before .before .before .loop-test .taken, c .before .before .before .before .before .before .before .pre))
-    (λ c. search needs)
-    (λ c. search needs)
-    loop-again
-    returns-2)
+    (λ c. search needs) (λ c. search needs) loop-again returns-2)

@@ -1,62 +1,61 @@
-use mathlib.Core.Path.{_≡_, sym, ap, _∙_}
-use Prim.Native.Nat.{ℕ, _+_, _<_}
+use mathlib.Core.Path.{sym, ap, _∙_}
+use Prim.Native.Nat.{ℕ, _≤_}
 use native.Mathlib.Omega.{arith}
 use denote.Ref.{now}
-use lib.ListN.{length, drop}
-use Rattle.laws.specs.Decimal.{numberAt}
+use lib.IntN.{pos}
+use lib.ListN.{drop}
+use mir.Syntax.{w32}
+use mir.Facts.{toZ-pos}
+use Rattle.laws.specs.Whole.{fits32}
+use Rattle.laws.specs.Decimal.{good}
 use Rattle.text.specs.Scan.{TAB}
-use Rattle.text.specs.ScanLaws.{byte-inside, expect-hit, expect-miss}
-use Rattle.calls.specs.Call.{minus, signedAt, signedField}
-use Rattle.calls.proofs.Figures.{signed-minus, signed-plus}
+use Rattle.text.specs.ScanLaws.{byte-inside, expect-miss}
+use Rattle.calls.specs.Call.{minus, plus, signedAt, signedField}
+use Rattle.calls.proofs.Steps.{num, number-most, good-as}
+use Rattle.calls.proofs.Figures.{minus-some, away-fits, narrow-fits, below, tab-inside, minus-inside, signed-minus, signed-plus}
 use borrow.Author.Needs.{needs}
 use Rattle.calls.proofs.fields.signed_at.Statement.{statement}
 use Rattle.calls.proofs.fields.signed_at.Tie as tie
 
--- the tab is one of the bytes
-module _ (c : tie.Else1) where
-  there : c .before .before .before .args .at < length (now (c .before .before .before .args .s))
-  there = byte-inside (now (c .before .before .before .args .s)) (c .before .before .before .args .at) (omega (arith, c .before .byte-at .ensures, c .if1 .left))
+high : (c : tie.After-known-told) → c .before .v .given .0 .0 ≤ 2147483647
+high c = number-most 2147483647 _ (num (c .before .before .before .number-at .ensures) (c .before .v .given .1))
 
-  hit : signedField (drop (c .before .before .before .args .at) (now (c .before .before .before .args .s))) ≡ signedAt (drop (c .before .before .before .args .at + 1) (now (c .before .before .before .args .s)))
-  unfolding signedField
-  hit = expect-hit (now (c .before .before .before .args .s)) (c .before .before .before .args .at) TAB signedAt (omega arith) (sym (c .before .byte-at .ensures) ∙ c .if1 .left)
+low : (c : tie.Else3) → c .before .before .v2 .given .0 .0 ≤ 2147483648
+low c = number-most 2147483648 _ (num (c .before .before .before .before .number-at2 .ensures) (c .before .before .v2 .given .1))
 
--- the minus is one of the bytes
-minus-there : (c : tie.Then2) → c .before .before .before .before .before .args .at + 1 < length (now (c .before .before .before .before .before .args .s))
-minus-there c = byte-inside (now (c .before .before .before .before .before .args .s)) (c .before .before .before .before .before .args .at + 1) (omega (arith, c .before .byte-at2 .ensures, c .if2 .taken))
-
-returns : tie.Need-returns
-unfolding signedField
-returns c = record { reads = expect-miss (now (c .before .before .before .args .s)) (c .before .before .before .args .at) TAB signedAt (λ h. c .if1 .taken (c .before .byte-at .ensures ∙ h)) }
-
-returns-2 : tie.Need-returns-2
-returns-2 c =
-    let a = c .before .before .before .before .before .before .args in
-    let z : a .at + 1 + 1 ≡ a .at + 2 = omega arith in
-    record {
-      reads =
-          hit (c .before .before .before)
-          ∙ signed-minus (now (a .s)) (a .at + 1) (sym (c .before .before .byte-at2 .ensures) ∙ c .before .if2 .taken)
-          ∙ ap (λ (n : ℕ). minus (numberAt 2147483648 (drop n (now (a .s))))) z
-          ∙ c .minus-at .ensures .reads;
-    }
+some : (c : tie.Else3) → 1 ≤ c .before .before .v2 .given .0 .0
+some c = let h = c .if3 .left in omega arith
 
 returns-3 : tie.Need-returns-3
+unfolding plus
 returns-3 c =
-    let a = c .before .before .before .before .before .before .args in
-    record { reads = hit (c .before .before .before) ∙ signed-plus (now (a .s)) (a .at + 1) (λ h. c .before .if2 .left (c .before .before .byte-at2 .ensures ∙ h)) ∙ c .plus-at .ensures .reads }
+    let m = high c in
+    record { reads = signed-plus (now (c .before .before .before .before .before .before .before .before .before .args .s)) (c .before .before .before .before .before .before .before .before .before .args .at) (c .before .before .before .before .before .before .before .byte-at .ensures) (c .before .before .before .before .before .before .if1 .left) (c .before .before .before .before .before .byte-at2 .ensures) (c .before .before .before .before .if2 .taken) ∙ ap plus (num (c .before .before .before .number-at .ensures) (c .before .v .given .1)) ∙ good-as (sym (toZ-pos w32 {n = c .before .v .given .0 .0} (omega arith))) }
+
+returns-5 : tie.Need-returns-5
+unfolding minus
+returns-5 c =
+    record { reads = signed-minus (now (c .before .before .before .before .before .before .before .before .before .before .args .s)) (c .before .before .before .before .before .before .before .before .before .before .args .at) (c .before .before .before .before .before .before .before .before .byte-at .ensures) (c .before .before .before .before .before .before .before .if1 .left) (c .before .before .before .before .before .before .byte-at2 .ensures) (c .before .before .before .before .before .if2 .left) ∙ ap minus (num (c .before .before .before .before .number-at2 .ensures) (c .before .before .v2 .given .1)) ∙ ap (λ (n : ℕ). minus (good n (drop (c .before .before .v2 .given .0 .1 .0) (now (c .before .before .before .before .before .before .before .before .before .before .args .s))))) (c .if3 .taken) }
+
+returns-6 : tie.Need-returns-6
+returns-6 c =
+    record { reads = signed-minus (now (c .before .before .before .before .before .before .before .before .before .before .args .s)) (c .before .before .before .before .before .before .before .before .before .before .args .at) (c .before .before .before .before .before .before .before .before .byte-at .ensures) (c .before .before .before .before .before .before .before .if1 .left) (c .before .before .before .before .before .before .byte-at2 .ensures) (c .before .before .before .before .before .if2 .left) ∙ ap minus (num (c .before .before .before .before .number-at2 .ensures) (c .before .before .v2 .given .1)) ∙ minus-some _ _ (some c) ∙ good-as (sym (below _ (some c) (low c))) }
 
 pub signed-at-spec : {M : Type 1} → statement M
+unfolding signedField minus plus
 signed-at-spec =
     tie.close
     (tie.spec
     (λ c κs. search needs)
-    returns
-    (λ c. omega (arith, there c))
+    (λ c. record { reads = expect-miss (now (c .before .before .before .args .s)) (c .before .before .before .args .at) TAB signedAt (λ h. c .if1 .taken (c .before .byte-at .ensures ∙ h)) })
+    (λ c. omega (arith, byte-inside (now (c .before .before .before .args .s)) (c .before .before .before .args .at) (omega (arith, c .before .byte-at .ensures, c .if1 .left))))
     (λ c κs. search needs)
-    (λ c. omega (arith, minus-there c))
-    (λ c κs. search needs)
-    returns-2
-    (λ c. omega (arith, there (c .before .before)))
-    (λ c κs. search needs)
-    returns-3)
+    (λ c. omega (arith, tab-inside (now (c .before .before .before .before .before .args .s)) (c .before .before .before .before .before .args .at) (c .before .before .before .byte-at .ensures) (c .before .before .if1 .left) (c .before .byte-at2 .ensures)))
+    (λ c κs. search needs) (λ c. search needs) (λ c. search needs)
+    (λ c. record { reads = signed-plus (now (c .before .before .before .before .before .before .before .before .args .s)) (c .before .before .before .before .before .before .before .before .args .at) (c .before .before .before .before .before .before .byte-at .ensures) (c .before .before .before .before .before .if1 .left) (c .before .before .before .before .byte-at2 .ensures) (c .before .before .before .if2 .taken) ∙ ap plus (num (c .before .before .number-at .ensures) (c .enum-told .given .1)) })
+    (λ c. fits32 (pos (c .before .v .given .0 .0)) (omega (arith, high c))) returns-3
+    (λ c. omega (arith, minus-inside (now (c .before .before .before .before .before .args .s)) (c .before .before .before .before .before .args .at) (c .before .before .before .byte-at .ensures) (c .before .before .if1 .left) (c .before .byte-at2 .ensures) (c .if2 .left)))
+    (λ c κs. search needs) (λ c. search needs) (λ c. search needs)
+    (λ c. record { reads = signed-minus (now (c .before .before .before .before .before .before .before .before .args .s)) (c .before .before .before .before .before .before .before .before .args .at) (c .before .before .before .before .before .before .byte-at .ensures) (c .before .before .before .before .before .if1 .left) (c .before .before .before .before .byte-at2 .ensures) (c .before .before .before .if2 .left) ∙ ap minus (num (c .before .before .number-at2 .ensures) (c .enum-told2 .given .1)) })
+    returns-5 (λ c. search needs) (λ c. away-fits _ (some c) (low c)) (λ c. narrow-fits _ (some c) (low c))
+    returns-6)

@@ -1,4 +1,4 @@
-use mathlib.Core.Path.{_≡_, refl, sym, ap, _∙_}
+use mathlib.Core.Path.{_≡_, refl, ap, _∙_}
 use mathlib.Core.List.{List}
 use Prim.Native.Nat.{ℕ, _-_, _≤_}
 use native.Mathlib.Omega.{arith}
@@ -34,13 +34,7 @@ pub store-spec : {M : Type 1} → statement M
 store-spec =
     tie.close
     (tie.spec
-    Inv-loop
-    μ-loop
-    (λ c. (omega arith, search needs, refl))
+    Inv-loop μ-loop (λ c. (omega arith, search needs, refl))
     (λ c κs. omega (arith, c .loop-test .taken, c .before .before .before .before .pre))
     (λ c. omega (arith, c .before .loop-test .taken, c .before .before .before .before .before .pre, c .before .before .loop .inv .1))
-    (λ c. search needs)
-    (λ c. search needs)
-    loop-again
-    (λ c. search needs)
-    returns)
+    (λ c. search needs) (λ c. search needs) loop-again (λ c. search needs) returns)

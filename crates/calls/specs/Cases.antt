@@ -1,0 +1,72 @@
+-- Some lines, and the calls that they are. Assumes nothing.
+use mathlib.Core.Path.{_≡_, refl}
+use mathlib.Core.Bool.{true, false}
+use mathlib.Core.List.{List, [], _∷_, _++_}
+use Prim.Native.Nat.{ℕ}
+use lib.IntN.{negsuc}
+use Rattle.laws.specs.Pick.{pick}
+use Rattle.laws.specs.Decimal.{good, bad, numberAt, digitsFrom, isDigit}
+use Rattle.settings.specs.declared.Settings.{Settings}
+use Rattle.settings.specs.Cases.{setOf}
+use Rattle.field.specs.Field.{four, weight}
+use Rattle.journal.specs.declared.Line.the-variants.{Dose}
+use Rattle.text.specs.Scan.{expect, onGood, fieldAt}
+use Rattle.calls.specs.Call.{tick, settings, restart, request, readFrame, writeField, readField, writeLine, hour, minus, plus, signedAt, signedField, isHex, hexValue, bytesAt, bytesField, flagField, numbersField, fieldFrom, tickAt, linkAt, settingsAt, restartAt, roomAt, bytesCall, writeFieldAt, readFieldAt, doseAt, onAt, callBy, atEnd, callOf}
+
+-- to unfold this is to unfold every rule of what a line asks
+unfoldable pub readings : Unit {0}
+unfolding callOf atEnd callBy tickAt linkAt settingsAt restartAt roomAt bytesCall writeFieldAt readFieldAt doseAt onAt fieldFrom setOf numbersField bytesField bytesAt hexValue isHex signedField signedAt plus minus flagField fieldAt expect onGood numberAt digitsFrom isDigit pick
+readings = tt
+
+-- a sample of -2,147,483,648..2,147,483,647 and inputs of 0..255; no leading zero, no -0, nothing behind the inputs
+pub ticks :
+    (callOf (84 ∷ 9 ∷ 45 ∷ 53 ∷ 9 ∷ 56 ∷ []) ≡ good (tick (negsuc 4) 8) [])
+    × (callOf (84 ∷ 9 ∷ 45 ∷ 50 ∷ 49 ∷ 52 ∷ 55 ∷ 52 ∷ 56 ∷ 51 ∷ 54 ∷ 52 ∷ 56 ∷ 9 ∷ 50 ∷ 53 ∷ 53 ∷ []) ≡ good (tick (negsuc 2147483647) 255) [])
+    × (callOf (84 ∷ 9 ∷ 50 ∷ 49 ∷ 52 ∷ 55 ∷ 52 ∷ 56 ∷ 51 ∷ 54 ∷ 52 ∷ 56 ∷ 9 ∷ 48 ∷ []) ≡ bad)
+    × (callOf (84 ∷ 9 ∷ 45 ∷ 48 ∷ 9 ∷ 48 ∷ []) ≡ bad)
+    × (callOf (84 ∷ 9 ∷ 48 ∷ 53 ∷ 9 ∷ 48 ∷ []) ≡ bad)
+    × (callOf (84 ∷ 9 ∷ 53 ∷ 9 ∷ 50 ∷ 53 ∷ 54 ∷ []) ≡ bad)
+    × (callOf (84 ∷ 9 ∷ 53 ∷ 9 ∷ 56 ∷ 9 ∷ []) ≡ bad)
+    × (callOf (84 ∷ 9 ∷ 53 ∷ 9 ∷ 56 ∷ 13 ∷ []) ≡ bad)
+unfolding readings
+ticks = (refl, refl, refl, refl, refl, refl, refl, refl)
+
+-- sixteen settings: 1 to 16
+abbrev sixteen : List ℕ
+sixteen = 9 ∷ 49 ∷ 9 ∷ 50 ∷ 9 ∷ 51 ∷ 9 ∷ 52 ∷ 9 ∷ 53 ∷ 9 ∷ 54 ∷ 9 ∷ 55 ∷ 9 ∷ 56 ∷ 9 ∷ 57 ∷ 9 ∷ 49 ∷ 48 ∷ 9 ∷ 49 ∷ 49 ∷ 9 ∷ 49 ∷ 50 ∷ 9 ∷ 49 ∷ 51 ∷ 9 ∷ 49 ∷ 52 ∷ 9 ∷ 49 ∷ 53 ∷ 9 ∷ 49 ∷ 54 ∷ []
+
+-- each setting by its name
+abbrev inOrder : Settings
+inOrder = record { algorithm = 1; capacity = 2; dose = 3; pc = 4; pf = 5; level = 6; p7 = 7; p8 = 8; p9 = 9; p11 = 10; o = 11; in1 = 12; in2 = 13; in3 = 14; address = 15; serial = 16; point = 4294967295 }
+
+-- the 17 settings in the order of the table; the stored count stands before the total
+pub sets :
+    (callOf (83 ∷ sixteen ++ 9 ∷ 52 ∷ 50 ∷ 57 ∷ 52 ∷ 57 ∷ 54 ∷ 55 ∷ 50 ∷ 57 ∷ 53 ∷ []) ≡ good (settings inOrder) [])
+    × (callOf (83 ∷ sixteen) ≡ bad)
+    × (callOf (83 ∷ sixteen ++ 9 ∷ 52 ∷ 50 ∷ 57 ∷ 52 ∷ 57 ∷ 54 ∷ 55 ∷ 50 ∷ 57 ∷ 54 ∷ []) ≡ bad)
+    × (callOf (78 ∷ sixteen ++ 9 ∷ 52 ∷ 50 ∷ 57 ∷ 52 ∷ 57 ∷ 54 ∷ 55 ∷ 50 ∷ 57 ∷ 53 ∷ 9 ∷ 56 ∷ 9 ∷ 57 ∷ []) ≡ good (restart inOrder 8 9) [])
+    × (callOf (78 ∷ sixteen ++ 9 ∷ 52 ∷ 50 ∷ 57 ∷ 52 ∷ 57 ∷ 54 ∷ 55 ∷ 50 ∷ 57 ∷ 53 ∷ 9 ∷ 56 ∷ []) ≡ bad)
+unfolding readings
+sets = (refl, refl, refl, refl, refl)
+
+-- two digits a byte, in upper case; an empty field is no bytes
+pub hex :
+    (callOf (88 ∷ 9 ∷ []) ≡ good (readFrame []) [])
+    × (callOf (88 ∷ 9 ∷ 70 ∷ 70 ∷ 48 ∷ 65 ∷ []) ≡ good (readFrame (255 ∷ 10 ∷ [])) [])
+    × (callOf (88 ∷ 9 ∷ 70 ∷ 70 ∷ 48 ∷ []) ≡ bad)
+    × (callOf (88 ∷ 9 ∷ 70 ∷ 102 ∷ []) ≡ bad)
+    × (callOf (88 ∷ 9 ∷ 48 ∷ 48 ∷ 9 ∷ []) ≡ bad)
+unfolding readings
+hex = (refl, refl, refl, refl, refl)
+
+-- the order of the fields behind each letter, and the greatest room
+pub fields :
+    (callOf (66 ∷ 9 ∷ 70 ∷ 70 ∷ 48 ∷ 49 ∷ 9 ∷ 54 ∷ 52 ∷ []) ≡ good (request (255 ∷ 1 ∷ []) 64) [])
+    × (callOf (66 ∷ 9 ∷ 9 ∷ 54 ∷ 53 ∷ []) ≡ bad)
+    × (callOf (71 ∷ 9 ∷ 45 ∷ 53 ∷ 9 ∷ 49 ∷ 9 ∷ 48 ∷ 9 ∷ 50 ∷ 53 ∷ 53 ∷ []) ≡ good (writeField (weight (negsuc 4) true false 255)) [])
+    × (callOf (75 ∷ 9 ∷ 48 ∷ 49 ∷ 48 ∷ 50 ∷ 48 ∷ 51 ∷ 48 ∷ 52 ∷ []) ≡ good (readField (four 1 2 3 4)) [])
+    × (callOf (75 ∷ 9 ∷ 48 ∷ 49 ∷ 48 ∷ 50 ∷ 48 ∷ 51 ∷ []) ≡ bad)
+    × (callOf (68 ∷ 9 ∷ 49 ∷ 9 ∷ 50 ∷ 9 ∷ 51 ∷ 9 ∷ 52 ∷ 9 ∷ 54 ∷ 52 ∷ []) ≡ good (writeLine (Dose 1 2 3 4) 64) [])
+    × (callOf (117 ∷ 9 ∷ 9 ∷ 55 ∷ []) ≡ good (hour [] 7) [])
+unfolding readings
+fields = (refl, refl, refl, refl, refl, refl, refl)
