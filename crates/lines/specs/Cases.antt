@@ -1,36 +1,33 @@
 -- Lines, places and steps of an input, run on bytes. Assumes nothing.
 use mathlib.Core.Path.{_≡_, refl}
-use mathlib.Core.Bool.{Bool, true, false, _||_}
-use mathlib.Core.List.{List, [], _∷_, _++_, map}
+use mathlib.Core.Bool.{Bool, true, false}
+use mathlib.Core.List.{List, [], _∷_, _++_}
 use Prim.Native.Nat.{ℕ}
-use lib.ListN.{length, replicate}
+use lib.ListN.{replicate}
 use Rattle.laws.specs.Pick.{pick}
-use Rattle.laws.specs.Over.{over}
 use Rattle.lines.specs.declared.Intake.{Intake}
 use Rattle.lines.specs.declared.Taken.{Taken}
 use Rattle.lines.specs.declared.Next.{Next}
 use Rattle.lines.specs.declared.Next.the-variants.{Line, More}
 use Rattle.lines.specs.Lines.{linesFrom, linesOf, asked, tooLong, begunOf}
-use Rattle.lines.specs.Places.{plainLength, endOf, partOf}
+use Rattle.lines.specs.Places.{plainLength, endOf}
 use Rattle.lines.specs.Intake.{overlong, lineTo, begunTo, nextOf}
 
 -- a line ends in LF and may be empty; what follows the last LF is no line; CR is a byte of its line
 pub lines-parted :
     (linesOf [] (1 ∷ 2 ∷ 10 ∷ 10 ∷ 3 ∷ 10 ∷ 4 ∷ []) ≡ (1 ∷ 2 ∷ []) ∷ [] ∷ (3 ∷ []) ∷ [])
-    × (linesOf (7 ∷ []) (1 ∷ 10 ∷ 2 ∷ 10 ∷ []) ≡ (7 ∷ 1 ∷ []) ∷ (2 ∷ []) ∷ [])
     × (linesOf [] (1 ∷ 13 ∷ 10 ∷ []) ≡ (1 ∷ 13 ∷ []) ∷ [])
     × (linesOf [] (1 ∷ 13 ∷ 2 ∷ 0 ∷ []) ≡ [])
 unfolding linesOf linesFrom asked tooLong pick
-lines-parted = (refl, refl, refl, refl)
+lines-parted = (refl, refl, refl)
 
 -- a line of 4,096 bytes, its LF counted, is handed over whole, one of 4,097 as an empty one; a line that was too long already stays so
 pub longest :
     (tooLong (replicate 4095 48) ≡ false)
     × (tooLong (replicate 4096 48) ≡ true)
     × (linesOf (begunOf true) (1 ∷ 10 ∷ 2 ∷ 10 ∷ []) ≡ [] ∷ (2 ∷ []) ∷ [])
-    × (linesOf (begunOf false) (1 ∷ 10 ∷ []) ≡ (1 ∷ []) ∷ [])
 unfolding linesOf linesFrom asked tooLong begunOf pick
-longest = (refl, refl, refl, refl)
+longest = (refl, refl, refl)
 
 abbrev intake : ℕ → ℕ → Bool → Intake
 intake at have long = record { at = at; have = have; long = long }
@@ -48,13 +45,11 @@ pub steps :
     × (nextOf (intake 3 6 false) two ≡ taken (intake 5 6 false) (Line 3 4))
     × (nextOf (intake 5 6 false) two ≡ taken (intake 5 6 false) More)
     × (nextOf (intake 3 4 false) two ≡ taken (intake 3 4 false) More)
-    × (nextOf (intake 2 6 false) two ≡ taken (intake 3 6 false) (Line 2 2))
     × (nextOf (intake 0 6 true) two ≡ taken (intake 3 6 false) (Line 2 2))
     × (nextOf (intake 5 6 true) two ≡ taken (intake 6 6 true) More)
-    × (nextOf (intake 5 9 false) two ≡ taken (intake 5 9 false) More)
     × (nextOf (intake 9 6 false) two ≡ taken (intake 9 6 false) More)
 unfolding nextOf lineTo begunTo overlong endOf plainLength pick
-steps = (refl, refl, refl, refl, refl, refl, refl, refl, refl)
+steps = (refl, refl, refl, refl, refl, refl, refl)
 
 -- 4,095 bytes wait for their LF, 4,096 are dropped
 pub begun-lines :
@@ -64,12 +59,3 @@ pub begun-lines :
     × (nextOf (intake 0 4097 false) (replicate 4096 48 ++ 10 ∷ []) ≡ taken (intake 4097 4097 false) (Line 4096 4096))
 unfolding nextOf lineTo begunTo overlong endOf plainLength pick
 begun-lines = (refl, refl, refl, refl)
-
--- the bytes from one place to another, as many as there are, are brought to the start; the rest of the buffer is as it was
-pub parts-moved :
-    (partOf 1 3 (5 ∷ 6 ∷ 7 ∷ 8 ∷ []) ≡ 6 ∷ 7 ∷ [])
-    × (partOf 3 9 (5 ∷ 6 ∷ 7 ∷ 8 ∷ []) ≡ 8 ∷ [])
-    × (partOf 3 1 (5 ∷ 6 ∷ 7 ∷ 8 ∷ []) ≡ [])
-    × (over (partOf 1 3 (5 ∷ 6 ∷ 7 ∷ 8 ∷ [])) (5 ∷ 6 ∷ 7 ∷ 8 ∷ []) ≡ 6 ∷ 7 ∷ 7 ∷ 8 ∷ [])
-unfolding partOf over
-parts-moved = (refl, refl, refl, refl)

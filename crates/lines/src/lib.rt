@@ -1,9 +1,8 @@
 // An input that comes in blocks: the next whole line of what is held, and the bytes that are carried over to the next block.
 ghost use mathlib.Core.Path.{_≡_};
-ghost use Prim.Native.Nat.{_≤_, _<_, min};
-ghost use lib.ListN.{length};
+ghost use Prim.Native.Nat.{_≤_, min};
 ghost use Rattle.lines.specs.Places.{endOf, Carries};
-ghost use Rattle.lines.specs.Intake.{startOf, overlong, begunTo, lineTo, nextOf};
+ghost use Rattle.lines.specs.Intake.{startOf, overlong, nextOf};
 
 // What is carried from read to read: the bytes of the buffer from `at` to `have` are not done with; `long` says that the line that they go on is too long already.
 pub struct Intake {
@@ -72,17 +71,35 @@ impl Intake {
         LONGEST < end - self.at
     }
 
-    // The line to the LF at `end`; one that is too long is handed over as an empty one.
-    fn line_to(self, end: usize) -> Taken
-        requires { ⌜ (self .at ≤ end) × (end < self .have) ⌝ }
-        ensures { λ r. ⌜ r ≡ lineTo self end ⌝ }
+    // The next whole line of what is held, or that more has to be read.
+    pub fn next_line(self, buffer: &[u8]) -> Taken
+        ensures { λ r. ⌜ r ≡ nextOf self (now (buffer .entry)) ⌝ }
     {
+        let have = least(self.have, buffer.len());
+        let end = line_end(&buffer[..have], self.at);
+        let over = self.overlong(end);
+        if have <= end {
+            if over {
+                return Taken {
+                    intake: Intake {
+                        at: end,
+                        have: self.have,
+                        long: true,
+                    },
+                    next: Next::More,
+                };
+            }
+            return Taken {
+                intake: self,
+                next: Next::More,
+            };
+        }
         let intake = Intake {
             at: end + 1,
             have: self.have,
             long: false,
         };
-        if self.overlong(end) {
+        if over {
             return Taken {
                 intake,
                 next: Next::Line { from: end, to: end },
@@ -94,37 +111,6 @@ impl Intake {
                 from: self.at,
                 to: end,
             },
-        }
-    }
-
-    // A begun line is left, or dropped once it is too long.
-    fn begun_to(self, end: usize) -> Intake
-        requires { ⌜ self .at ≤ end ⌝ }
-        ensures { λ r. ⌜ r ≡ begunTo self end ⌝ }
-    {
-        if self.overlong(end) {
-            return Intake {
-                at: end,
-                have: self.have,
-                long: true,
-            };
-        }
-        self
-    }
-
-    // The next whole line of what is held, or that more has to be read.
-    pub fn next_line(self, buffer: &[u8]) -> Taken
-        ensures { λ r. ⌜ r ≡ nextOf self (now (buffer .entry)) ⌝ }
-    {
-        let have = least(self.have, buffer.len());
-        let end = line_end(&buffer[..have], self.at);
-        if end < have {
-            return self.line_to(end);
-        }
-        let intake = self.begun_to(end);
-        Taken {
-            intake,
-            next: Next::More,
         }
     }
 }
