@@ -1,8 +1,7 @@
 -- What lines make of the controller in use. The text of an answer has no definition. Assumes nothing.
 use mathlib.Core.Path.{_≡_}
 use mathlib.Core.List.{List, [], _∷_}
-use Prim.Native.Nat.{ℕ, _≤_}
-use lib.ListN.{length}
+use Prim.Native.Nat.{ℕ}
 use Rattle.laws.specs.Decimal.{Parsed}
 use Rattle.controller.specs.declared.Controller.{Controller}
 use Rattle.controller.specs.Sound.{Sound}
@@ -11,19 +10,12 @@ use Rattle.lines.specs.Intake.{comes, Waits}
 use Rattle.calls.specs.Call.{Call, callOf}
 use Rattle.acts.specs.Acts.{madeBy}
 use Rattle.acts.specs.declared.Acted.{Acted}
-use Rattle.replay.specs.declared.Answered.{Answered}
 use Rattle.replay.specs.declared.Carried.{Carried}
 
 -- the next controller is what a call makes of it
 pub record Made (c : Controller) (p : Parsed Call) (r : Acted) : Type 0 where
   pub next : r .next ≡ madeBy c p
   pub sound : Sound (r .next)
-
--- the next controller is what the line makes of it, and the answer lies in the buffer
-pub record Answers (c : Controller) (line out : List ℕ) (r : Answered) : Type 0 where
-  pub next : r .next ≡ madeBy c (callOf line)
-  pub sound : Sound (r .next)
-  pub within : r .len ≤ length out
 
 -- the controller after lines, one after another
 unfoldable pub madeByAll : Controller → List (List ℕ) → Controller

@@ -1,6 +1,5 @@
 // The answers of the box.
 use crate::put;
-use acts::Answer;
 use controller::Fault;
 use controller::RequestAnswer;
 use controller::ResetAnswer;
@@ -31,7 +30,7 @@ fn fault(out: &mut [u8], why: Fault) -> usize {
 }
 
 // O, D, F or R.
-fn tick(out: &mut [u8], answer: TickAnswer) -> usize {
+pub(crate) fn tick(out: &mut [u8], answer: TickAnswer) -> usize {
     match answer {
         TickAnswer::Outputs(outputs) => put::one(out, b'O', outputs as u64),
         TickAnswer::Dose { outputs, record } => dose(out, outputs, record),
@@ -41,7 +40,7 @@ fn tick(out: &mut [u8], answer: TickAnswer) -> usize {
 }
 
 // A, R 3 or R 2 row.
-fn set(out: &mut [u8], answer: SetAnswer) -> usize {
+pub(crate) fn set(out: &mut [u8], answer: SetAnswer) -> usize {
     match answer {
         SetAnswer::Taken => put::bare(out, b'A'),
         SetAnswer::R3 => put::one(out, b'R', 3),
@@ -50,7 +49,7 @@ fn set(out: &mut [u8], answer: SetAnswer) -> usize {
 }
 
 // A or R 3.
-fn reset(out: &mut [u8], answer: ResetAnswer) -> usize {
+pub(crate) fn reset(out: &mut [u8], answer: ResetAnswer) -> usize {
     match answer {
         ResetAnswer::Done => put::bare(out, b'A'),
         ResetAnswer::R3 => put::one(out, b'R', 3),
@@ -58,12 +57,12 @@ fn reset(out: &mut [u8], answer: ResetAnswer) -> usize {
 }
 
 // Q, the count and the total.
-fn counters(out: &mut [u8], kept: Counters) -> usize {
+pub(crate) fn counters(out: &mut [u8], kept: Counters) -> usize {
     put::two(out, b'Q', kept.count as u64, kept.total as u64)
 }
 
 // A, R 2 row or R 15.
-fn restart(out: &mut [u8], answer: RestartAnswer) -> usize {
+pub(crate) fn restart(out: &mut [u8], answer: RestartAnswer) -> usize {
     match answer {
         RestartAnswer::Done => put::bare(out, b'A'),
         RestartAnswer::R2(row) => put::two(out, b'R', 2, row as u64),
@@ -72,7 +71,7 @@ fn restart(out: &mut [u8], answer: RestartAnswer) -> usize {
 }
 
 // P place length buffer, or R number place buffer.
-fn reply(out: &mut [u8], answer: RequestAnswer, buffer: &[u8]) -> usize {
+pub(crate) fn reply(out: &mut [u8], answer: RequestAnswer, buffer: &[u8]) -> usize {
     match answer {
         RequestAnswer::Sent { place, len } => {
             put::two_shown(out, b'P', place as u64, len as u64, buffer)
@@ -84,19 +83,5 @@ fn reply(out: &mut [u8], answer: RequestAnswer, buffer: &[u8]) -> usize {
         RequestAnswer::R3(place) => put::two_shown(out, b'R', 3, place as u64, buffer),
         RequestAnswer::R4(place) => put::two_shown(out, b'R', 4, place as u64, buffer),
         RequestAnswer::R8(place) => put::two_shown(out, b'R', 8, place as u64, buffer),
-    }
-}
-
-// The box's answer; a call that needs no box has none here.
-pub(crate) fn answer(out: &mut [u8], said: Answer, buffer: &[u8]) -> usize {
-    match said {
-        Answer::Tick(ticked) => tick(out, ticked),
-        Answer::Link => put::bare(out, b'A'),
-        Answer::Set(taken) => set(out, taken),
-        Answer::Reset(cleared) => reset(out, cleared),
-        Answer::Counters(kept) => counters(out, kept),
-        Answer::Restart(restarted) => restart(out, restarted),
-        Answer::Request(replied) => reply(out, replied, buffer),
-        Answer::Aside => 0,
     }
 }

@@ -104,6 +104,7 @@ fn read_line(out: &mut [u8], bytes: &[u8]) -> usize {
 
 // The answer to a call that needs no box, on its bytes and with a buffer of its room; ? where the line is no call.
 pub(crate) fn answer(out: &mut [u8], call: Call, bytes: &[u8], buffer: &mut [u8]) -> usize {
+    put::blank(buffer);
     match call {
         Call::WriteFrame(_, _) => write_frame(out, bytes, buffer),
         Call::ReadFrame(_) => read_frame(out, bytes),

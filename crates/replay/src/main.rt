@@ -8,6 +8,7 @@ use acts::Acted;
 use acts::Answer;
 use calls::Call;
 use controller::Controller;
+use controller::RequestAnswer;
 use libc::STDOUT_FILENO;
 use lines::Intake;
 use lines::Next;
@@ -15,13 +16,7 @@ ghost use Prim.Native.Nat.{_≤_};
 ghost use lib.ListN.{length};
 ghost use Rattle.controller.specs.Sound.{Sound};
 ghost use Rattle.calls.specs.Reads.{asCall, Within};
-ghost use Rattle.replay.specs.Answers.{Made, Answers, Carries};
-
-// The next controller, and how many bytes the answer has.
-struct Answered {
-    next: Controller,
-    len: usize,
-}
+ghost use Rattle.replay.specs.Answers.{Made, Carries};
 
 // What is carried on behind the whole lines of a buffer.
 struct Carried {
@@ -56,60 +51,57 @@ fn room_of(call: Call) -> usize {
     }
 }
 
-// Each byte A5.
-fn blank(buffer: &mut [u8]) {
-    for i in 0..buffer.len() {
-        buffer[i] = 0xA5;
+// The buffer that a request is lent, each byte A5.
+fn lend(call: Call, spare: &mut [u8]) {
+    if let Call::Request(_, room) = call {
+        let n = put::within(room, spare);
+        put::blank(&mut spare[..n]);
     }
 }
 
-// What a call makes of the controller; a request is lent a buffer of its room, each byte A5.
+// What a call makes of the controller, and the box's answer.
 fn made(c: Controller, call: Call, bytes: &[u8], spare: &mut [u8]) -> Acted
     requires sound { ⌜ Sound c ⌝ }
     requires room { ⌜ Within call × (64 ≤ length (now spare)) ⌝ }
     ensures { λ r. ⌜ Made c (asCall (now (bytes .entry)) call) r ⌝ }
 {
-    let room = put::within(room_of(call), spare);
-    blank(&mut spare[..room]);
+    lend(call, spare);
     acts::act(c, call, bytes, spare)
 }
 
-// The box's answer, or that of a writer or reader on the call's bytes.
-fn put_answer(out: &mut [u8], call: Call, said: Answer, bytes: &[u8], buffer: &mut [u8]) -> usize {
-    if let Answer::Aside = said {
-        let size = put::within(size_of(call), bytes);
-        return aside::answer(out, call, &bytes[..size], buffer);
-    }
-    answers::answer(out, said, buffer)
+// The reply to a request, with the buffer that it was lent.
+fn put_reply(out: &mut [u8], call: Call, replied: RequestAnswer, spare: &[u8]) -> usize {
+    let room = put::within(room_of(call), spare);
+    answers::reply(out, replied, &spare[..room])
 }
 
-// The answer with a buffer of the call's room.
+// The answer of a writer or reader, on the bytes of its call and with a buffer of its room.
+fn put_aside(out: &mut [u8], call: Call, bytes: &[u8], spare: &mut [u8]) -> usize {
+    let size = put::within(size_of(call), bytes);
+    let room = put::within(room_of(call), spare);
+    aside::answer(out, call, &bytes[..size], &mut spare[..room])
+}
+
+// The answer to a call.
+fn put_answer(out: &mut [u8], call: Call, said: Answer, bytes: &[u8], spare: &mut [u8]) -> usize {
+    match said {
+        Answer::Tick(ticked) => answers::tick(out, ticked),
+        Answer::Link => put::bare(out, b'A'),
+        Answer::Set(taken) => answers::set(out, taken),
+        Answer::Reset(cleared) => answers::reset(out, cleared),
+        Answer::Counters(kept) => answers::counters(out, kept),
+        Answer::Restart(restarted) => answers::restart(out, restarted),
+        Answer::Request(replied) => put_reply(out, call, replied, spare),
+        Answer::Aside => put_aside(out, call, bytes, spare),
+    }
+}
+
+// The answer, and how many bytes of the buffer it has.
 fn say(out: &mut [u8], call: Call, said: Answer, bytes: &[u8], spare: &mut [u8]) -> usize
     ensures { λ r. ⌜ r ≤ length (now (out .exit)) ⌝ }
 {
-    let room = put::within(room_of(call), spare);
-    let len = put_answer(out, call, said, bytes, &mut spare[..room]);
+    let len = put_answer(out, call, said, bytes, spare);
     put::within(len, out)
-}
-
-// One line answered.
-fn answer(
-    c: Controller,
-    line: &[u8],
-    bytes: &mut [u8],
-    spare: &mut [u8],
-    out: &mut [u8],
-) -> Answered
-    requires sound { ⌜ Sound c ⌝ }
-    requires room { ⌜ (length (now line) ≤ 4095) × (2048 ≤ length (now bytes)) × (64 ≤ length (now spare)) ⌝ }
-    ensures { λ r. ⌜ Answers c (now (line .entry)) (now (out .exit)) r ⌝ }
-{
-    let call = calls::read(line, bytes);
-    let acted = made(c, call, bytes, spare);
-    let next = acted.next;
-    let said = acted.answer;
-    let len = say(out, call, said, bytes, spare);
-    Answered { next, len }
 }
 
 // Writes the answers out.
@@ -158,9 +150,11 @@ fn answer_lines(
             };
         };
         len = with_room(out, len);
-        let answered = answer(c, &input[from..to], bytes, spare, &mut out[len..]);
-        c = answered.next;
-        len += answered.len;
+        let call = calls::read(&input[from..to], bytes);
+        let acted = made(c, call, bytes, spare);
+        let said = acted.answer;
+        c = acted.next;
+        len += say(&mut out[len..], call, said, bytes, spare);
     }
 }
 

@@ -12,6 +12,13 @@ pub(crate) fn within(n: usize, buffer: &[u8]) -> usize
     if n < buffer.len() { n } else { buffer.len() }
 }
 
+// Each byte A5, as before a call.
+pub(crate) fn blank(buffer: &mut [u8]) {
+    for i in 0..buffer.len() {
+        buffer[i] = 0xA5;
+    }
+}
+
 // The letter of an answer.
 pub(crate) fn letter(out: &mut [u8], b: u8) -> usize {
     text::put_byte(out, 0, b)

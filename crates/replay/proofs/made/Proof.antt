@@ -1,4 +1,4 @@
-use mathlib.Core.Path.{_≡_, ap, _∙_}
+use mathlib.Core.Path.{ap, _∙_}
 use mathlib.Core.List.{List}
 use Prim.Native.Nat.{ℕ, _≤_}
 use lib.ListN.{length}
@@ -20,20 +20,8 @@ made-call : (c : Controller) (call : Call) (bytes : List ℕ) {old new : List �
 unfolding madeBy
 made-call c call bytes {old} w h p = record { next = p .makes .next ∙ ap (λ (a : Ask). run c (eventsIn a)) (lent-read (length old) bytes call w h); sound = p .makes .sound }
 
-room-of-requires : tie.Need-room-of-requires
-room-of-requires c κs = search needs
-
-within-requires : tie.Need-within-requires
-within-requires c κs = search needs
-
-slice-relend-prefix-blank : tie.Need-slice-relend-prefix-blank
-slice-relend-prefix-blank c = search needs
-
-slice-aggregate-blank : tie.Need-slice-aggregate-blank
-slice-aggregate-blank c = search needs
-
-blank-requires : tie.Need-blank-requires
-blank-requires c κs = search needs
+lend-requires : tie.Need-lend-requires
+lend-requires c κs = search needs
 
 act-requires : tie.Need-act-requires
 act-requires c κs = search needs
@@ -42,17 +30,7 @@ same-length : tie.Need-same-length
 same-length c = search needs
 
 returns : tie.Need-returns
-returns c = let start = c .before .before .before .before .before .before .before .before .before .before .before .before .before in made-call (start .args .c) (start .args .call) _ (start .pre .1 .0) (search needs) (c .before .before .act .ensures)
+returns c = let start = c .before .before .before .before .before .before .before .before .before .before in made-call (start .args .c) (start .args .call) _ (start .pre .1 .0) (search needs) (c .before .before .act .ensures)
 
 pub made-spec : {M : Type 1} → statement M
-made-spec =
-    tie.close
-    (tie.spec
-    room-of-requires
-    within-requires
-    slice-relend-prefix-blank
-    slice-aggregate-blank
-    blank-requires
-    act-requires
-    same-length
-    returns)
+made-spec = tie.close (tie.spec lend-requires act-requires same-length returns)
