@@ -7,7 +7,6 @@ implementation of the box drives. Everything comes from one seed.
 
 import os
 import random
-import struct
 import sys
 
 sys.path.insert(0, os.path.dirname(os.path.dirname(os.path.abspath(__file__))))
@@ -18,7 +17,7 @@ from second.settings import Settings
 
 SEED = 1
 TICKS = 1000000
-LINE = 1 << 20
+LINE = 1 << 19
 JOURNAL = 65536
 #                al       C    D   Pc  Pf    M p7  p8 p9 p11 o in    address serial point
 AL1 = Settings(1, 10000, 500, 100, 20, 50, 8, 64, 1, 0, 1, 1, 1, 1, 1, 0, 1)
@@ -47,10 +46,6 @@ def as_calls(s, ticks):
     return ('\n'.join(lines) + '\n').encode()
 
 
-def as_bytes(s, ticks):
-    return struct.pack('<17I', *s) + b''.join(struct.pack('<iB', *tick) for tick in ticks)
-
-
 def frame(rng):
     """Requests, replies and long bodies; FF is as likely as any byte."""
     size = rng.choice([2, 2, 2, 6, 6, rng.randint(2, 254)])
@@ -68,13 +63,28 @@ def over_long(rng):
     return b'\xFF\x01' + bytes(rng.randrange(255) for _ in range(rng.randint(255, 600))) + b'\xFF\xFF'
 
 
+def asked(rng):
+    """A request to the box of AL1, by its address or its serial, now and then for another or not known."""
+    address = rng.choice([b'\1'] * 6 + [b'\0\0\0\0'] * 2 + [b'\2'])
+    return frames.write(address + bytes([rng.choice([0xC2, 0xC3, 0xC3, 0xC3, 0xC4, 0xC5, 0xC0, 0xC1])]), 64)
+
+
 def line(size):
-    """Six good frames of eight; the others are damaged, over-long or no frame at all."""
+    """The bytes of a line as calls: six frames of ten are requests (B), the others are read (X): good,
+    damaged, over-long or no frame at all. Behind a request there may be a tick."""
     rng = random.Random(SEED)
-    sent = b''.join(rng.choice([frame] * 12 + [damaged] * 2 + [over_long, lambda r: r.randbytes(9)])(rng)
-                    for _ in range(size // 30))
-    assert len(sent) >= size
-    return sent[:size]
+    lines, sent = ['\t'.join(map(str, ('N', *AL1, 0, 0)))], 0
+    while sent < size:
+        if rng.random() < 0.6:
+            data = asked(rng)
+            lines.append('B\t%s\t32' % data.hex().upper())
+            if rng.random() < 0.1:
+                lines.append('T\t%d\t0' % rng.randint(-60, 60))
+        else:
+            data = rng.choice([frame] * 12 + [damaged] * 2 + [over_long, lambda r: r.randbytes(9)])(rng)
+            lines.append('X\t' + data.hex().upper())
+        sent += len(data)
+    return ('\n'.join(lines) + '\n').encode()
 
 
 def dose(rng, hour, count):
@@ -105,15 +115,15 @@ def one_hour(size):
 def made(name, tenth):
     size = lambda full: full // 10 if tenth else full
     program, kind = name.split('-')
-    if program in ('replay', 'ticks'):
-        s = {'al1': AL1, 'al2': AL2}[kind]
-        return {'replay': as_calls, 'ticks': as_bytes}[program](s, ticks(s, size(TICKS)))
-    if program == 'frames':
+    if program == 'hours':
+        return {'month': month, 'hour': one_hour}[kind](size(JOURNAL))
+    if kind == 'line':
         return line(size(LINE))
-    return {'month': month, 'hour': one_hour}[kind](size(JOURNAL))
+    s = {'al1': AL1, 'al2': AL2}[kind]
+    return as_calls(s, ticks(s, size(TICKS)))
 
 
-NAMES = ['replay-al1', 'replay-al2', 'ticks-al1', 'ticks-al2', 'frames-line', 'hours-month', 'hours-hour']
+NAMES = ['replay-al1', 'replay-al2', 'replay-line', 'hours-month', 'hours-hour']
 
 
 def main(folder):

@@ -1,6 +1,6 @@
-/* The calls T, L, S, C, Q and N of `replay` in C, each line parsed in one pass; any other letter is answered ?. */
+/* The calls T, L, S, C, Q, N, B and X of `replay` in C, each line parsed in one pass; any other letter is answered ?. */
 #define _GNU_SOURCE
-#include "box.h"
+#include "line.h"
 #include "text.h"
 
 enum { BLOCK = 65536, LONGEST = 4096 };
@@ -156,6 +156,66 @@ static const unsigned char *on_counters(const unsigned char *p)
     return p;
 }
 
+static const unsigned char *bytes_at(const unsigned char *p, unsigned char *bytes, size_t *n)
+{
+    if (*p++ != '\t')
+        return NULL;
+    for (*n = 0; *p != '\t' && *p != '\n'; p += 2) {
+        int high = hex_value(p[0]), low = high < 0 ? -1 : hex_value(p[1]);
+        if (low < 0)
+            return NULL;
+        bytes[(*n)++] = high << 4 | low;
+    }
+    return p;
+}
+
+static void put_place(char letter, uint64_t first, uint64_t second)
+{
+    put(letter);
+    put_field(first);
+    put_field(second);
+}
+
+static const unsigned char *on_frame(const unsigned char *p)
+{
+    static unsigned char bytes[LONGEST];
+    static struct found found;
+    size_t n;
+    if (!(p = bytes_at(p, bytes, &n)) || *p != '\n')
+        return NULL;
+    read_frame(&found, bytes, n);
+    if (!found.finished) {
+        put_place('R', 9, found.place);
+    } else if (bad_body(&found)) {
+        put_place('R', 6, found.place);
+    } else {
+        put_place('P', found.place, found.len);
+        put_bytes(found.body, found.len);
+    }
+    put('\n');
+    return p;
+}
+
+static const unsigned char *on_request(const unsigned char *p)
+{
+    static unsigned char bytes[LONGEST], reply[64];
+    static struct found found;
+    uint64_t room;
+    size_t n, len;
+    if (!(p = bytes_at(p, bytes, &n)) || !(p = field(p, sizeof reply, &room)) || *p != '\n')
+        return NULL;
+    memset(reply, 0xA5, room);
+    read_frame(&found, bytes, n);
+    unsigned why = !found.finished ? 9 : bad_body(&found) ? 6 : request(&box, &found, room, reply, &len);
+    if (why)
+        put_place('R', why, found.place);
+    else
+        put_place('P', found.place, len);
+    put_bytes(reply, room);
+    put('\n');
+    return p;
+}
+
 /* Answers the line at p, which has its LF; the place after it. */
 static const unsigned char *line(const unsigned char *p)
 {
@@ -168,6 +228,8 @@ static const unsigned char *line(const unsigned char *p)
     case 'N': end = on_restart(p + 1); break;
     case 'C': end = on_reset(p + 1); break;
     case 'Q': end = on_counters(p + 1); break;
+    case 'B': end = on_request(p + 1); break;
+    case 'X': end = on_frame(p + 1); break;
     }
     if (!end) {
         answer('?');
@@ -182,6 +244,7 @@ int main(void)
     size_t held = 0;
     ssize_t got;
     bool too_long = false;
+    make_table();
     fresh();
     while ((got = read(0, in + held, BLOCK - held)) > 0) {
         const unsigned char *p = in, *end = in + held + got;

@@ -21,7 +21,7 @@ static void flush(void)
 /* Room for one more line of answers. */
 static void room(void)
 {
-    if (sizeof out - out_len < 128)
+    if (sizeof out - out_len < 1024)
         flush();
 }
 
@@ -45,6 +45,23 @@ static void put_field(uint64_t n)
 {
     put('\t');
     put_number(n);
+}
+
+/* A tab and bytes, two digits a byte. */
+static void put_bytes(const unsigned char *bytes, size_t n)
+{
+    static const char digits[] = "0123456789ABCDEF";
+    put('\t');
+    for (size_t i = 0; i < n; i++) {
+        put(digits[bytes[i] >> 4]);
+        put(digits[bytes[i] & 15]);
+    }
+}
+
+/* The value of an upper-case hexadecimal digit, or -1. */
+static inline int hex_value(unsigned char b)
+{
+    return b >= '0' && b <= '9' ? b - '0' : b >= 'A' && b <= 'F' ? b - 'A' + 10 : -1;
 }
 
 /* A number without leading zeros, at most `most`; the place after it, or NULL. */

@@ -1,1 +1,1 @@
-"""The dosing box of document 01 in Python, written from the paper alone."""
+"""The dosing box in Python, written from document 01 and docs/REPLAY.md."""

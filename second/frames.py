@@ -1,10 +1,4 @@
-"""Tenso-M frames: FF, body, FF FF.
-
-python3 -m second.frames < BYTES lists the frames of a line: P, the place of
-the second closing FF and the body's length, or R, 6 and that place.
-"""
-
-import sys
+"""Tenso-M frames: FF, body, FF FF."""
 
 from second.refusal import Refused
 
@@ -134,27 +128,3 @@ def read(data):
     if len(body) < address_length(body) + 2 or run(body) != 0:
         raise Refused(6, place)
     return place, body
-
-
-def listed(data):
-    """Every finished body; its second closing FF may serve the next frame."""
-    data, at = memoryview(data), 0
-    while True:
-        try:
-            place, body = read(data[at:])
-            yield 'P', at + place, len(body)
-        except Refused as refused:
-            place = refused.detail[0]
-            if refused.number == 9:
-                return
-            yield 'R', 6, at + place
-        at += place
-
-
-def main():
-    for cells in listed(sys.stdin.buffer.read()):
-        print(*cells, sep='\t')
-
-
-if __name__ == '__main__':
-    main()

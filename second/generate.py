@@ -4,6 +4,7 @@ python3 -m second.generate replay SEED [LINES]
 python3 -m second.generate record SEED [HOURS]      a weigher at work
 python3 -m second.generate minutes SEED [MINUTES]   the same, for less than an hour
 python3 -m second.generate ends SEED [HOURS]        hours with something at their ends
+python3 -m second.generate lost SEED                hours around lines that are no call
 python3 -m second.generate journal SEED [KIND]
 python3 -m second.generate kinds
 """
@@ -138,6 +139,10 @@ def ends(seed, hours=1):
     return weigher.Ends(random.Random(seed)).hours(hours, 0 if seed % 2 else 2)
 
 
+def lost(seed):
+    return weigher.Ends(random.Random(seed)).lost()
+
+
 def minutes(seed, number=3):
     """The first hour, a restart and the ticks."""
     mill = weigher.Mill(random.Random(seed), number * MINUTE)
@@ -145,7 +150,7 @@ def minutes(seed, number=3):
     return lines[:2 + number * MINUTE]
 
 
-MADE = {'replay': replay, 'record': record, 'minutes': minutes, 'ends': ends}
+MADE = {'replay': replay, 'record': record, 'minutes': minutes, 'ends': ends, 'lost': lost}
 
 
 def main(words):

@@ -30,18 +30,20 @@ class Record:
         self.ticks = ticks          # of an hour
         self.hour = hour            # of the next tick that is counted
         self.gone = 0               # ticks of that hour
-        self.on = True              # throughout, as far as it was seen
+        self.whole = True           # nothing of that hour was missed
+        self.known = True           # a restart came after the last line that is no call
 
     def take(self, line):
         """What one line adds."""
         answer = '?' if line is None else self.replay.answer(line)
         if answer == '?':
-            # It may have been a tick or a restart.
-            self.on = False
+            # It may have been a restart or new settings: nobody knows the box.
+            self.whole = self.known = False
         elif line[:1] == b'N' and answer == 'A':
-            # Before the hour's first tick a restart changes nothing.
+            self.known = True
+            # Before the hour's first tick a restart leaves the hour whole.
             if self.gone > 0:
-                self.on = False
+                self.whole = False
         elif line[:1] == b'T' and answer[0] != 'R':
             return self.tick(answer.split('\t'))
         return b''
@@ -60,8 +62,9 @@ class Record:
         return text
 
     def end_hour(self):
-        text = journal.write('H', (self.hour,), ROOM) if self.on else b''
-        self.hour, self.gone, self.on = self.hour + 1, 0, True
+        seen = self.whole and self.known
+        text = journal.write('H', (self.hour,), ROOM) if seen else b''
+        self.hour, self.gone, self.whole = self.hour + 1, 0, True
         return text
 
 

@@ -24,6 +24,7 @@ class Weigher:
         self.ticks = ticks          # of an hour
         self.done = 0               # ticks since the start
         self.replay = Replay()
+        self.known = True           # no line that is no call since the last restart
         self.out = []
         self.restart()
 
@@ -39,6 +40,12 @@ class Weigher:
     def restart(self):
         """The counters carried over."""
         self.say(calls.restart_line(self.s, *self.box.counters()))
+        self.known = True
+
+    def lose(self, line):
+        """A line that is no call in its place."""
+        self.out.append(no_call(self.rng, line) + b'\n')
+        self.known = False
 
     def tick_line(self, sample, start=0, lie=0):
         inputs = hopper.matching_inputs(self.box.outputs, self.s) ^ lie
@@ -120,10 +127,16 @@ class Mill(Weigher):
         self.work(end)
 
     def torn(self, end):
-        """A line that is no call."""
+        """A line that is no call; nobody knows the box until its restart."""
         self.half(end)
-        line = self.tick_line(self.tank.weight)
-        self.out.append(no_call(self.rng, line) + b'\n')
+        self.lose(self.tick_line(self.tank.weight))
+        restarted = self.rng.choice(['at once', 'in this hour', 'after it', 'never'])
+        if restarted == 'in this hour':
+            self.half(end)
+        elif restarted == 'after it':
+            self.work(end)
+        if restarted != 'never':
+            self.renew()
         self.work(end)
 
     def jammed(self, end):
@@ -182,8 +195,11 @@ class Ends(Weigher):
         self.say(self.tick_line(900001))
         self.done += 1
 
+    def lose_tick(self):
+        self.lose(self.tick_line(5))
+
     def damaged(self):
-        self.out.append(no_call(self.rng, self.tick_line(5)) + b'\n')
+        self.lose_tick()
         if self.rng.randrange(3) == 0:
             self.restart()
 
@@ -206,11 +222,14 @@ class Ends(Weigher):
         self.rng.shuffle(made)
         return made
 
-    def hour(self, events):
-        """So many events; out of a fault before the first tick, or not."""
-        end = self.end()
-        if self.box.phase == FAULT and self.rng.randrange(2):
+    def mend(self):
+        """Out of a fault, and a box that is known again; or not."""
+        if (self.box.phase == FAULT or not self.known) and self.rng.randrange(2):
             self.restart()
+
+    def hour(self, *events):
+        """So many events, each at its place."""
+        end = self.end()
         for event, place in sorted(events, key=lambda pair: pair[1]):
             self.until(end - self.ticks + place)
             event()
@@ -227,8 +246,25 @@ class Ends(Weigher):
         for _ in range(number):
             left = left or self.pairs()
             more = self.rng.sample(self.pairs(), self.rng.randint(0, others))
-            self.hour([left.pop()] + more)
+            self.mend()
+            self.hour(left.pop(), *more)
             yield self.made()
         self.refused_tick()
         self.quiet(self.rng.randint(0, 1))
         yield self.made()
+
+    def lost(self):
+        """Eight hours around lines that are no call; the third, the fifth and
+        the last are seen in full."""
+        within = self.rng.randrange(1, self.ticks)
+        yield b'%d\n' % self.rng.randint(0, 9999992)
+        for events in ([(self.lose_tick, self.rng.choice([0, within]))],
+                       [(self.refused_restart, 0), (self.other, within)],
+                       [(self.restart, 0), (self.refused_restart, within)],
+                       [(self.lose_tick, 0), (self.restart, self.rng.choice([0, within]))],
+                       [(self.doses, within)],
+                       [(self.lose_tick, within)],
+                       [(self.restart, within)],
+                       []):
+            self.hour(*events)
+            yield self.made()

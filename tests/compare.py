@@ -10,22 +10,26 @@ Each runs the stored cases first, then input from the seeds 1 to SEEDS. The
 journals are of every kind that the generator knows: small and empty ones, the
 largest (65,536 bytes), a month (744 hours), thousands of doses in one hour, one
 byte too many, and every kind of malformed line. For `record` a seed gives a
-weigher at work, hours with something at their ends, a script of every call
-after a first hour, and first lines that are no hour. What `record` prints goes
-through `hours` too.
+weigher at work, hours with something at their ends, eight hours around lines
+that are no call, a script of every call after a first hour, and first lines
+that are no hour. What `record` prints goes through `hours` too.
 
 At the first difference it prints the output line of both and the input line
-that it answers, and ends with status 1.
+that it answers, and ends with status 1. It does so too where a task fails, and
+where fewer or more inputs were compared than there are.
 """
 
+import collections
+import concurrent.futures
 import glob
 import io
-import multiprocessing
+import itertools
 import os
 import platform
 import random
 import subprocess
 import sys
+import traceback
 
 ROOT = os.path.dirname(os.path.dirname(os.path.abspath(__file__)))
 sys.path.insert(0, ROOT)
@@ -87,55 +91,63 @@ def answered_line(name, data, n):
 
 
 def line(text, n):
-    lines = text.split(b'\n')
-    return lines[n - 1] if n <= len(lines) else None
+    """Line n as it is written, its LF included."""
+    lines = io.BytesIO(text).readlines()
+    return repr(lines[n - 1]) if n <= len(lines) else 'no such line'
+
+
+def first_differing(ours, theirs):
+    """The number of the first line that differs; a line is its LF too."""
+    pairs = itertools.zip_longest(io.BytesIO(ours), io.BytesIO(theirs))
+    for n, (our, their) in enumerate(pairs, 1):
+        if our != their:
+            return n
 
 
 def difference(name, case, data, ours, theirs):
     """None if they print the same."""
     if ours == theirs:
         return None
-    pairs = zip(ours.split(b'\n'), theirs.split(b'\n'))
-    n = next(n for n, (a, b) in enumerate(pairs, 1) if a != b)
+    n = first_differing(ours, theirs)
     told = ['%s, %s: line %d of the output differs' % (name, case, n)]
     at = answered_line(name, data, n)
     if at:
-        told.append('input line %d: %r' % (at, line(data, at)))
-    told.append('the program:   %r' % line(ours, n))
-    told.append('the second:    %r' % line(theirs, n))
+        told.append('input line %d: %s' % (at, line(data, at)))
+    told.append('the program:   ' + line(ours, n))
+    told.append('the second:    ' + line(theirs, n))
     return '\n'.join(told)
 
 
 # The input: each maker answers (program, what makes the case, its bytes).
 
-def stored(name, pattern):
-    for path in sorted(glob.glob(os.path.join(ROOT, pattern))):
+STORED = {'replay': ['tests/cases/*.replay', 'crates/replay/stdin'],
+          'journals': ['tests/cases/*.journal'],
+          'record': ['tests/cases/*.record', 'crates/record/stdin', 'samples/*.record']}
+BAD_FIRST_LINES = 10        # a seed
+
+
+def paths(kind):
+    """The stored cases of one kind; each place has some."""
+    for pattern in STORED[kind]:
+        found = sorted(glob.glob(os.path.join(ROOT, pattern)))
+        if not found:
+            sys.exit('no file is ' + pattern)
+        yield from found
+
+
+def stored(name, kind):
+    for path in paths(kind):
         with open(path, 'rb') as file:
             yield name, os.path.relpath(path, ROOT), file.read()
 
 
-def stored_replay():
-    yield from stored('replay', 'tests/cases/*.replay')
-    yield from stored('replay', 'crates/replay/stdin')
-
-
-def stored_journals():
-    yield from stored('hours', 'tests/cases/*.journal')
-
-
-def stored_record():
-    yield from stored('record', 'tests/cases/*.record')
-    yield from stored('record', 'crates/record/stdin')
-    yield from stored('record', 'samples/*.record')
-
-
 def made(name, *words):
     data = b''.join(generate.MADE[words[0]](*words[1:]))
-    return name, 'second.generate %s %d %d' % words, data
+    return name, ' '.join(map(str, ('second.generate', *words))), data
 
 
-def seeded_replay(seed, lines):
-    yield made('replay', 'replay', seed, lines)
+def seeded(*words):
+    yield made(*words)
 
 
 def seeded_journals(seed):
@@ -144,21 +156,13 @@ def seeded_journals(seed):
         yield 'hours', case, journals.make(random.Random(seed), kind)
 
 
-def seeded_hours(seed, number):
-    yield made('record', 'record', seed, number)
-
-
-def seeded_ends(seed, number):
-    yield made('record', 'ends', seed, number)
-
-
 def seeded_calls(seed):
     """A script of every call after a first hour, and bad first lines."""
     rng = random.Random(seed)
     _, case, script = made('record', 'replay', seed, 20000)
     hour = b'%d\n' % rng.choice([0, 9999999, rng.randint(0, 9999999)])
     yield 'record', '%r before %s' % (hour, case), hour + script
-    for _ in range(10):
+    for _ in range(BAD_FIRST_LINES):
         hour = rng.choice([b'0', b'7', b'4711', b'9999999'])
         first = rng.choice(calls.SPOILERS)(rng, hour) + b'\n'
         yield 'record', '%r before %s' % (first, case), first + script[:20000]
@@ -166,48 +170,81 @@ def seeded_calls(seed):
 
 # One task after the other, two at a time.
 
-PROGRAMS = {}
+# The program, what makes its input, and how many inputs that are.
+Task = collections.namedtuple('Task', 'name make words inputs')
 
 
-def one(name, case, data, counts):
+def one(programs, name, case, data, counts):
     """The first difference of one input. What `record` prints is a journal,
     which goes through `hours`."""
     theirs = SECOND[name](data)
-    told = difference(name, case, data, printed(PROGRAMS[name], data), theirs)
+    told = difference(name, case, data, printed(programs[name], data), theirs)
     inputs, lines = counts.get(name, (0, 0))
     counts[name] = inputs + 1, lines + theirs.count(b'\n')
     if name == 'record' and not told:
-        return one('hours', 'the journal of ' + case, theirs, counts)
+        return one(programs, 'hours', 'the journal of ' + case, theirs, counts)
     return told
 
 
-def compared(task):
+def compared(programs, task):
     """How many inputs and output lines were compared for each program, and
-    the first difference."""
-    make, words = task
+    the first difference; whatever else ends the task is told like one."""
     counts = {}
-    for name, case, data in make(*words):
-        told = one(name, case, data, counts)
-        if told:
-            return counts, told
+    try:
+        for name, case, data in task.make(*task.words):
+            told = one(programs, name, case, data, counts)
+            if told:
+                return counts, told
+    except BaseException:
+        return counts, '%s %r failed:\n%s' % (task.make.__name__, task.words,
+                                              traceback.format_exc())
     return counts, None
 
 
-def tasks(what, seeds, *size):
-    """Of one kind of input, each a function and what it is given."""
-    numbers = range(1, seeds + 1)
-    if what == 'replay':
-        yield stored_replay, ()
-        yield from ((seeded_replay, (seed, *size)) for seed in numbers)
-    elif what == 'journals':
-        yield stored_journals, ()
-        yield from ((seeded_journals, (seed,)) for seed in numbers)
-    else:
-        yield stored_record, ()
-        for seed in numbers:
-            yield seeded_calls, (seed,)
-            yield seeded_hours, (seed, *size)
-            yield seeded_ends, (seed, *size)
+def tasks(kind, seeds, *size):
+    """Of one kind of input."""
+    name = 'hours' if kind == 'journals' else kind
+    yield Task(name, stored, (name, kind), len(list(paths(kind))))
+    for seed in range(1, seeds + 1):
+        if kind == 'replay':
+            yield Task(name, seeded, (name, 'replay', seed, *size), 1)
+        elif kind == 'journals':
+            yield Task(name, seeded_journals, (seed,), len(journals.KINDS))
+        else:
+            yield Task(name, seeded_calls, (seed,), 1 + BAD_FIRST_LINES)
+            yield Task(name, seeded, (name, 'record', seed, *size), 1)
+            yield Task(name, seeded, (name, 'ends', seed, *size), 1)
+            yield Task(name, seeded, (name, 'lost', seed), 1)
+
+
+def expected(every):
+    """How many inputs each program is to be given."""
+    number = collections.Counter()
+    for task in every:
+        number[task.name] += task.inputs
+        if task.name == 'record':
+            number['hours'] += task.inputs
+    return number
+
+
+def status(every, programs):
+    """0 where every input was compared and none differs."""
+    inputs, lines = collections.Counter(), collections.Counter()
+    with concurrent.futures.ProcessPoolExecutor(AT_A_TIME) as pool:
+        for counts, told in pool.map(compared, itertools.repeat(programs), every):
+            if told:
+                print(told)
+                return 1
+            for name, (more_inputs, more_lines) in counts.items():
+                inputs[name] += more_inputs
+                lines[name] += more_lines
+    if inputs != expected(every):
+        print('%r inputs were compared, not %r' % (dict(inputs), dict(expected(every))))
+        return 1
+    for name in programs:
+        print(name + ': ' + SUMMARY[name] % (inputs[name], lines[name]) +
+              ' compared, 0 differ')
+    return 0
 
 
 def chosen(words):
@@ -222,21 +259,10 @@ def chosen(words):
 
 def main(words):
     kinds = chosen(words)
-    for kind in kinds:
-        for name in NEEDED[kind]:
-            PROGRAMS[name] = PROGRAMS.get(name) or command(name)
-    total = {name: (0, 0) for name in PROGRAMS}
-    with multiprocessing.Pool(AT_A_TIME) as pool:
-        every = [task for kind, size in kinds.items() for task in tasks(kind, *size)]
-        for counts, told in pool.imap(compared, every):
-            for name, (inputs, lines) in counts.items():
-                total[name] = total[name][0] + inputs, total[name][1] + lines
-            if told:
-                print(told)
-                return 1
-    for name, numbers in total.items():
-        print(name + ': ' + SUMMARY[name] % numbers + ' compared, 0 differ')
-    return 0
+    needed = dict.fromkeys(name for kind in kinds for name in NEEDED[kind])
+    programs = {name: command(name) for name in needed}
+    every = [task for kind, size in kinds.items() for task in tasks(kind, *size)]
+    return status(every, programs)
 
 
 if __name__ == '__main__':

@@ -923,6 +923,23 @@ def malformed_case():
             cells = [1, 1, 1, 1]
             cells[at] = number
             case.say('D', *cells, 20)
+    case.head('a digit is 0..9 or A..F, the high one and the low')
+    for byte in b'/:@Gf':
+        case.raw(b'X\t%c0' % byte)
+        case.raw(b'X\t0%c' % byte)
+    case.raw(b'X\t0123456789ABCDEF')
+    case.head('every byte as the letter of bytes and a number')
+    for byte in range(256):
+        if byte != 10:
+            case.raw(bytes([byte]) + b'\tFF\t8')
+    case.head('each kind of line, with nothing and with something behind it')
+    for text in ('T\t-5\t8', 'L\t1', 'C', 'Q', 'B\tFF01\t0', 'W\t01C3\t600',
+                 'X\tFF0A', 'G\t-5\t1\t0\t7', 'K\t01020304', 'D\t1\t2\t3\t4\t64',
+                 'H\t13\t64', 'l\t480A', 'u\t480A\t4294967295', 'j\t480A\t2000',
+                 'S\t' + '\t'.join(map(str, AL1)),
+                 'N\t' + '\t'.join(map(str, list(AL1) + [7, 9]))):
+        for behind in ('\t', '\t0', '0', ' ', '\r', '\0', ''):
+            case.raw((text + behind).encode())
     case.head('4,096 bytes with the LF are a line, more are not')
     for length in (4094, 4095, 4096, 8193):
         case.raw(b'X\t'.ljust(length, b'0'))

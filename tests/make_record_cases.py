@@ -46,6 +46,15 @@ class Samples(Case):
     def quick(self, count=0):
         self.new(QUICK, count, 0)
 
+    def refused(self):
+        """Restarts with R2 and with R15."""
+        self.new(QUICK._replace(D=0))
+        self.new(QUICK, 1000000)
+
+    def lose(self):
+        """A line that is no call."""
+        self.raw(b'#')
+
     def save(self, name, last=b''):
         """A last line without LF is not a call."""
         write(name, b''.join(text + b'\n' for text in self.lines) + last)
@@ -133,16 +142,15 @@ def hours_case():
         case.end(START)
     for at in (0, 1, 50, 99):
         case.until(at)
-        case.new(QUICK._replace(D=0))   # a refused one
-        case.new(QUICK, 1000000)
+        case.refused()                  # refused ones
     case.end()
     for text in NO_CALLS:
         for at in (0, 1, 99):
+            case.quick()                # a box that is known
             case.until(at)
             case.raw(text)              # no call
             case.end(START if at == 1 else 0)
-    case.raw(b'#')
-    case.quick()                        # and a restart after it
+    case.quick()
     case.end()
     for at in (0, 1, 50, 99):
         case.until(at)
@@ -155,6 +163,41 @@ def hours_case():
     faults(case)
     case.until(99, START)
     case.save('hours.record', b'T\t5\t8')
+
+
+# Hours with a line that is no call, a restart, refused restarts, other calls:
+# each hour's events and the ticks gone before them.
+LOSE, NEW, REFUSED, OTHERS = Samples.lose, Samples.quick, Samples.refused, Samples.others
+LOST = {
+    'no-restart': [[(50, LOSE)], [], [], []],
+    'restart-before-the-next-hour': [[(50, LOSE)], [(0, NEW)], []],
+    'restart-hours-later': [[(99, LOSE)], [], [(0, NEW)], []],
+    'restart-after-a-first-tick': [[(50, LOSE)], [(1, NEW)], []],
+    'restart-before-a-last-tick': [[(50, LOSE)], [(99, NEW)], []],
+    'restart-in-the-same-hour': [[(1, LOSE), (99, NEW)], [], [(50, LOSE), (50, NEW)], []],
+    'restart-before-it': [[(50, NEW), (50, LOSE)], [], [(0, NEW)], [(0, NEW), (0, LOSE)], []],
+    'between-hours': [[(0, LOSE)], [], [(0, NEW)], []],
+    'between-hours-restart-at-once': [[(0, LOSE), (0, NEW)], [], []],
+    'between-hours-restart-within': [[(0, LOSE), (50, NEW)], []],
+    'restart-between-two': [[(50, LOSE), (50, NEW), (50, LOSE)], []],
+    'again': [[(50, LOSE)], [(0, NEW)], [(50, LOSE)], [], [(0, NEW)]],
+    'refused-restart': [[(50, LOSE)], [(0, REFUSED)], [(50, REFUSED)], []],
+    'other-calls': [[(50, LOSE)], [(0, OTHERS)], [(50, OTHERS)], []],
+}
+
+
+def lost_cases():
+    """Until a restart nobody knows the box; its doses go on."""
+    for name, hours in LOST.items():
+        case = Samples(10)
+        case.quick()
+        case.end()
+        for events in hours:
+            for at, event in events:
+                case.until(at, START)
+                event(case)
+            case.end(START)
+        case.save('lost-%s.record' % name)
 
 
 def faults(case):
@@ -212,6 +255,7 @@ def first_line_cases():
 def main():
     doses_case()
     hours_case()
+    lost_cases()
     last_hour_cases()
     first_line_cases()
 

@@ -1,4 +1,4 @@
-"""Checks of the second implementation, straight from the paper:
+"""Checks of the second implementation, from document 01 and docs/REPLAY.md:
 python3 tests/second_test.py"""
 
 import io
@@ -166,9 +166,12 @@ def replay_checks():
 # A dose every two ticks once it is calm: AL2 with Wf 0, inputs at level 1.
 QUICK = Settings(2, 10, 1, 1, 1, 1, 4, 4, 1, 0, 0, 1, 1, 1, 1, 0, 0)
 NEW = 'N' + '\t%d' * 19 % (QUICK + (4, 50)) + '\n'
-REFUSED = NEW.replace('N\t2', 'N\t4')
+REFUSED = NEW.replace('N\t2', 'N\t4') + NEW.replace('4\t50\n', '1000000\t50\n')
+SET = 'S' + NEW[1:-6] + '\n'
 QUIET, START = 'T\t5\t0\n', 'T\t5\t8\n'
 CALM = QUIET * 65
+HOUR = QUIET * 4
+NO_CALLS = ('x\n', '\n', 'T\t5\t256\n', 'T\t5\n', 'N\n', 'x' * 4096 + '\n')
 
 
 def recorded(text, ticks=4, first=b'7'):
@@ -190,6 +193,8 @@ def record_checks():
         same('first line %r' % first[:9], seen, ['R\t10\t1'])
     same('first hour 0', recorded(QUIET * 4, 4, b'0'), ['H\t0'])
     hour_checks()
+    for no_call in NO_CALLS:
+        lost_checks(no_call)
     dose_checks()
     last_hour_checks()
 
@@ -201,12 +206,7 @@ def hour_checks():
     same('fault', recorded('T\t900001\t0\n' + QUIET * 3 + 'T\t0\t255\n'), ['H\t7'])
     same('other calls', recorded(QUIET + 'Q\nL\t1\nC\nW\t01C3\t9\nX\tFF\nH\t1\t9\n' +
                                  QUIET * 3), ['H\t7'])
-    same('settings', recorded(QUIET + 'S' + NEW[1:-6] + '\n' + QUIET * 3), ['H\t7'])
-    for no_call in ('x\n', '\n', 'T\t5\t256\n', 'T\t5\n', 'N\n', 'x' * 4096 + '\n'):
-        same('no call before', recorded(no_call + QUIET * 8), ['H\t8'])
-        same('no call within', recorded(QUIET * 2 + no_call + QUIET * 6), ['H\t8'])
-        same('no call between', recorded(QUIET * 4 + no_call + QUIET * 8), ['H\t7', 'H\t9'])
-        same('no call, then a restart', recorded(no_call + NEW + QUIET * 4), [])
+    same('settings', recorded(QUIET + SET + QUIET * 3), ['H\t7'])
     same('restart before', recorded(NEW + QUIET * 4), ['H\t7'])
     same('restart after R1', recorded('T\t5\t16\n' + NEW + QUIET * 4), ['H\t7'])
     for at in (1, 2, 3):
@@ -214,6 +214,30 @@ def hour_checks():
         same('refused within', recorded(QUIET * at + REFUSED + QUIET * (4 - at)), ['H\t7'])
     same('restart between', recorded(QUIET * 4 + NEW + QUIET * 4), ['H\t7', 'H\t8'])
     same('a call without LF', recorded(QUIET * 3 + QUIET[:-1]), [])
+
+
+def lost_checks(no_call):
+    """A line that is no call, and when an hour has an H again."""
+    for name, text, wanted in (
+            ('at the start', no_call + HOUR * 3, []),
+            ('within an hour', HOUR + QUIET * 2 + no_call + QUIET * 2 + HOUR * 2, [7]),
+            ('between hours', HOUR + no_call + HOUR * 2, [7]),
+            ('after the last hour', HOUR + no_call, [7]),
+            ('restart before the next hour', no_call + HOUR + NEW + HOUR * 2, [8, 9]),
+            ('restart after an hour', no_call + HOUR * 2 + NEW + HOUR * 2, [9, 10]),
+            ('restart within the next hour',
+             no_call + HOUR + QUIET + NEW + QUIET * 3 + HOUR, [9]),
+            ('restart before its last tick',
+             no_call + HOUR + QUIET * 3 + NEW + QUIET + HOUR, [9]),
+            ('restart at once', no_call + NEW + HOUR * 2, [8]),
+            ('between hours, restart at once', HOUR + no_call + NEW + HOUR * 2, [7, 9]),
+            ('restart in the same hour', QUIET + no_call + QUIET + NEW + QUIET * 2 + HOUR, [8]),
+            ('restart just before', NEW + no_call + HOUR * 2, []),
+            ('a second one', no_call + NEW + no_call + HOUR * 2, []),
+            ('a second one later', no_call + NEW + HOUR * 2 + no_call + HOUR * 2, [8]),
+            ('refused restarts', no_call + HOUR + REFUSED + HOUR + QUIET + REFUSED + HOUR, []),
+            ('other calls', no_call + HOUR + SET + 'L\t1\nL\t0\nC\nQ\n' + HOUR, [])):
+        same('no call: ' + name, recorded(text), ['H\t%d' % hour for hour in wanted])
 
 
 def dose_checks():
@@ -252,6 +276,15 @@ def weigher_checks():
         before = str(vars(still.box))
         still.replay.answer(still.tick_line(still.tank.weight))
         same('at rest', str(vars(still.box)), before)
+
+
+def generated_lost_checks():
+    """Of the eight hours the third, the fifth and the last have an H."""
+    for seed in (1, 2):
+        data = b''.join(weigher.Ends(random.Random(seed), 300).lost())
+        made = b''.join(record.written(io.BytesIO(data), 300)).splitlines()
+        ended = [int(line[2:]) for line in made if line[:1] == b'H']
+        same('lost', [hour - int(data.split()[0]) for hour in ended], [2, 4, 7])
 
 
 def sample_checks():
@@ -301,6 +334,7 @@ def main():
     replay_checks()
     record_checks()
     weigher_checks()
+    generated_lost_checks()
     sample_checks()
     stored_checks()
     print('%d checks, %d failed' % (checks, failed))

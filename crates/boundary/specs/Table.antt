@@ -19,9 +19,12 @@ use Rattle.field.specs.Field.{readOf, readable, isBcd, weightOf, signed, hasBit
 use Rattle.frame.specs.Check.{check, enterAll, enter, enterBits, enterBit, fellOut}
 use Rattle.dosing.specs.Rules.{stepOf, ready, readyToFill, readyToDose, waits, zeroed, nearZero, fillBegins, coarseStage, fineStage, fill, full, hold, settle, settleEnds, dischargeOpens, discharge, amountOf, load, calm, doseCoarse, doseFine, doseSettle, reachedWf, reachedWc, notBelowZero}
 use Rattle.controller.specs.declared.Controller.{Controller}
-use Rattle.controller.specs.State.{counters, restarted}
+use Rattle.counters.specs.Counters.{counters, countersAfter, countedOf, recordOf, recordsOf}
+use Rattle.controller.specs.State.{restarted}
 use Rattle.controller.specs.Calls.{restartOf, controllerIn, storedBad}
-use Rattle.controller.specs.Tick.{tickOf, step2, step3, steps4and5, steps6to8, mismatched, runsAfter, runAfter, expected, step7, step8, seenOf, wOf, stableOf, filterOf, equalZ, none, calmRun, startOf, outside, faulted, saysFault, outputsOf, worth, input, overCapacity, changed, countersAfter, countedOf, recordsOf}
+use Rattle.channels.specs.Channels.{runsAfter, runAfter, expected, startOf, outputsOf, worth, input, watchOf}
+use Rattle.scale.specs.Scale.{stableOf, filterOf, equalZ, none, calmRun, outside, overCapacity, changed, filtered, calmAfter}
+use Rattle.controller.specs.Tick.{tickOf, step2, step3, steps4and5, steps6to8, mismatched, step7, step8, seenOf, wOf, faulted, saysFault}
 
 -- what a case asks, with document 01's numerals
 pub data Case : Type 0 where
@@ -168,7 +171,7 @@ passes-holds (totalAfter t amount t') u = eqb→eq (countedOf (counters 0 t) amo
 
 -- every case passes: computed over the whole list
 all-pass : T (each passes cases)
-unfolding each both cases passes says sameWeight sameFlag sameZ check enterAll enter enterBits enterBit fellOut readOf readable isBcd weightOf signed hasBit valueOf meanOf roundAway halfUp sumOf outputsAt outputsAfter al1 controllerIn restartOf onDone firstBad firstFrom table inRange leastLevel mostLevel storedBad restarted tickOf step2 step3 steps4and5 steps6to8 mismatched runsAfter runAfter expected step7 step8 seenOf wOf stableOf filterOf equalZ none calmRun startOf outside faulted saysFault outputsOf worth input overCapacity changed countersAfter countedOf recordsOf stepOf ready readyToFill readyToDose waits zeroed nearZero fillBegins coarseStage fineStage fill full hold settle settleEnds dischargeOpens discharge amountOf load calm doseCoarse doseFine doseSettle reachedWf reachedWc notBelowZero Wc Wf samplesOf pushOf emptyWindow pick xor
+unfolding each both cases passes says sameWeight sameFlag sameZ check enterAll enter enterBits enterBit fellOut readOf readable isBcd weightOf signed hasBit valueOf meanOf roundAway halfUp sumOf outputsAt outputsAfter al1 controllerIn restartOf onDone firstBad firstFrom table inRange leastLevel mostLevel storedBad restarted tickOf step2 step3 steps4and5 steps6to8 mismatched watchOf runsAfter runAfter expected step7 step8 seenOf wOf stableOf filtered filterOf equalZ none calmRun startOf outside faulted saysFault outputsOf worth input overCapacity changed calmAfter countersAfter countedOf recordOf recordsOf stepOf ready readyToFill readyToDose waits zeroed nearZero fillBegins coarseStage fineStage fill full hold settle settleEnds dischargeOpens discharge amountOf load calm doseCoarse doseFine doseSettle reachedWf reachedWc notBelowZero Wc Wf samplesOf pushOf emptyWindow pick xor
 all-pass = tt
 
 -- all thirteen

@@ -1,24 +1,27 @@
--- Bytes read as hexadecimal digits, by the digits that stand there. Assumes nothing.
+-- Bytes as hexadecimal digits, by the digits that stand there. Assumes nothing.
 use mathlib.Core.Path.{_≡_, refl, sym, ap, _∙_}
 use mathlib.Core.Bool.{Bool, true, false, _&&_}
-use mathlib.Core.List.{List, [], _∷_, _++_, append-assoc, append-nil}
+use mathlib.Core.List.{List, [], _∷_}
 use Prim.Native.Nat.{ℕ, zero, suc, _+_, _*_, _≤_, _<_}
 use native.Mathlib.Omega.{arith}
 use native.Mathlib.Numerals.{add-one}
-use lib.Dec.{leb}
-use lib.ListN.{length, getD, take, drop, set, drop-of-length-le}
-use lib.Seq.{sets, take-suc-set, getD-drop}
+use lib.Dec.{leb, eqb}
+use lib.ListN.{length, getD, take, drop, set, length-drop}
+use lib.Seq.{sets, take-all, take-suc, getD-drop, drop-drop, length-take-le}
 use borrow.Author.Tests.{eq-eqb, ne-eqb, leb-true}
-use Rattle.laws.specs.Pick.{pick-t, pick-f}
+use Rattle.laws.specs.Pick.{pick, pick-t, pick-f, pick-all, pick-if}
+use Rattle.laws.specs.Over.{sets-append}
 use Rattle.laws.specs.Bools.{and-left, and-right}
 use Rattle.laws.specs.Whole.{false-true}
-use Rattle.laws.specs.Bools.{and-left, and-right}
 use Rattle.laws.specs.Decimal.{Parsed, good, bad, isDigit}
-use Rattle.text.specs.Scan.{TAB, onGood}
-use Rattle.lines.specs.Places.{from-byte}
-use Rattle.calls.specs.Call.{isHex, hexValue, bytesAt}
-use Rattle.text.specs.ScanLaws.{from-place}
-use Rattle.calls.specs.Reading.{on-on, on-same, on-id, leadingBytes, fieldBytes}
+use Rattle.field.specs.declared.Field.{Field}
+use Rattle.field.specs.Field.{four}
+use Rattle.text.specs.Scan.{TAB, onGood, fieldAt, expect}
+use Rattle.text.specs.ScanLaws.{expect-hit, expect-miss}
+use Rattle.calls.specs.Call.{Call, readField, isHex, hexValue, bytesAt, bytesField, fieldFrom, atEnd}
+use Rattle.calls.specs.Reading.{leadingBytes, carried, Asks}
+use Rattle.calls.specs.declared.Call as declared
+use Rattle.calls.proofs.Steps.{on-bad, on-on, at-on, from-byte}
 
 -- a digit that is no decimal one
 pub hex-range : (b : ℕ) → isHex b ≡ true → isDigit b ≡ false → (65 ≤ b) × (b ≤ 70)
@@ -27,150 +30,191 @@ hex-range b e d =
     let f : (leb 65 b && leb b 70) ≡ true = rw d at e in
     (leb-true 65 b (and-left (leb 65 b) (leb b 70) f), leb-true b 70 (and-right (leb 65 b) (leb b 70) f))
 
--- 0 is no digit
-pub hex-some : (b : ℕ) → isHex b ≡ true → 0 < b
-unfolding isHex isDigit
-hex-some b e = go b e
+-- two digits
+abbrev two : ℕ → ℕ → ℕ
+two a b = hexValue a * 16 + hexValue b
+
+-- ---- how many bytes stand at a place
+
+lead-short : (l : List ℕ) → length l ≤ 1 → leadingBytes l ≡ []
+unfolding leadingBytes
+lead-short [] h = refl
+lead-short (a ∷ []) h = refl
+lead-short (a ∷ b ∷ l) h = absurd (omega arith)
+
+both-at : (s : List ℕ) (p : ℕ) → p + 1 < length s → drop p s ≡ getD s p 0 ∷ getD s (p + 1) 0 ∷ drop (p + 2) s
+both-at s p h =
+    let z : p + 1 + 1 ≡ p + 2 = omega arith in
+    from-byte s p (omega arith) ∙ ap (λ (r : List ℕ). getD s p 0 ∷ r) (from-byte s (p + 1) h ∙ ap (λ (i : ℕ). getD s (p + 1) 0 ∷ drop i s) z)
+
+-- n bytes are counted, and those from place p on are the others
+abbrev pub Left : List ℕ → ℕ → ℕ → Type 0
+Left s p n = n + length (leadingBytes (drop p s)) ≡ length (carried s)
+
+module _ (s : List ℕ) (p n : ℕ) (left : Left s p n) where
+  counted : leadingBytes (drop p s) ≡ [] → n ≡ length (carried s)
+  counted e = omega (arith, left, ap length e)
+
+  pub left-end : length s ≤ p + 1 → n ≡ length (carried s)
+  left-end h = counted (lead-short (drop p s) (omega (arith, length-drop p s)))
+
+  module _ (h : p + 1 < length s) where
+    pub left-high : isHex (getD s p 0) ≡ false → n ≡ length (carried s)
+    unfolding leadingBytes
+    left-high e = counted (ap leadingBytes (both-at s p h) ∙ pick-f _ _ _ (ap (λ (t : Bool). t && isHex (getD s (p + 1) 0)) e))
+
+    pub left-low : isHex (getD s p 0) ≡ true → isHex (getD s (p + 1) 0) ≡ false → n ≡ length (carried s)
+    unfolding leadingBytes
+    left-low e f = counted (ap leadingBytes (both-at s p h) ∙ pick-f _ _ _ (ap (λ (t : Bool). t && isHex (getD s (p + 1) 0)) e ∙ f))
+
+    pub left-two : isHex (getD s p 0) ≡ true → isHex (getD s (p + 1) 0) ≡ true → Left s (p + 2) (n + 1)
+    unfolding leadingBytes
+    left-two e f =
+        let more : leadingBytes (drop p s) ≡ two (getD s p 0) (getD s (p + 1) 0) ∷ leadingBytes (drop (p + 2) s) =
+        ap leadingBytes (both-at s p h) ∙ pick-t _ _ _ (ap (λ (t : Bool). t && isHex (getD s (p + 1) 0)) e ∙ f) in
+        omega (arith, left, ap length more)
+
+-- ---- the k-th of them
+
+pub record Digits (a b v : ℕ) : Type 0 where
+  pub high : isHex a ≡ true
+  pub low : isHex b ≡ true
+  pub value : v ≡ two a b
+
+-- two places on
+on-two : (a b : ℕ) (l : List ℕ) {i j m n v : ℕ} → i ≡ suc (suc m) → j ≡ suc (suc n) → Digits (getD l m 0) (getD l n 0) v → Digits (getD (a ∷ b ∷ l) i 0) (getD (a ∷ b ∷ l) j 0) v
+on-two a b l e f d = rw (e, f) d
+
+lead-at : (l : List ℕ) (k : ℕ) → k < length (leadingBytes l) → Digits (getD l (2 * k) 0) (getD l (1 + 2 * k) 0) (getD (leadingBytes l) k 0)
+unfolding leadingBytes
+lead-at [] k h = absurd (omega arith)
+lead-at (a ∷ []) k h = absurd (omega arith)
+lead-at (a ∷ b ∷ l) k h =
+    pick-if (λ (m : List ℕ). k < length m → Digits (getD (a ∷ b ∷ l) (2 * k) 0) (getD (a ∷ b ∷ l) (1 + 2 * k) 0) (getD m k 0)) (isHex a && isHex b) (λ e h. go (λ k. lead-at l k) e k h) (λ e h. absurd (omega arith)) h
   where
-    go : (b : ℕ) → isHex b ≡ true → 0 < b
-    go zero e = false-true e
-    go (suc b) e = omega arith
+    go : ((k : ℕ) → k < length (leadingBytes l) → Digits (getD l (2 * k) 0) (getD l (1 + 2 * k) 0) (getD (leadingBytes l) k 0)) → (isHex a && isHex b) ≡ true → (k : ℕ) → k < suc (length (leadingBytes l)) → Digits (getD (a ∷ b ∷ l) (2 * k) 0) (getD (a ∷ b ∷ l) (1 + 2 * k) 0) (getD (two a b ∷ leadingBytes l) k 0)
+    go at e zero h = record { high = and-left (isHex a) (isHex b) e; low = and-right (isHex a) (isHex b) e; value = refl }
+    go at e (suc k) h =
+        let i : 2 * suc k ≡ suc (suc (2 * k)) = omega arith in
+        let j : 1 + 2 * suc k ≡ suc (suc (1 + 2 * k)) = omega arith in
+        on-two a b l i j (at k (omega arith))
 
--- ---- what the definition reads, by the bytes that stand there
+lead-half : (l : List ℕ) → 2 * length (leadingBytes l) ≤ length l
+unfolding leadingBytes
+lead-half [] = omega arith
+lead-half (a ∷ []) = omega arith
+lead-half (a ∷ b ∷ l) = let h = lead-half l in pick-all (λ (m : List ℕ). 2 * length m ≤ suc (suc (length l))) (isHex a && isHex b) (omega arith) (omega arith)
 
-tab-list : (a : ℕ) (l : List ℕ) → a ≡ TAB → bytesAt (a ∷ l) ≡ good [] (a ∷ l)
-unfolding bytesAt
-tab-list a [] e = pick-t _ _ _ (eq-eqb _ _ e)
-tab-list a (b ∷ l) e = pick-t _ _ _ (eq-eqb _ _ e)
+pub carried-half : (s : List ℕ) → 2 * length (carried s) ≤ length s
+unfolding carried
+carried-half s = omega (arith, lead-half (drop 2 s), length-drop 2 s)
 
-high-list : (a : ℕ) (l : List ℕ) → (a ≡ TAB → ⊥) → isHex a ≡ false → bytesAt (a ∷ l) ≡ bad
-unfolding bytesAt
-high-list a [] n h = pick-f _ _ _ (ne-eqb _ _ n)
-high-list a (b ∷ l) n h = pick-f _ _ _ (ne-eqb _ _ n) ∙ pick-f _ _ _ (ap (λ (t : Bool). t && isHex b) h)
+pub carried-at : (s : List ℕ) (k : ℕ) → k < length (carried s) → Digits (getD s (2 + 2 * k) 0) (getD s (3 + 2 * k) 0) (getD (carried s) k 0)
+unfolding carried
+carried-at s k h =
+    let z : 2 + (1 + 2 * k) ≡ 3 + 2 * k = omega arith in
+    let d = lead-at (drop 2 s) k h in
+    rw (getD-drop 2 s (2 * k) 0, getD-drop 2 s (1 + 2 * k) 0, z) at d
 
--- no test holds with one that fails
-and-false : (c d : Bool) → d ≡ false → (c && d) ≡ false
-and-false true d e = e
-and-false false d e = refl
+pub carried-inside : (s : List ℕ) (k : ℕ) → k < length (carried s) → 3 + 2 * k < length s
+unfolding carried
+carried-inside s k h = omega (arith, lead-half (drop 2 s), length-drop 2 s)
 
-low-list : (a : ℕ) (l : List ℕ) → (a ≡ TAB → ⊥) → isHex (getD l 0 0) ≡ false → bytesAt (a ∷ l) ≡ bad
-unfolding bytesAt
-low-list a [] n h = pick-f _ _ _ (ne-eqb _ _ n)
-low-list a (b ∷ l) n h = pick-f _ _ _ (ne-eqb _ _ n) ∙ pick-f _ _ _ (and-false (isHex a) (isHex b) h)
+-- all of them
+pub whole : {l : List ℕ} {n : ℕ} → n ≡ length l → l ≡ take n l
+whole {l} {n} e = sym (take-all n l (omega arith))
 
-two-list : (a b : ℕ) (l : List ℕ) → (a ≡ TAB → ⊥) → isHex a ≡ true → isHex b ≡ true
-    → bytesAt (a ∷ b ∷ l) ≡ onGood (bytesAt l) (λ bytes rest. good ((hexValue a * 16 + hexValue b) ∷ bytes) rest)
-unfolding bytesAt
-two-list a b l n h k = pick-f _ _ _ (ne-eqb _ _ n) ∙ pick-t _ _ _ (ap (λ (t : Bool). t && isHex b) h ∙ k)
+-- one byte more is stored
+pub store-more : (old bytes : List ℕ) (k : ℕ) → k < length bytes → set (sets old 0 (take k bytes)) k (getD bytes k 0) ≡ sets old 0 (take (k + 1) bytes)
+store-more old bytes k h =
+    let z : 0 + length (take k bytes) ≡ k = omega (arith, length-take-le k bytes (omega arith)) in
+    sym
+    (ap (λ (i : ℕ). sets old 0 (take i bytes)) (add-one k)
+    ∙ ap (sets old 0) (take-suc bytes k 0 h)
+    ∙ sets-append old 0 (take k bytes) (getD bytes k 0 ∷ [])
+    ∙ ap (λ (i : ℕ). set (sets old 0 (take k bytes)) i (getD bytes k 0)) z)
 
--- ---- n bytes are in `out`, and what is left from place p on gives the whole
+-- ---- a field of bytes
 
-abbrev pub Left : List ℕ → ℕ → List ℕ → ℕ → ℕ → Type 0
-Left s at out p n = onGood (bytesAt (drop p s)) (λ bytes rest. good (take n out ++ bytes) rest) ≡ bytesAt (drop at s)
+-- where no tab follows the bytes nothing is read
+abbrev Guarded : (List ℕ → List ℕ → Parsed Call) → Type 0
+Guarded k = (bytes : List ℕ) (b : ℕ) (rest : List ℕ) → (b ≡ TAB → ⊥) → k bytes (b ∷ rest) ≡ bad
 
-module _ (s : List ℕ) (at : ℕ) (out : List ℕ) (p n : ℕ) (left : Left s at out p n) where
-  stop : {q : Parsed (List ℕ)} → bytesAt (drop p s) ≡ q → onGood q (λ bytes rest. good (take n out ++ bytes) rest) ≡ bytesAt (drop at s)
-  stop e = ap (λ (r : Parsed (List ℕ)). onGood r (λ bytes rest. good (take n out ++ bytes) rest)) (sym e) ∙ left
-
-  ends : bytesAt (drop p s) ≡ good [] (drop p s) → bytesAt (drop at s) ≡ good (take n out) (drop p s)
-  unfolding onGood
-  ends e = sym (stop e) ∙ ap (λ (l : List ℕ). good l (drop p s)) (append-nil (take n out))
-
-  pub left-tab : p < length s → getD s p 0 ≡ TAB → bytesAt (drop at s) ≡ good (take n out) (drop p s)
-  left-tab h e = ends (rw (from-byte s p h) (tab-list (getD s p 0) (drop (p + 1) s) e))
-
-  pub left-end : length s ≤ p → bytesAt (drop at s) ≡ good (take n out) (drop p s)
-  unfolding bytesAt
-  left-end h = ends (rw (drop-of-length-le s {i = p} h) refl)
-
-  pub left-high : p < length s → (getD s p 0 ≡ TAB → ⊥) → isHex (getD s p 0) ≡ false → bytesAt (drop at s) ≡ bad
-  unfolding onGood
-  left-high h t e = sym (stop {q = bad} (rw (from-byte s p h) (high-list (getD s p 0) (drop (p + 1) s) t e)))
-
-  pub left-low : p < length s → (getD s p 0 ≡ TAB → ⊥) → isHex (getD s (p + 1) 0) ≡ false → bytesAt (drop at s) ≡ bad
-  unfolding onGood
-  left-low h t e =
-      let z : p + 1 + 0 ≡ p + 1 = omega arith in
-      let f : isHex (getD (drop (p + 1) s) 0 0) ≡ false = ap isHex (getD-drop (p + 1) s 0 0 ∙ ap (λ (k : ℕ). getD s k 0) z) ∙ e in
-      sym (stop {q = bad} (rw (from-byte s p h) (low-list (getD s p 0) (drop (p + 1) s) t f)))
-
-  pub left-two : p + 1 < length s → n < length out → (getD s p 0 ≡ TAB → ⊥) → isHex (getD s p 0) ≡ true → isHex (getD s (p + 1) 0) ≡ true
-      → Left s at (set out n (hexValue (getD s p 0) * 16 + hexValue (getD s (p + 1) 0))) (p + 2) (n + 1)
-  unfolding onGood
-  left-two h k t a b =
-      let v = hexValue (getD s p 0) * 16 + hexValue (getD s (p + 1) 0) in
-      let z : p + 1 + 1 ≡ p + 2 = omega arith in
-      let l : p < length s = omega arith in
-      let both : drop p s ≡ getD s p 0 ∷ getD s (p + 1) 0 ∷ drop (p + 2) s = from-byte s p l ∙ ap (λ (r : List ℕ). getD s p 0 ∷ r) (from-byte s (p + 1) h) ∙ ap (λ (i : ℕ). getD s p 0 ∷ getD s (p + 1) 0 ∷ drop i s) z in
-      let e : bytesAt (drop p s) ≡ onGood (bytesAt (drop (p + 2) s)) (λ bytes rest. good (v ∷ bytes) rest) = rw both (two-list (getD s p 0) (getD s (p + 1) 0) (drop (p + 2) s) t a b) in
-      on-same (bytesAt (drop (p + 2) s)) (λ bytes rest. ap (λ (r : List ℕ). good r rest) (grown bytes))
-      ∙ sym (on-on (bytesAt (drop (p + 2) s)) (λ bytes rest. good (v ∷ bytes) rest) (λ bytes rest. good (take n out ++ bytes) rest))
-      ∙ stop e
-    where
-      grown : (bytes : List ℕ) → take (n + 1) (set out n (hexValue (getD s p 0) * 16 + hexValue (getD s (p + 1) 0))) ++ bytes ≡ take n out ++ (hexValue (getD s p 0) * 16 + hexValue (getD s (p + 1) 0)) ∷ bytes
-      grown bytes =
-          let v = hexValue (getD s p 0) * 16 + hexValue (getD s (p + 1) 0) in
-          ap (λ (i : ℕ). take i (set out n v) ++ bytes) (add-one n)
-          ∙ ap (λ (r : List ℕ). r ++ bytes) (take-suc-set out n v k)
-          ∙ append-assoc (take n out) (v ∷ []) bytes
-
-pub left-none : (s : List ℕ) (at : ℕ) (out : List ℕ) → Left s at out at 0
+-- a byte that is a tab, or none
+tab-or : (k : List ℕ → List ℕ → Parsed Call) → Guarded k → (b : ℕ) (rest : List ℕ) → onGood (pick (eqb b TAB) (good [] (b ∷ rest)) bad) k ≡ k [] (b ∷ rest)
 unfolding onGood
-left-none s at out = on-id (bytesAt (drop at s))
+tab-or k g b rest =
+    pick-if (λ (p : Parsed (List ℕ)). onGood p k ≡ k [] (b ∷ rest)) (eqb b TAB) (λ e. refl) (λ e. sym (g [] b rest (λ t. false-true (sym e ∙ eq-eqb _ _ t))))
 
--- ---- n bytes are stored in `out`, and those that are left from place p on stored behind them give the whole
-
-abbrev pub Filled : List ℕ → ℕ → List ℕ → List ℕ → ℕ → ℕ → Type 0
-Filled s at old out p n = sets out n (leadingBytes (drop p s)) ≡ sets old 0 (leadingBytes (drop at s))
-
-lead-high : (a : ℕ) (l : List ℕ) → isHex a ≡ false → leadingBytes (a ∷ l) ≡ []
-unfolding leadingBytes
-lead-high a [] h = refl
-lead-high a (b ∷ l) h = pick-f _ _ _ (ap (λ (t : Bool). t && isHex b) h)
-
-lead-low : (a : ℕ) (l : List ℕ) → isHex (getD l 0 0) ≡ false → leadingBytes (a ∷ l) ≡ []
-unfolding leadingBytes
-lead-low a [] h = refl
-lead-low a (b ∷ l) h = pick-f _ _ _ (and-false (isHex a) (isHex b) h)
-
-pub tab-no-hex : {b : ℕ} → b ≡ TAB → isHex b ≡ false
+-- a tab is no digit
+no-tab : (a : ℕ) → isHex a ≡ true → eqb a TAB ≡ false
 unfolding isHex isDigit
-tab-no-hex e = ap isHex e
+no-tab a e = ne-eqb a TAB (λ t. false-true (sym (ap isHex t) ∙ e))
 
-module _ (s old out : List ℕ) (at p n : ℕ) (filled : Filled s at old out p n) where
-  -- nothing more is stored
-  stops : leadingBytes (drop p s) ≡ [] → out ≡ sets old 0 (leadingBytes (drop at s))
-  stops e = sym (ap (sets out n) e) ∙ filled
+bytes-lead : (l : List ℕ) (k : List ℕ → List ℕ → Parsed Call) → Guarded k → onGood (bytesAt l) k ≡ k (leadingBytes l) (drop (2 * length (leadingBytes l)) l)
+unfolding bytesAt leadingBytes onGood pick
+bytes-lead [] k g = refl
+bytes-lead (a ∷ []) k g = tab-or k g a []
+bytes-lead (a ∷ b ∷ l) k g =
+    go (bytes-lead l (λ bytes rest. k (two a b ∷ bytes) rest) (λ bytes x rest t. g (two a b ∷ bytes) x rest t)) (isHex a && isHex b) refl
+  where
+    more : Parsed (List ℕ)
+    more = onGood (bytesAt l) (λ bytes rest. good (two a b ∷ bytes) rest)
 
-  pub filled-high : p < length s → isHex (getD s p 0) ≡ false → out ≡ sets old 0 (leadingBytes (drop at s))
-  filled-high h e = stops (rw (from-byte s p h) (lead-high (getD s p 0) (drop (p + 1) s) e))
+    go : onGood (bytesAt l) (λ bytes rest. k (two a b ∷ bytes) rest) ≡ k (two a b ∷ leadingBytes l) (drop (2 * length (leadingBytes l)) l)
+        → (t : Bool) → (isHex a && isHex b) ≡ t
+        → onGood (pick (eqb a TAB) (good [] (a ∷ b ∷ l)) (pick t more bad)) k
+        ≡ k (pick t (two a b ∷ leadingBytes l) []) (drop (2 * length (pick t (two a b ∷ leadingBytes l) [])) (a ∷ b ∷ l))
+    go ih true e =
+        let n : ℕ = length (leadingBytes l) in
+        let z : suc (suc (2 * n)) ≡ 2 * suc n = omega arith in
+        ap (λ (p : Parsed (List ℕ)). onGood p k) (pick-f _ _ _ (no-tab a (and-left (isHex a) (isHex b) e)))
+        ∙ on-on (bytesAt l) (λ bytes rest. good (two a b ∷ bytes) rest) k
+        ∙ ih
+        ∙ ap (λ (i : ℕ). k (two a b ∷ leadingBytes l) (drop i (a ∷ b ∷ l))) z
+    go ih false e = tab-or k g a (b ∷ l)
 
-  pub filled-low : p < length s → isHex (getD s (p + 1) 0) ≡ false → out ≡ sets old 0 (leadingBytes (drop at s))
-  filled-low h e =
-      let z : p + 1 + 0 ≡ p + 1 = omega arith in
-      let f : isHex (getD (drop (p + 1) s) 0 0) ≡ false = ap isHex (getD-drop (p + 1) s 0 0 ∙ ap (λ (k : ℕ). getD s k 0) z) ∙ e in
-      stops (rw (from-byte s p h) (lead-low (getD s p 0) (drop (p + 1) s) f))
+-- the answer to a rule of bytes, by the bytes that the line carries
+pub as-carried : {s : List ℕ} (k : List ℕ → List ℕ → Parsed Call) {r : declared.Call} {n : ℕ} → Guarded (λ bytes rest. atEnd (k bytes rest)) → getD s 1 0 ≡ TAB → n ≡ length (carried s)
+    → Asks s (k (carried s) (drop (2 + 2 * n) s)) r → Asks s (onGood (bytesField (drop 1 s)) k) r
+unfolding bytesField carried onGood
+as-carried {s} k {r} {n} g t e a =
+    let end : List ℕ → List ℕ → Parsed Call = λ bytes rest. atEnd (k bytes rest) in
+    record {
+      reads =
+          at-on (bytesField (drop 1 s)) k
+          ∙ ap (λ (p : Parsed (List ℕ)). onGood p end) (expect-hit s 1 TAB bytesAt (omega arith) t)
+          ∙ bytes-lead (drop 2 s) end g
+          ∙ ap (end (carried s)) (drop-drop (2 * length (carried s)) 2 s)
+          ∙ ap (λ (i : ℕ). end (carried s) (drop (2 + 2 * i) s)) (sym e)
+          ∙ a .reads;
+      carries = a .carries;
+      within = a .within;
+    }
 
-  pub filled-end : length s ≤ p → out ≡ sets old 0 (leadingBytes (drop at s))
-  unfolding leadingBytes
-  filled-end h = stops (rw (drop-of-length-le s {i = p} h) refl)
+pub no-bytes : (s : List ℕ) → (getD s 1 0 ≡ TAB → ⊥) → bytesField (drop 1 s) ≡ bad
+unfolding bytesField
+no-bytes s n = expect-miss s 1 TAB bytesAt n
 
-  pub filled-two : p + 1 < length s → isHex (getD s p 0) ≡ true → isHex (getD s (p + 1) 0) ≡ true
-      → Filled s at old (set out n (hexValue (getD s p 0) * 16 + hexValue (getD s (p + 1) 0))) (p + 2) (n + 1)
-  unfolding leadingBytes
-  filled-two h a b =
-      let v = hexValue (getD s p 0) * 16 + hexValue (getD s (p + 1) 0) in
-      let z : p + 1 + 1 ≡ p + 2 = omega arith in
-      let l : p < length s = omega arith in
-      let both : drop p s ≡ getD s p 0 ∷ getD s (p + 1) 0 ∷ drop (p + 2) s = from-byte s p l ∙ ap (λ (r : List ℕ). getD s p 0 ∷ r) (from-byte s (p + 1) h) ∙ ap (λ (i : ℕ). getD s p 0 ∷ getD s (p + 1) 0 ∷ drop i s) z in
-      let e : leadingBytes (drop p s) ≡ v ∷ leadingBytes (drop (p + 2) s) = ap leadingBytes both ∙ pick-t _ _ _ (ap (λ (t : Bool). t && isHex (getD s (p + 1) 0)) a ∙ b) in
-      ap (λ (i : ℕ). sets (set out n v) i (leadingBytes (drop (p + 2) s))) (add-one n) ∙ sym (ap (sets out n) e) ∙ filled
+-- ---- what follows the bytes: a number, nothing, or nothing where they are four
 
--- after a tab, or none
-pub field-tab : (s : List ℕ) (at : ℕ) → at < length s → getD s at 0 ≡ TAB → fieldBytes (drop at s) ≡ leadingBytes (drop (at + 1) s)
-unfolding fieldBytes
-field-tab s at h e = ap fieldBytes (from-byte s at h) ∙ pick-t _ _ _ (eq-eqb _ _ e)
+pub room-guard : (most : ℕ) (call : List ℕ → ℕ → Call) → Guarded (λ bytes rest. atEnd (onGood (fieldAt most rest) (λ n rest'. good (call bytes n) rest')))
+unfolding fieldAt expect atEnd
+room-guard most call bytes b rest n = ap atEnd (on-bad _ (pick-f _ _ _ (ne-eqb _ _ n)))
 
-pub field-none : (s : List ℕ) (at : ℕ) → (getD s at 0 ≡ TAB → ⊥) → fieldBytes (drop at s) ≡ []
-unfolding fieldBytes
-field-none s at n = from-place (λ l. fieldBytes l ≡ []) s at (λ l. pick-f _ _ _ (ne-eqb _ _ n)) (λ z. refl)
+pub alone-guard : (call : List ℕ → Call) → Guarded (λ bytes rest. atEnd (good (call bytes) rest))
+unfolding atEnd
+alone-guard call bytes b rest n = refl
+
+pub four-guard : Guarded (λ bytes rest. atEnd (fieldFrom bytes (λ f. good (readField f) rest)))
+unfolding fieldFrom atEnd
+four-guard bytes b rest n = pick-all (λ (p : Parsed Call). atEnd p ≡ bad) (eqb (length bytes) 4) refl refl
+
+pub four-not : (bytes : List ℕ) {n : ℕ} (next : Field → Parsed Call) → n ≡ length bytes → (n ≡ 4 → ⊥) → fieldFrom bytes next ≡ bad
+unfolding fieldFrom
+four-not bytes next e n = pick-f _ _ _ (ne-eqb _ _ (λ f. n (e ∙ f)))
+
+pub four-is : (s bytes : List ℕ) {n : ℕ} → n ≡ length bytes → n ≡ 4
+    → fieldFrom bytes (λ f. good (readField f) (drop (2 + 2 * n) s)) ≡ good (readField (four (getD bytes 0 0) (getD bytes 1 0) (getD bytes 2 0) (getD bytes 3 0))) (drop 10 s)
+unfolding fieldFrom
+four-is s bytes e f = pick-t _ _ _ (eq-eqb _ _ (sym e ∙ f)) ∙ ap (λ (i : ℕ). good (readField (four (getD bytes 0 0) (getD bytes 1 0) (getD bytes 2 0) (getD bytes 3 0))) (drop (2 + 2 * i) s)) f

@@ -1,3 +1,3 @@
+pub mod Steps
 pub mod Hex
 pub mod Figures
-pub mod Lines

@@ -14,7 +14,7 @@ use Rattle.field.specs.declared.Weight.{Weight}
 use Rattle.field.specs.Field.{four, weight}
 use Rattle.journal.specs.declared.Line.{Line}
 use Rattle.journal.specs.declared.Line.the-variants.{Dose, On}
-use Rattle.text.specs.Scan.{TAB, expect, onGood}
+use Rattle.text.specs.Scan.{TAB, expect, onGood, fieldAt}
 
 -- every call of the box and of its writers and readers
 pub data Call : Type 0 where
@@ -34,37 +34,14 @@ pub data Call : Type 0 where
   hour : List ℕ → ℕ → Call
   hours : List ℕ → ℕ → Call
 
--- the letter that it stands under
-unfoldable pub letterOf : Call → ℕ
-letterOf (tick x i) = 84
-letterOf (link on) = 76
-letterOf (settings set) = 83
-letterOf reset = 67
-letterOf counters = 81
-letterOf (restart set count total) = 78
-letterOf (request s room) = 66
-letterOf (writeFrame body room) = 87
-letterOf (readFrame s) = 88
-letterOf (writeField w) = 71
-letterOf (readField f) = 75
-letterOf (writeLine (Dose h c a s) room) = 68
-letterOf (writeLine (On h) room) = 72
-letterOf (readLine s) = 108
-letterOf (hour s h) = 117
-letterOf (hours s room) = 106
-
 -- ---- fields: one tab before each
 
 abbrev pub greatest32 : ℕ
 greatest32 = 4294967295
 
--- a number of at most `most`
-unfoldable pub numberField : {X : Type 0} → ℕ → List ℕ → (ℕ → List ℕ → Parsed X) → Parsed X
-numberField most l next = expect TAB l (λ rest. onGood (numberAt most rest) next)
-
 -- 0 or 1
-unfoldable pub flagField : {X : Type 0} → List ℕ → (Bool → List ℕ → Parsed X) → Parsed X
-flagField l next = numberField 1 l (λ n rest. next (eqb n 1) rest)
+unfoldable pub flagField : List ℕ → Parsed Bool
+flagField l = onGood (fieldAt 1 l) (λ n rest. good (eqb n 1) rest)
 
 -- a number below 0: a minus, and a number that is not 0
 unfoldable pub minus : Parsed ℕ → Parsed ℤ
@@ -81,8 +58,8 @@ unfoldable pub signedAt : List ℕ → Parsed ℤ
 signedAt [] = bad
 signedAt (b ∷ bs) = pick (eqb b 45) (minus (numberAt 2147483648 bs)) (plus (numberAt 2147483647 (b ∷ bs)))
 
-unfoldable pub signedField : {X : Type 0} → List ℕ → (ℤ → List ℕ → Parsed X) → Parsed X
-signedField l next = expect TAB l (λ rest. onGood (signedAt rest) next)
+unfoldable pub signedField : List ℕ → Parsed ℤ
+signedField l = expect TAB l signedAt
 
 -- 0..9 and A..F
 unfoldable pub isHex : ℕ → Bool
@@ -99,17 +76,13 @@ bytesAt (a ∷ b ∷ l) =
     let more = onGood (bytesAt l) (λ bytes rest. good ((hexValue a * 16 + hexValue b) ∷ bytes) rest) in
     pick (eqb a TAB) (good [] (a ∷ b ∷ l)) (pick (isHex a && isHex b) more bad)
 
-unfoldable pub bytesField : {X : Type 0} → List ℕ → (List ℕ → List ℕ → Parsed X) → Parsed X
-bytesField l next = expect TAB l (λ rest. onGood (bytesAt rest) next)
+unfoldable pub bytesField : List ℕ → Parsed (List ℕ)
+bytesField l = expect TAB l bytesAt
 
 -- n numbers, each of at most 4,294,967,295
-unfoldable pub numbersField : {X : Type 0} → ℕ → List ℕ → (List ℕ → List ℕ → Parsed X) → Parsed X
-numbersField zero l next = next [] l
-numbersField (suc n) l next = numberField greatest32 l (λ v rest. numbersField n rest (λ vs rest'. next (v ∷ vs) rest'))
-
--- SET stands for the 17 settings in the order of document 01's table
-unfoldable pub setField : {X : Type 0} → List ℕ → (Settings → List ℕ → Parsed X) → Parsed X
-setField l next = numbersField 17 l (λ vs rest. next (setOf vs) rest)
+unfoldable pub numbersField : ℕ → List ℕ → Parsed (List ℕ)
+numbersField zero l = good [] l
+numbersField (suc n) l = onGood (fieldAt greatest32 l) (λ v rest. onGood (numbersField n rest) (λ vs rest'. good (v ∷ vs) rest'))
 
 -- four bytes
 unfoldable pub fieldFrom : {X : Type 0} → List ℕ → (Field → Parsed X) → Parsed X
@@ -118,71 +91,53 @@ fieldFrom bytes next =
 
 -- ---- calls: after the letter
 
+-- T sample inputs
 unfoldable pub tickAt : List ℕ → Parsed Call
-tickAt l = signedField l (λ x rest. numberField 255 rest (λ i rest'. good (tick x i) rest'))
+tickAt l = onGood (signedField l) (λ x rest. onGood (fieldAt 255 rest) (λ i rest'. good (tick x i) rest'))
 
+-- L 0 or 1
 unfoldable pub linkAt : List ℕ → Parsed Call
-linkAt l = flagField l (λ on rest. good (link on) rest)
+linkAt l = onGood (flagField l) (λ on rest. good (link on) rest)
 
+-- S SET: the 17 settings in the order of document 01's table
 unfoldable pub settingsAt : List ℕ → Parsed Call
-settingsAt l = setField l (λ set rest. good (settings set) rest)
+settingsAt l = onGood (numbersField 17 l) (λ vs rest. good (settings (setOf vs)) rest)
 
+-- N SET count total, the count behind the 17 settings
 unfoldable pub restartAt : List ℕ → Parsed Call
-restartAt l =
-    setField l (λ set rest.
-    numberField greatest32 rest (λ count rest'. numberField greatest32 rest' (λ total rest''. good (restart set count total) rest'')))
+restartAt l = onGood (numbersField 19 l) (λ vs rest. good (restart (setOf vs) (getD vs 17 0) (getD vs 18 0)) rest)
 
--- bytes, and the room of a buffer
+-- B, W and j: bytes, and the room of a buffer; u: bytes, and an hour
 unfoldable pub roomAt : ℕ → (List ℕ → ℕ → Call) → List ℕ → Parsed Call
-roomAt most call l = bytesField l (λ bytes rest. numberField most rest (λ room rest'. good (call bytes room) rest'))
+roomAt most call l = onGood (bytesField l) (λ bytes rest. onGood (fieldAt most rest) (λ n rest'. good (call bytes n) rest'))
 
+-- X and l: bytes
 unfoldable pub bytesCall : (List ℕ → Call) → List ℕ → Parsed Call
-bytesCall call l = bytesField l (λ bytes rest. good (call bytes) rest)
+bytesCall call l = onGood (bytesField l) (λ bytes rest. good (call bytes) rest)
 
+-- G weight stable over point
 unfoldable pub writeFieldAt : List ℕ → Parsed Call
 writeFieldAt l =
-    signedField l (λ w rest.
-    flagField rest (λ stable rest'.
-    flagField rest' (λ over rest''.
-    numberField 255 rest'' (λ point rest'''. good (writeField (weight w stable over point)) rest'''))))
+    onGood (signedField l) (λ w rest.
+    onGood (flagField rest) (λ stable rest'.
+    onGood (flagField rest') (λ over rest''.
+    onGood (fieldAt 255 rest'') (λ point rest'''. good (writeField (weight w stable over point)) rest'''))))
 
+-- K four bytes
 unfoldable pub readFieldAt : List ℕ → Parsed Call
-readFieldAt l = bytesField l (λ bytes rest. fieldFrom bytes (λ f. good (readField f) rest))
+readFieldAt l = onGood (bytesField l) (λ bytes rest. fieldFrom bytes (λ f. good (readField f) rest))
 
+-- D hour count amount settled room
 unfoldable pub doseAt : List ℕ → Parsed Call
 doseAt l =
-    numbersField 4 l (λ vs rest.
-    numberField 64 rest (λ room rest'. good (writeLine (Dose (getD vs 0 0) (getD vs 1 0) (getD vs 2 0) (getD vs 3 0)) room) rest'))
+    onGood (numbersField 4 l) (λ vs rest.
+    onGood (fieldAt 64 rest) (λ room rest'. good (writeLine (Dose (getD vs 0 0) (getD vs 1 0) (getD vs 2 0) (getD vs 3 0)) room) rest'))
 
+-- H hour room
 unfoldable pub onAt : List ℕ → Parsed Call
-onAt l = numberField greatest32 l (λ h rest. numberField 64 rest (λ room rest'. good (writeLine (On h) room) rest'))
+onAt l = onGood (fieldAt greatest32 l) (λ h rest. onGood (fieldAt 64 rest) (λ room rest'. good (writeLine (On h) room) rest'))
 
-unfoldable pub hourAt : List ℕ → Parsed Call
-hourAt l = bytesField l (λ bytes rest. numberField greatest32 rest (λ h rest'. good (hour bytes h) rest'))
-
--- the letter says which call: first those that need no controller
-unfoldable pub toolBy : ℕ → List ℕ → Parsed Call
-toolBy letter l =
-    -- W
-    pick (eqb letter 87) (roomAt 600 writeFrame l)
-    -- X
-    (pick (eqb letter 88) (bytesCall readFrame l)
-    -- G
-    (pick (eqb letter 71) (writeFieldAt l)
-    -- K
-    (pick (eqb letter 75) (readFieldAt l)
-    -- D
-    (pick (eqb letter 68) (doseAt l)
-    -- H
-    (pick (eqb letter 72) (onAt l)
-    -- l
-    (pick (eqb letter 108) (bytesCall readLine l)
-    -- u
-    (pick (eqb letter 117) (hourAt l)
-    -- j
-    (pick (eqb letter 106) (roomAt 2000 hours l)
-    bad))))))))
-
+-- the letter says which call
 unfoldable pub callBy : ℕ → List ℕ → Parsed Call
 callBy letter l =
     -- T
@@ -199,7 +154,25 @@ callBy letter l =
     (pick (eqb letter 78) (restartAt l)
     -- B
     (pick (eqb letter 66) (roomAt 64 request l)
-    (toolBy letter l)))))))
+    -- W
+    (pick (eqb letter 87) (roomAt 600 writeFrame l)
+    -- X
+    (pick (eqb letter 88) (bytesCall readFrame l)
+    -- G
+    (pick (eqb letter 71) (writeFieldAt l)
+    -- K
+    (pick (eqb letter 75) (readFieldAt l)
+    -- D
+    (pick (eqb letter 68) (doseAt l)
+    -- H
+    (pick (eqb letter 72) (onAt l)
+    -- l
+    (pick (eqb letter 108) (bytesCall readLine l)
+    -- u
+    (pick (eqb letter 117) (roomAt greatest32 hour l)
+    -- j
+    (pick (eqb letter 106) (roomAt 2000 hours l)
+    bad)))))))))))))))
 
 -- nothing follows the last field
 unfoldable pub atEnd : Parsed Call → Parsed Call

@@ -1,5 +1,4 @@
 pub mod Call
-pub mod Letters
-pub mod Reading
 pub mod Reads
+pub mod Reading
 pub mod Cases

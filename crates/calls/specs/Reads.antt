@@ -1,234 +1,189 @@
--- The call that a line was read as, and what each reader answers. Assumes nothing.
-use mathlib.Core.Path.{_≡_, refl, sym, ap, _∙_, subst}
+-- The call that a line is read as, and what the reader promises. Assumes nothing.
+use mathlib.Core.Path.{_≡_, refl, sym, ap, _∙_}
+use mathlib.Core.Bool.{Bool, _&&_}
 use mathlib.Core.List.{List, []}
-use Prim.Native.Nat.{ℕ, _*_, _≤_}
+use Prim.Native.Nat.{ℕ, _≤_}
+use native.Mathlib.Omega.{arith}
+use native.Mathlib.Decide.{decLt}
 use lib.Dec.{leb}
-use lib.ListN.{length, take, drop, replicate}
-use lib.Seq.{sets, length-take-le}
-use borrow.Author.Tests.{le-leb}
-use Rattle.laws.specs.Pick.{pick, pick-t}
+use lib.ListN.{length, take, drop, length-append, length-drop, length-take}
+use lib.Seq.{length-take-le}
+use borrow.Author.Tests.{le-leb, lt-leb}
+use Rattle.laws.specs.Pick.{pick, pick-t, pick-f}
+use Rattle.laws.specs.Over.{over}
 use Rattle.laws.specs.Decimal.{Parsed, good, bad}
-use Rattle.paper.specs.Answer.{same}
-use Rattle.settings.specs.declared.Settings.{Settings}
-use Rattle.journal.specs.declared.Line.{Line}
 use Rattle.text.specs.ScanLaws.{bad-good}
-use Rattle.calls.specs.Call.{Call, tick, link, settings, restart, request, readFrame, writeField, readField, writeLine, atEnd, roomAt, bytesCall}
-use Rattle.calls.specs.Reading.{fits, bytesLeft}
-use Rattle.calls.specs.declared.TickCall.{TickCall}
-use Rattle.calls.specs.declared.TickCall.the-variants as T
-use Rattle.calls.specs.declared.LinkCall.{LinkCall}
-use Rattle.calls.specs.declared.LinkCall.the-variants as L
-use Rattle.calls.specs.declared.SetCall.{SetCall}
-use Rattle.calls.specs.declared.SetCall.the-variants as S
-use Rattle.calls.specs.declared.RestartCall.{RestartCall}
-use Rattle.calls.specs.declared.RestartCall.the-variants as N
-use Rattle.calls.specs.declared.WeightCall.{WeightCall}
-use Rattle.calls.specs.declared.WeightCall.the-variants as G
-use Rattle.calls.specs.declared.FieldCall.{FieldCall}
-use Rattle.calls.specs.declared.FieldCall.the-variants as K
-use Rattle.calls.specs.declared.RoomCall.{RoomCall}
-use Rattle.calls.specs.declared.RoomCall.the-variants as W
-use Rattle.calls.specs.declared.BytesCall.{BytesCall}
-use Rattle.calls.specs.declared.BytesCall.the-variants as B
-use Rattle.calls.specs.declared.LineCall.{LineCall}
-use Rattle.calls.specs.declared.LineCall.the-variants as D
+use Rattle.calls.specs.Call.{Call, tick, link, settings, reset, counters, restart, request, writeFrame, readFrame, writeField, readField, writeLine, readLine, hour, hours, callOf}
+use Rattle.calls.specs.declared.Call as declared
+use Rattle.calls.specs.declared.Call.the-variants as C
 
--- ---- the call that a line was read as
+-- the call that an answer of the reader stands for; its bytes are the first of `bytes`
+unfoldable pub asCall : List ℕ → declared.Call → Parsed Call
+asCall bytes (C.Tick x i) = good (tick x i) []
+asCall bytes (C.Link on) = good (link on) []
+asCall bytes (C.Settings set) = good (settings set) []
+asCall bytes C.Reset = good reset []
+asCall bytes C.Counters = good counters []
+asCall bytes (C.Restart set count total) = good (restart set count total) []
+asCall bytes (C.Request n room) = good (request (take n bytes) room) []
+asCall bytes (C.WriteFrame n room) = good (writeFrame (take n bytes) room) []
+asCall bytes (C.ReadFrame n) = good (readFrame (take n bytes)) []
+asCall bytes (C.WriteField w) = good (writeField w) []
+asCall bytes (C.ReadField f) = good (readField f) []
+asCall bytes (C.WriteLine l room) = good (writeLine l room) []
+asCall bytes (C.ReadLine n) = good (readLine (take n bytes)) []
+asCall bytes (C.Hour n h) = good (hour (take n bytes) h) []
+asCall bytes (C.Hours n room) = good (hours (take n bytes) room) []
+asCall bytes C.Unknown = bad
 
-abbrev pub asTick : TickCall → Parsed Call
-asTick (T.Tick x i) = good (tick x i) []
-asTick T.Unknown = bad
+-- the bytes that a call carries
+unfoldable pub bytesIn : Parsed Call → List ℕ
+bytesIn (good (tick x i) rest) = []
+bytesIn (good (link on) rest) = []
+bytesIn (good (settings set) rest) = []
+bytesIn (good reset rest) = []
+bytesIn (good counters rest) = []
+bytesIn (good (restart set count total) rest) = []
+bytesIn (good (request s room) rest) = s
+bytesIn (good (writeFrame s room) rest) = s
+bytesIn (good (readFrame s) rest) = s
+bytesIn (good (writeField w) rest) = []
+bytesIn (good (readField f) rest) = []
+bytesIn (good (writeLine l room) rest) = []
+bytesIn (good (readLine s) rest) = s
+bytesIn (good (hour s h) rest) = s
+bytesIn (good (hours s room) rest) = s
+bytesIn bad = []
 
-abbrev pub asLink : LinkCall → Parsed Call
-asLink (L.Link on) = good (link on) []
-asLink L.Unknown = bad
+-- how many bytes an answer carries
+unfoldable pub sizeOf : declared.Call → ℕ
+sizeOf (C.Tick x i) = 0
+sizeOf (C.Link on) = 0
+sizeOf (C.Settings set) = 0
+sizeOf C.Reset = 0
+sizeOf C.Counters = 0
+sizeOf (C.Restart set count total) = 0
+sizeOf (C.Request n room) = n
+sizeOf (C.WriteFrame n room) = n
+sizeOf (C.ReadFrame n) = n
+sizeOf (C.WriteField w) = 0
+sizeOf (C.ReadField f) = 0
+sizeOf (C.WriteLine l room) = 0
+sizeOf (C.ReadLine n) = n
+sizeOf (C.Hour n h) = n
+sizeOf (C.Hours n room) = n
+sizeOf C.Unknown = 0
 
-abbrev pub asSet : SetCall → Parsed Call
-asSet (S.Set set) = good (settings set) []
-asSet S.Unknown = bad
+-- a line of at most 4,095 bytes, its LF left out, read with room for the bytes of every line; else nothing is asked
+unfoldable pub readIn : ℕ → List ℕ → Parsed Call
+readIn room l = pick (leb 2048 room && leb (length l) 4095) (callOf l) bad
 
-abbrev pub asRestart : RestartCall → Parsed Call
-asRestart (N.Restart set count total) = good (restart set count total) []
-asRestart N.Unknown = bad
+-- the bytes lie in a buffer of 2,048, and a buffer's room is at most what the call takes
+unfoldable pub Within : declared.Call → Type 0
+Within (C.Tick x i) = Unit {0}
+Within (C.Link on) = Unit {0}
+Within (C.Settings set) = Unit {0}
+Within C.Reset = Unit {0}
+Within C.Counters = Unit {0}
+Within (C.Restart set count total) = Unit {0}
+Within (C.Request n room) = (n ≤ 2048) × (room ≤ 64)
+Within (C.WriteFrame n room) = (n ≤ 2048) × (room ≤ 600)
+Within (C.ReadFrame n) = n ≤ 2048
+Within (C.WriteField w) = Unit {0}
+Within (C.ReadField f) = Unit {0}
+Within (C.WriteLine l room) = room ≤ 64
+Within (C.ReadLine n) = n ≤ 2048
+Within (C.Hour n h) = n ≤ 2048
+Within (C.Hours n room) = (n ≤ 2048) × (room ≤ 2000)
+Within C.Unknown = Unit {0}
 
-abbrev pub asWeight : WeightCall → Parsed Call
-asWeight (G.Weight w) = good (writeField w) []
-asWeight G.Unknown = bad
+-- the answer is the line's call; its bytes stand at the buffer's start, the rest of which is as it was: all of it where the line is no call
+pub record Reads (l old new : List ℕ) (r : declared.Call) : Type 0 where
+  pub reads : asCall new r ≡ readIn (length old) l
+  pub left : new ≡ over (bytesIn (readIn (length old) l)) old
+  pub within : Within r
 
-abbrev pub asField : FieldCall → Parsed Call
-asField (K.Field f) = good (readField f) []
-asField K.Unknown = bad
+-- ---- an answer and its bytes
 
-abbrev pub asLine : LineCall → Parsed Call
-asLine (D.Line l room) = good (writeLine l room) []
-asLine D.Unknown = bad
+-- the answer of the reader that stands for a call
+unfoldable pub answered : Parsed Call → declared.Call
+answered (good (tick x i) rest) = C.Tick x i
+answered (good (link on) rest) = C.Link on
+answered (good (settings set) rest) = C.Settings set
+answered (good reset rest) = C.Reset
+answered (good counters rest) = C.Counters
+answered (good (restart set count total) rest) = C.Restart set count total
+answered (good (request s room) rest) = C.Request (length s) room
+answered (good (writeFrame s room) rest) = C.WriteFrame (length s) room
+answered (good (readFrame s) rest) = C.ReadFrame (length s)
+answered (good (writeField w) rest) = C.WriteField w
+answered (good (readField f) rest) = C.ReadField f
+answered (good (writeLine l room) rest) = C.WriteLine l room
+answered (good (readLine s) rest) = C.ReadLine (length s)
+answered (good (hour s h) rest) = C.Hour (length s) h
+answered (good (hours s room) rest) = C.Hours (length s) room
+answered bad = C.Unknown
 
-abbrev pub roomOf : LineCall → ℕ
-roomOf (D.Line l room) = room
-roomOf D.Unknown = 0
+-- its bytes are the first of the buffer, and with them it is determined by the call that it stands for
+pub record Known (r : declared.Call) : Type 0 where
+  pub bytes : (b : List ℕ) → bytesIn (asCall b r) ≡ take (sizeOf r) b
+  pub same : (a b : List ℕ) → take (sizeOf r) a ≡ take (sizeOf r) b → asCall a r ≡ asCall b r
+  pub few : Within r → sizeOf r ≤ 2048
+  pub none : (b : List ℕ) → asCall b r ≡ bad → sizeOf r ≡ 0
+  pub back : (b : List ℕ) → sizeOf r ≤ length b → answered (asCall b r) ≡ r
 
-pub record ReadsLine (rule : Parsed Call) (r : LineCall) : Type 0 where
-  pub reads : rule ≡ asLine r
-  pub room : roomOf r ≤ 64
+pub known : (r : declared.Call) → Known r
+unfolding asCall bytesIn sizeOf Within answered
+known (C.Tick x i) = record { bytes = λ b. refl; same = λ a b e. refl; few = λ w. omega arith; none = λ b e. refl; back = λ b i. refl }
+known (C.Link on) = record { bytes = λ b. refl; same = λ a b e. refl; few = λ w. omega arith; none = λ b e. refl; back = λ b i. refl }
+known (C.Settings set) = record { bytes = λ b. refl; same = λ a b e. refl; few = λ w. omega arith; none = λ b e. refl; back = λ b i. refl }
+known C.Reset = record { bytes = λ b. refl; same = λ a b e. refl; few = λ w. omega arith; none = λ b e. refl; back = λ b i. refl }
+known C.Counters = record { bytes = λ b. refl; same = λ a b e. refl; few = λ w. omega arith; none = λ b e. refl; back = λ b i. refl }
+known (C.Restart set count total) = record { bytes = λ b. refl; same = λ a b e. refl; few = λ w. omega arith; none = λ b e. refl; back = λ b i. refl }
+known (C.Request n room) = record { bytes = λ b. refl; same = λ a b e. ap (λ (s : List ℕ). good (request s room) []) e; few = λ w. w .0; none = λ b e. bad-good (sym e); back = λ b i. ap (λ (m : ℕ). C.Request m room) (length-take-le n b i) }
+known (C.WriteFrame n room) = record { bytes = λ b. refl; same = λ a b e. ap (λ (s : List ℕ). good (writeFrame s room) []) e; few = λ w. w .0; none = λ b e. bad-good (sym e); back = λ b i. ap (λ (m : ℕ). C.WriteFrame m room) (length-take-le n b i) }
+known (C.ReadFrame n) = record { bytes = λ b. refl; same = λ a b e. ap (λ (s : List ℕ). good (readFrame s) []) e; few = λ w. w; none = λ b e. bad-good (sym e); back = λ b i. ap (λ (m : ℕ). C.ReadFrame m) (length-take-le n b i) }
+known (C.WriteField w) = record { bytes = λ b. refl; same = λ a b e. refl; few = λ w. omega arith; none = λ b e. refl; back = λ b i. refl }
+known (C.ReadField f) = record { bytes = λ b. refl; same = λ a b e. refl; few = λ w. omega arith; none = λ b e. refl; back = λ b i. refl }
+known (C.WriteLine l room) = record { bytes = λ b. refl; same = λ a b e. refl; few = λ w. omega arith; none = λ b e. refl; back = λ b i. refl }
+known (C.ReadLine n) = record { bytes = λ b. refl; same = λ a b e. ap (λ (s : List ℕ). good (readLine s) []) e; few = λ w. w; none = λ b e. bad-good (sym e); back = λ b i. ap (λ (m : ℕ). C.ReadLine m) (length-take-le n b i) }
+known (C.Hour n h) = record { bytes = λ b. refl; same = λ a b e. ap (λ (s : List ℕ). good (hour s h) []) e; few = λ w. w; none = λ b e. bad-good (sym e); back = λ b i. ap (λ (m : ℕ). C.Hour m h) (length-take-le n b i) }
+known (C.Hours n room) = record { bytes = λ b. refl; same = λ a b e. ap (λ (s : List ℕ). good (hours s room) []) e; few = λ w. w .0; none = λ b e. bad-good (sym e); back = λ b i. ap (λ (m : ℕ). C.Hours m room) (length-take-le n b i) }
+known C.Unknown = record { bytes = λ b. refl; same = λ a b e. refl; few = λ w. omega arith; none = λ b e. refl; back = λ b i. refl }
 
--- bytes that are decoded at the start of `bytes`, and a room
-abbrev pub asRoom : (List ℕ → ℕ → Call) → List ℕ → RoomCall → Parsed Call
-asRoom call bytes (W.Room n room) = good (call (take n bytes) room) []
-asRoom call bytes W.Unknown = bad
+-- ---- what a caller of the reader knows
 
-abbrev pub Within : ℕ → ℕ → RoomCall → Type 0
-Within most size (W.Room n room) = (n ≤ size) × (room ≤ most)
-Within most size W.Unknown = Unit {0}
+module _ {l old new : List ℕ} {r : declared.Call} (p : Reads l old new r) where
+  size-fits : sizeOf r ≤ length old
+  unfolding readIn
+  size-fits =
+      elim (decLt (length old) 2048) [
+        | yes h ↦ omega (arith, known r .none new (p .reads ∙ pick-f _ _ _ (ap (λ (t : Bool). t && leb (length l) 4095) (lt-leb 2048 (length old) h))))
+        | no h ↦ omega (arith, known r .few (p .within))
+      ]
 
--- a line whose bytes have no room in `old` asks nothing, and leaves it as it was
-pub record ReadsRoom (most : ℕ) (s bytes old : List ℕ) (r : RoomCall) : Type 0 where
-  pub reads : (call : List ℕ → ℕ → Call) → pick (fits s old) (atEnd (roomAt most call (drop 1 s))) bad ≡ asRoom call bytes r
-  pub left : bytes ≡ sets old 0 (bytesLeft (fits s old) (drop 1 s))
-  pub within : Within most (length bytes) r
-  pub long : length bytes ≡ length old
+  -- the buffer keeps its length
+  pub read-long : length new ≡ length old
+  unfolding over
+  read-long =
+      let b = bytesIn (readIn (length old) l) in
+      let e : length b ≡ length (take (sizeOf r) new) = ap length (ap bytesIn (sym (p .reads)) ∙ known r .bytes new) in
+      let f = size-fits in
+      let h : length b ≤ length old = omega (arith, e, length-take (sizeOf r) new) in
+      omega (arith, ap length (p .left), length-append b (drop (length b) old), length-drop (length b) old)
 
-abbrev pub asBytes : (List ℕ → Call) → List ℕ → BytesCall → Parsed Call
-asBytes call bytes (B.Bytes n) = good (call (take n bytes)) []
-asBytes call bytes B.Unknown = bad
+  -- the bytes lie in it
+  pub read-inside : sizeOf r ≤ length new
+  read-inside = let f = size-fits in omega (arith, read-long)
 
-abbrev pub sizeOf : BytesCall → ℕ
-sizeOf (B.Bytes n) = n
-sizeOf B.Unknown = 0
+  -- a line of a fitting length, read with room, is read as its call
+  pub read-call : 2048 ≤ length old → length l ≤ 4095 → asCall new r ≡ callOf l
+  unfolding readIn
+  read-call h k = p .reads ∙ pick-t _ _ _ (ap (λ (t : Bool). t && leb (length l) 4095) (le-leb _ _ h) ∙ le-leb _ _ k)
 
-pub record ReadsBytes (s bytes old : List ℕ) (r : BytesCall) : Type 0 where
-  pub reads : (call : List ℕ → Call) → pick (fits s old) (atEnd (bytesCall call (drop 1 s))) bad ≡ asBytes call bytes r
-  pub left : bytes ≡ sets old 0 (bytesLeft (fits s old) (drop 1 s))
-  pub within : sizeOf r ≤ length bytes
-  pub long : length bytes ≡ length old
-
--- room for the bytes of every line
-pub record Blank (bytes : List ℕ) : Type 0 where
-  pub is : bytes ≡ replicate 2048 0
-  pub long : length bytes ≡ 2048
-
--- ---- where the bytes have room the line is read
-
-module _ {most : ℕ} {s bytes old : List ℕ} {r : RoomCall} (reads : ReadsRoom most s bytes old r) where
-  pub room-within : {n room : ℕ} → r ≡ W.Room n room → (n ≤ length bytes) × (room ≤ most)
-  room-within e = subst (Within most (length bytes)) e (reads .within)
-
-  pub room-read : length s ≤ 2 * length old → (call : List ℕ → ℕ → Call) → atEnd (roomAt most call (drop 1 s)) ≡ asRoom call bytes r
-  unfolding fits
-  room-read h call = sym (pick-t _ _ _ (le-leb _ _ h)) ∙ reads .reads call
-
-module _ {s bytes old : List ℕ} {r : BytesCall} (reads : ReadsBytes s bytes old r) where
-  pub bytes-within : {n : ℕ} → r ≡ B.Bytes n → n ≤ length bytes
-  bytes-within e = subst (λ (b : BytesCall). sizeOf b ≤ length bytes) e (reads .within)
-
-  pub bytes-read : length s ≤ 2 * length old → (call : List ℕ → Call) → atEnd (bytesCall call (drop 1 s)) ≡ asBytes call bytes r
-  unfolding fits
-  bytes-read h call = sym (pick-t _ _ _ (le-leb _ _ h)) ∙ reads .reads call
-
-pub line-read : (s : List ℕ) {p q : Parsed Call} → pick (leb (length s) 4096) p bad ≡ q → length s ≤ 4096 → p ≡ q
-line-read s e h = sym (pick-t _ _ _ (le-leb _ _ h)) ∙ e
-
--- ---- two results that both meet a reader's contract are equal
-
-pub tick-determined : {rule : Parsed Call} (a b : TickCall) → rule ≡ asTick a → rule ≡ asTick b → a ≡ b
-tick-determined a b p q = go a b (sym p ∙ q)
-  where
-    go : (a b : TickCall) → asTick a ≡ asTick b → a ≡ b
-    go (T.Tick x i) (T.Tick y j) e =
-        let u : x ≡ y = cc in
-        let v : i ≡ j = cc in
-        rw (u, v)
-    go (T.Tick x i) T.Unknown e = bad-good (sym e)
-    go T.Unknown (T.Tick y j) e = bad-good e
-    go T.Unknown T.Unknown e = refl
-
-pub link-determined : {rule : Parsed Call} (a b : LinkCall) → rule ≡ asLink a → rule ≡ asLink b → a ≡ b
-link-determined a b p q = go a b (sym p ∙ q)
-  where
-    go : (a b : LinkCall) → asLink a ≡ asLink b → a ≡ b
-    go (L.Link x) (L.Link y) e = let u : x ≡ y = cc in rw u
-    go (L.Link x) L.Unknown e = bad-good (sym e)
-    go L.Unknown (L.Link y) e = bad-good e
-    go L.Unknown L.Unknown e = refl
-
-pub set-determined : {rule : Parsed Call} (a b : SetCall) → rule ≡ asSet a → rule ≡ asSet b → a ≡ b
-set-determined a b p q = go a b (sym p ∙ q)
-  where
-    go : (a b : SetCall) → asSet a ≡ asSet b → a ≡ b
-    go (S.Set x) (S.Set y) e = let u : x ≡ y = cc in ap S.Set u
-    go (S.Set x) S.Unknown e = bad-good (sym e)
-    go S.Unknown (S.Set y) e = bad-good e
-    go S.Unknown S.Unknown e = refl
-
-pub restart-determined : {rule : Parsed Call} (a b : RestartCall) → rule ≡ asRestart a → rule ≡ asRestart b → a ≡ b
-restart-determined a b p q = go a b (sym p ∙ q)
-  where
-    go : (a b : RestartCall) → asRestart a ≡ asRestart b → a ≡ b
-    go (N.Restart x c t) (N.Restart y d v) e =
-        let i : x ≡ y = cc in
-        let j : c ≡ d = cc in
-        let k : t ≡ v = cc in
-        ap (λ (s : Settings). N.Restart s c t) i ∙ ap (λ (n : ℕ). N.Restart y n t) j ∙ ap (λ (n : ℕ). N.Restart y d n) k
-    go (N.Restart x c t) N.Unknown e = bad-good (sym e)
-    go N.Unknown (N.Restart y d v) e = bad-good e
-    go N.Unknown N.Unknown e = refl
-
-pub weight-determined : {rule : Parsed Call} (a b : WeightCall) → rule ≡ asWeight a → rule ≡ asWeight b → a ≡ b
-weight-determined a b p q = go a b (sym p ∙ q)
-  where
-    go : (a b : WeightCall) → asWeight a ≡ asWeight b → a ≡ b
-    go (G.Weight x) (G.Weight y) e = let u : x ≡ y = cc in ap G.Weight u
-    go (G.Weight x) G.Unknown e = bad-good (sym e)
-    go G.Unknown (G.Weight y) e = bad-good e
-    go G.Unknown G.Unknown e = refl
-
-pub field-determined : {rule : Parsed Call} (a b : FieldCall) → rule ≡ asField a → rule ≡ asField b → a ≡ b
-field-determined a b p q = go a b (sym p ∙ q)
-  where
-    go : (a b : FieldCall) → asField a ≡ asField b → a ≡ b
-    go (K.Field x) (K.Field y) e = let u : x ≡ y = cc in ap K.Field u
-    go (K.Field x) K.Unknown e = bad-good (sym e)
-    go K.Unknown (K.Field y) e = bad-good e
-    go K.Unknown K.Unknown e = refl
-
-pub line-determined : {rule : Parsed Call} (a b : LineCall) → ReadsLine rule a → ReadsLine rule b → a ≡ b
-line-determined a b p q = go a b (sym (p .reads) ∙ q .reads)
-  where
-    go : (a b : LineCall) → asLine a ≡ asLine b → a ≡ b
-    go (D.Line x m) (D.Line y n) e =
-        let u : x ≡ y = cc in
-        let v : m ≡ n = cc in
-        ap (λ (l : Line). D.Line l m) u ∙ ap (D.Line y) v
-    go (D.Line x m) D.Unknown e = bad-good (sym e)
-    go D.Unknown (D.Line y n) e = bad-good e
-    go D.Unknown D.Unknown e = refl
-
--- as many as were taken
-taken : {m n : ℕ} (l : List ℕ) → m ≤ length l → n ≤ length l → take m l ≡ take n l → m ≡ n
-taken {m} {n} l h k e = sym (length-take-le m l h) ∙ ap length e ∙ length-take-le n l k
-
-pub bytes-determined : {s old bytes bytes' : List ℕ} (a b : BytesCall) → ReadsBytes s bytes old a → ReadsBytes s bytes' old b → (a ≡ b) × (bytes ≡ bytes')
-bytes-determined {s} {old} {bytes} {bytes'} a b p q =
-    let m : bytes ≡ bytes' = same (p .left) (q .left) in
-    (go a b (sym (p .reads readFrame) ∙ q .reads readFrame ∙ ap (λ (l : List ℕ). asBytes readFrame l b) (sym m)) (p .within) (rw m (q .within)), m)
-  where
-    go : (a b : BytesCall) → asBytes readFrame bytes a ≡ asBytes readFrame bytes b → sizeOf a ≤ length bytes → sizeOf b ≤ length bytes → a ≡ b
-    go (B.Bytes m) (B.Bytes n) e h k =
-        let t : take m bytes ≡ take n bytes = cc in
-        ap B.Bytes (taken bytes h k t)
-    go (B.Bytes m) B.Unknown e h k = bad-good (sym e)
-    go B.Unknown (B.Bytes n) e h k = bad-good e
-    go B.Unknown B.Unknown e h k = refl
-
-pub room-determined : {most : ℕ} {s old bytes bytes' : List ℕ} (a b : RoomCall) → ReadsRoom most s bytes old a → ReadsRoom most s bytes' old b → (a ≡ b) × (bytes ≡ bytes')
-room-determined {most} {s} {old} {bytes} {bytes'} a b p q =
-    let m : bytes ≡ bytes' = same (p .left) (q .left) in
-    (go a b (sym (p .reads request) ∙ q .reads request ∙ ap (λ (l : List ℕ). asRoom request l b) (sym m)) (p .within) (rw m (q .within)), m)
-  where
-    go : (a b : RoomCall) → asRoom request bytes a ≡ asRoom request bytes b → Within most (length bytes) a → Within most (length bytes) b → a ≡ b
-    go (W.Room m x) (W.Room n y) e h k =
-        let t : take m bytes ≡ take n bytes = cc in
-        let r : x ≡ y = cc in
-        ap (λ (i : ℕ). W.Room i x) (taken bytes (h .0) (k .0) t) ∙ ap (W.Room n) r
-    go (W.Room m x) W.Unknown e h k = bad-good (sym e)
-    go W.Unknown (W.Room n y) e h k = bad-good e
-    go W.Unknown W.Unknown e h k = refl
+-- two results that both meet the contract are equal
+pub read-determined : {l old new new' : List ℕ} {r r' : declared.Call} → Reads l old new r → Reads l old new' r' → (r ≡ r') × (new ≡ new')
+read-determined {l} {old} {new} {new'} {r} {r'} p q =
+    let n : new ≡ new' = p .left ∙ sym (q .left) in
+    let e : asCall new r ≡ asCall new' r' = p .reads ∙ sym (q .reads) in
+    (sym (known r .back new (read-inside p)) ∙ ap answered e ∙ known r' .back new' (read-inside q), n)

@@ -1,35 +1,21 @@
-// What a line asks: each call read after its letter.
-mod read;
+// What a line of a script asks: one reader, and the calls that it answers.
+mod asks;
+mod fields;
 
 use field::Field;
 use field::Weight;
 use journal::Line;
-pub use read::signed_at;
 use settings::Settings;
-use text::Num;
 ghost use mathlib.Core.Path.{_≡_};
-ghost use lib.Dec.{leb};
-ghost use lib.ListN.{length, drop};
-ghost use Rattle.laws.specs.Pick.{pick};
-ghost use Rattle.laws.specs.Decimal.{bad};
-ghost use Rattle.calls.specs.Call.{tickAt, linkAt, settingsAt, restartAt, writeFieldAt, readFieldAt, doseAt, onAt, atEnd};
-ghost use Rattle.calls.specs.Reads.{asTick, asLink, asSet, asRestart, asWeight, asField, ReadsLine, ReadsRoom, ReadsBytes, Blank};
+ghost use Prim.Native.Nat.{_≤_};
+ghost use lib.ListN.{length, drop, getD};
+ghost use Rattle.calls.specs.Call.{callBy};
+ghost use Rattle.calls.specs.Reads.{sizeOf, Reads};
+ghost use Rattle.calls.specs.Reading.{Asks};
 
 // A number that may be below 0, read at a place: its value and the place after it, or none.
-pub enum Signed {
+enum Signed {
     Good(i32, usize),
-    Bad,
-}
-
-// 0 or 1, read at a place.
-enum Flag {
-    Good(bool, usize),
-    Bad,
-}
-
-// Bytes read at a place: how many, and the place after them.
-enum Bytes {
-    Good(usize, usize),
     Bad,
 }
 
@@ -37,256 +23,105 @@ enum Bytes {
 struct Numbers {
     good: bool,
     next: usize,
-    values: [u32; 17],
+    values: [u32; 19],
 }
 
-// A set read at a place.
-enum Set {
-    Good(Settings, usize),
-    Bad,
-}
-
-// T sample inputs, or something else.
-pub enum TickCall {
+// Every call of the box and of its writers and readers, or that a line is none. A call with bytes says how many stand at the start of the lent buffer.
+pub enum Call {
+    // A tick: the sample and the inputs.
     Tick(i32, u8),
-    Unknown,
-}
-
-// L 0 or 1, or something else.
-pub enum LinkCall {
+    // The link start, set or cleared.
     Link(bool),
-    Unknown,
-}
-
-// S SET, or something else.
-pub enum SetCall {
-    Set(Settings),
-    Unknown,
-}
-
-// N SET count total, or something else.
-pub enum RestartCall {
+    Settings(Settings),
+    Reset,
+    Counters,
+    // A restart: the set, the stored count and total.
     Restart(Settings, u32, u32),
-    Unknown,
-}
-
-// G weight stable over point, or something else.
-pub enum WeightCall {
-    Weight(Weight),
-    Unknown,
-}
-
-// K four bytes, or something else.
-pub enum FieldCall {
-    Field(Field),
-    Unknown,
-}
-
-// So many bytes, and the room of a buffer or an hour, or something else.
-pub enum RoomCall {
-    Room(usize, usize),
-    Unknown,
-}
-
-// So many bytes alone, or something else.
-pub enum BytesCall {
-    Bytes(usize),
-    Unknown,
-}
-
-// A line of a journal and the room of a buffer, or something else.
-pub enum LineCall {
-    Line(Line, usize),
+    // A line request on so many bytes, and the room of the reply buffer.
+    Request(usize, usize),
+    // The frame writer on a body of so many bytes, and the room of its buffer.
+    WriteFrame(usize, usize),
+    // The frame reader on so many bytes.
+    ReadFrame(usize),
+    WriteField(Weight),
+    ReadField(Field),
+    // The writer of a journal's line, and the room of its buffer.
+    WriteLine(Line, usize),
+    // The reader of one line of so many bytes.
+    ReadLine(usize),
+    // One hour of a journal of so many bytes.
+    Hour(usize, u32),
+    // The hour program's text of a journal of so many bytes, and the room of its buffer.
+    Hours(usize, usize),
+    // No call.
     Unknown,
 }
 
 // The greatest number.
-pub const GREATEST: u32 = 4294967295;
+const GREATEST: u32 = 4294967295;
 
-// Room for the bytes of every line.
-pub fn no_bytes() -> [u8; 2048]
-    ensures { λ r. ⌜ Blank r ⌝ }
+// So many bytes hold those of every line.
+pub const BYTES: usize = 2048;
+
+// The bytes of the longest line, its LF left out.
+const LONGEST: usize = 4095;
+
+// The call of a line that is no tick, by its letter; its bytes are only looked at.
+fn call_of(line: &[u8]) -> Call
+    requires line { ⌜ length (now line) ≤ 4095 ⌝ }
+    requires letter { ⌜ (getD (now line) 0 0 ≡ 84 → ⊥) ⌝ }
+    ensures { λ r. ⌜ Asks (now (line .entry)) (callBy (getD (now (line .entry)) 0 0) (drop 1 (now (line .entry)))) r ⌝ }
 {
-    [0u8; 2048]
+    let letter = text::byte_at(line, 0);
+    match letter {
+        b'L' => asks::link(line),
+        b'S' => asks::set(line),
+        b'C' => asks::ended(line, 1, Call::Reset),
+        b'Q' => asks::ended(line, 1, Call::Counters),
+        b'N' => asks::restart(line),
+        b'B' => asks::room(line, letter, 64),
+        b'W' => asks::room(line, letter, 600),
+        b'X' => asks::alone(line, letter),
+        b'G' => asks::weight(line),
+        b'K' => asks::four(line),
+        b'D' => asks::dose(line),
+        b'H' => asks::on(line),
+        b'l' => asks::alone(line, letter),
+        b'u' => asks::room(line, letter, GREATEST),
+        b'j' => asks::room(line, letter, 2000),
+        _ => Call::Unknown,
+    }
 }
 
-// T sample inputs
-pub fn read_tick(line: &[u8]) -> TickCall
-    ensures { λ r. ⌜ atEnd (tickAt (drop 1 (now (line .entry)))) ≡ asTick r ⌝ }
+// How many bytes a call carries.
+fn size_of(call: Call) -> usize
+    ensures { λ r. ⌜ r ≡ sizeOf call ⌝ }
 {
-    let Signed::Good(sample, after) = read::signed_at(line, 1) else {
-        return TickCall::Unknown;
-    };
-    let Num::Good(inputs, end) = text::field_at(line, after, 255) else {
-        return TickCall::Unknown;
-    };
-    if end < line.len() {
-        return TickCall::Unknown;
+    match call {
+        Call::Request(n, _) => n,
+        Call::WriteFrame(n, _) => n,
+        Call::ReadFrame(n) => n,
+        Call::ReadLine(n) => n,
+        Call::Hour(n, _) => n,
+        Call::Hours(n, _) => n,
+        _ => 0,
     }
-    TickCall::Tick(sample, inputs as u8)
 }
 
-// L 0 or 1
-pub fn read_link(line: &[u8]) -> LinkCall
-    ensures { λ r. ⌜ atEnd (linkAt (drop 1 (now (line .entry)))) ≡ asLink r ⌝ }
+// The call of a line, its LF left out; its bytes are stored at the start of `bytes`, which is left as it was where the line is no call.
+pub fn read(line: &[u8], bytes: &mut [u8]) -> Call
+    ensures { λ r. ⌜ Reads (now (line .entry)) (now (bytes .entry)) (now (bytes .exit)) r ⌝ }
 {
-    let Flag::Good(on, end) = read::flag_at(line, 1) else {
-        return LinkCall::Unknown;
-    };
-    if end < line.len() {
-        return LinkCall::Unknown;
+    if bytes.len() < BYTES {
+        return Call::Unknown;
     }
-    LinkCall::Link(on)
-}
-
-// S SET
-pub fn read_settings(line: &[u8]) -> SetCall
-    ensures { λ r. ⌜ atEnd (settingsAt (drop 1 (now (line .entry)))) ≡ asSet r ⌝ }
-{
-    let Set::Good(set, end) = read::set_at(line, 1) else {
-        return SetCall::Unknown;
-    };
-    if end < line.len() {
-        return SetCall::Unknown;
+    if LONGEST < line.len() {
+        return Call::Unknown;
     }
-    SetCall::Set(set)
-}
-
-// N SET count total
-pub fn read_restart(line: &[u8]) -> RestartCall
-    ensures { λ r. ⌜ atEnd (restartAt (drop 1 (now (line .entry)))) ≡ asRestart r ⌝ }
-{
-    let Set::Good(set, after_set) = read::set_at(line, 1) else {
-        return RestartCall::Unknown;
-    };
-    let Num::Good(count, after_count) = text::field_at(line, after_set, GREATEST) else {
-        return RestartCall::Unknown;
-    };
-    let Num::Good(total, end) = text::field_at(line, after_count, GREATEST) else {
-        return RestartCall::Unknown;
-    };
-    if end < line.len() {
-        return RestartCall::Unknown;
+    if text::byte_at(line, 0) == b'T' {
+        return asks::tick(line);
     }
-    RestartCall::Restart(set, count, total)
-}
-
-// G weight stable over point
-pub fn read_weight(line: &[u8]) -> WeightCall
-    ensures { λ r. ⌜ atEnd (writeFieldAt (drop 1 (now (line .entry)))) ≡ asWeight r ⌝ }
-{
-    let Signed::Good(value, after_value) = read::signed_at(line, 1) else {
-        return WeightCall::Unknown;
-    };
-    let Flag::Good(stable, after_stable) = read::flag_at(line, after_value) else {
-        return WeightCall::Unknown;
-    };
-    let Flag::Good(over, after_over) = read::flag_at(line, after_stable) else {
-        return WeightCall::Unknown;
-    };
-    let Num::Good(point, end) = text::field_at(line, after_over, 255) else {
-        return WeightCall::Unknown;
-    };
-    if end < line.len() {
-        return WeightCall::Unknown;
-    }
-    WeightCall::Weight(Weight {
-        value,
-        stable,
-        over,
-        point: point as u8,
-    })
-}
-
-// K four bytes, of a line of at most 4,096 bytes.
-pub fn read_four(line: &[u8]) -> FieldCall
-    ensures { λ r. ⌜ pick (leb (length (now (line .entry))) 4096) (atEnd (readFieldAt (drop 1 (now (line .entry))))) bad ≡ asField r ⌝ }
-{
-    let mut bytes = no_bytes();
-    let Bytes::Good(n, end) = read::bytes_at(line, 1, &mut bytes) else {
-        return FieldCall::Unknown;
-    };
-    if n != 4 {
-        return FieldCall::Unknown;
-    }
-    if end < line.len() {
-        return FieldCall::Unknown;
-    }
-    FieldCall::Field(Field {
-        low: bytes[0],
-        middle: bytes[1],
-        high: bytes[2],
-        con: bytes[3],
-    })
-}
-
-// Bytes, and a number of at most `most`: the room of a buffer, or an hour; a buffer that is too short is left as it was.
-pub fn read_room(line: &[u8], bytes: &mut [u8], most: u32) -> RoomCall
-    ensures { λ r. ⌜ ReadsRoom most (now (line .entry)) (now (bytes .exit)) (now (bytes .entry)) r ⌝ }
-{
-    let Bytes::Good(n, after) = read::bytes_at(line, 1, bytes) else {
-        return RoomCall::Unknown;
-    };
-    let Num::Good(room, end) = text::field_at(line, after, most) else {
-        return RoomCall::Unknown;
-    };
-    if end < line.len() {
-        return RoomCall::Unknown;
-    }
-    RoomCall::Room(n, room as usize)
-}
-
-// Bytes alone; a buffer that is too short is left as it was.
-pub fn read_bytes(line: &[u8], bytes: &mut [u8]) -> BytesCall
-    ensures { λ r. ⌜ ReadsBytes (now (line .entry)) (now (bytes .exit)) (now (bytes .entry)) r ⌝ }
-{
-    let Bytes::Good(n, end) = read::bytes_at(line, 1, bytes) else {
-        return BytesCall::Unknown;
-    };
-    if end < line.len() {
-        return BytesCall::Unknown;
-    }
-    BytesCall::Bytes(n)
-}
-
-// D hour count amount settled room
-pub fn read_dose(line: &[u8]) -> LineCall
-    ensures { λ r. ⌜ ReadsLine (atEnd (doseAt (drop 1 (now (line .entry))))) r ⌝ }
-{
-    let numbers = read::numbers_at(line, 1, 4);
-    if !numbers.good {
-        return LineCall::Unknown;
-    }
-    let Num::Good(room, end) = text::field_at(line, numbers.next, 64) else {
-        return LineCall::Unknown;
-    };
-    if end < line.len() {
-        return LineCall::Unknown;
-    }
-    let v = numbers.values;
-    LineCall::Line(
-        Line::Dose {
-            hour: v[0],
-            count: v[1],
-            amount: v[2],
-            settled: v[3],
-        },
-        room as usize,
-    )
-}
-
-// H hour room
-pub fn read_on(line: &[u8]) -> LineCall
-    ensures { λ r. ⌜ ReadsLine (atEnd (onAt (drop 1 (now (line .entry))))) r ⌝ }
-{
-    let Num::Good(hour, after) = text::field_at(line, 1, GREATEST) else {
-        return LineCall::Unknown;
-    };
-    let Num::Good(room, end) = text::field_at(line, after, 64) else {
-        return LineCall::Unknown;
-    };
-    if end < line.len() {
-        return LineCall::Unknown;
-    }
-    LineCall::Line(Line::On { hour }, room as usize)
+    let call = call_of(line);
+    fields::store(line, size_of(call), bytes);
+    call
 }

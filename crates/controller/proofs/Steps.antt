@@ -1,107 +1,101 @@
 -- The steps of a tick, put together from what their parts give. Assumes nothing.
-use mathlib.Core.Path.{_≡_, refl, sym, subst, _∙_}
+use mathlib.Core.Path.{_≡_, refl, sym, ap, subst, _∙_}
 use mathlib.Core.Bool.{Bool, true, false}
 use mathlib.Core.List.{[]}
 use Prim.Native.Nat.{ℕ, _≤_, _<_}
-use native.Mathlib.Omega.{arith}
 use lib.Dec.{eqb}
-use lib.IntN.{ℤ, natAbs}
-use lib.ListN.{length, take}
-use borrow.Author.Tests.{lt-ltb, le-ltb, le-leb, lt-leb}
+use lib.IntN.{ℤ, natAbs, _-ℤ_}
+use lib.ListN.{length}
+use borrow.Author.Tests.{lt-ltb, le-ltb}
 use Rattle.laws.specs.Pick.{pick-t, pick-f}
-use Rattle.paper.specs.Answer.{refused}
+use Rattle.paper.specs.Answer.{done, refused}
 use Rattle.paper.specs.Numbers.{R1}
-use Rattle.settings.specs.Good.{good-ranges}
 use Rattle.window.specs.declared.Window.{Window}
-use Rattle.window.specs.Mean.{meanOf}
-use Rattle.window.specs.Window.{samplesOf, pushOf}
-use Rattle.dosing.specs.Rules.{units}
+use Rattle.window.specs.Window.{pushOf}
+use Rattle.dosing.specs.Rules.{units, stepOf}
+use Rattle.dosing.specs.declared.Seen.{Seen}
+use Rattle.dosing.specs.declared.Moved.{Moved}
 use Rattle.dosing.specs.declared.Units.{Units}
-use Rattle.controller.specs.State.{withWindow, withF, withS, withRuns, withInputs}
-use Rattle.controller.specs.Tick.{Result, Told, still, saysFault, faulted, step7, runsAfter, mismatched, steps6to8, filterOf, calmRun, startOf, steps4and5, outside, step3, step2, tickOf}
-use Rattle.controller.specs.Sound.{Sound, Watched}
-use Rattle.controller.specs.Bounds.{push-within, mean-most}
+use Rattle.channels.specs.Channels.{outputsOf, startOf, runsAfter, watchOf}
+use Rattle.channels.specs.Says.{saysWatch}
+use Rattle.channels.specs.declared.Runs.{Runs}
+use Rattle.channels.specs.declared.Watch.{Watch}
+use Rattle.channels.specs.declared.Watch.the-variants as W
+use Rattle.scale.specs.Scale.{outside, filtered, filterOf, calmRun, stableOf, calmAfter, overCapacity}
+use Rattle.counters.specs.Counters.{countersAfter, recordsOf}
+use Rattle.counters.specs.declared.Counters.{Counters}
+use Rattle.scale.specs.Laws.{none-held, filtered-within}
+use Rattle.controller.specs.State.{withWindow, withZ, withF, withS, withRuns, withPhase, withGates, withAlarm, withInputs, withCounters}
+use Rattle.controller.specs.Tick.{Result, Told, still, saysFault, faulted, step8, wOf, seenOf, step7, mismatched, steps6to8, steps4and5, step3, step2, tickOf}
+use Rattle.controller.specs.Sound.{Sound}
+use Rattle.controller.specs.Bounds.{push-within}
 use Rattle.controller.specs.Keeps.{tick-sound}
-use Rattle.controller.specs.Says.{Ticks}
-use Rattle.controller.specs.Parts.{Gives, Weighs, Short, runsBy, filterBy, startBy, calmBy}
+use Rattle.controller.specs.Says.{Ticks, saysTick}
+use Rattle.controller.specs.Parts.{Gives, Small}
 use Rattle.controller.specs.declared.Controller.{Controller}
-use Rattle.controller.specs.declared.Runs.{Runs}
 use Rattle.controller.specs.declared.Fault.{Fault}
 use Rattle.controller.specs.declared.Fault.the-variants as F
-use Rattle.controller.specs.declared.Condition.{Condition}
 use Rattle.controller.specs.declared.Condition.the-variants.{Clear, Faulted}
+use Rattle.controller.specs.declared.TickAnswer.{TickAnswer}
 use Rattle.controller.specs.declared.Ticked.{Ticked}
-use Rattle.controller.proofs.Laws.{none-held}
 
 -- a rule by another name
 gives : {a b : Result Told} {r : Ticked} → a ≡ b → Gives a r → Gives b r
 gives {r = r} e g = subst (λ (x : Result Told). Gives x r) e g
 
+-- ---- steps 7 and 8
+
+pub steps-7-8 : (c : Controller) (start : Bool) {t : Seen} {alarm : Bool} {m : Moved} {s outputs : ℕ} {n : Counters} {answer : TickAnswer}
+    → t ≡ record { f = c .f; z = c .z; w = units (c .f .v -ℤ c .z .v); start = start; stable = stableOf (c .set) (c .s) }
+    → m ≡ stepOf (c .set) (c .phase) t
+    → alarm ≡ overCapacity (c .set) (c .f .v -ℤ m .z .v)
+    → s ≡ calmAfter (c .gates) (m .gates) (c .s)
+    → n ≡ countersAfter (c .counters) (m .dose)
+    → outputs ≡ outputsOf (m .gates) alarm
+    → saysTick answer ≡ done (record { outputs = outputs; doses = recordsOf n (m .dose) })
+    → Gives (step7 c start) (record { next = withCounters n (withAlarm alarm (withS s (withGates (m .gates) (withZ (m .z) (withPhase (m .phase) c))))); answer = answer })
+unfolding step7 step8 seenOf wOf
+steps-7-8 c start {m = m} et em ea es en eo e =
+    let moved : m ≡ stepOf (c .set) (c .phase) (seenOf c start) = em ∙ ap (stepOf (c .set) (c .phase)) et in
+    record { next = rw (en, es, ea, moved); says = e ∙ rw (eo, en, ea, moved) }
+
 -- ---- from step 6 on
 
-module _ (c : Controller) (start : Bool) (s : ℕ) (runs : Runs) (e : runs ≡ runsBy (c .set) (c .gates) (c .inputs) (c .runs)) where
+module _ (c : Controller) (start : Bool) (s : ℕ) (runs : Runs) (e : runs ≡ runsAfter (c .set) (c .gates) (c .inputs) (c .runs)) (watch : Watch) (says : saysWatch watch ≡ watchOf runs) where
   abbrev moved : Controller
   moved = withRuns runs (withS s c)
 
-  sixth : mismatched runs moved (step7 moved start) ≡ steps6to8 c start s
-  unfolding steps6to8 runsBy runsAfter
-  sixth = rw e
+  sixth : mismatched (saysWatch watch) moved (step7 moved start) ≡ steps6to8 c start s
+  unfolding steps6to8
+  sixth = rw (says, e)
 
   module _ {r : Ticked} where
-    pub one-reached : 64 ≤ runs .one → Gives (faulted (F.F14 1) moved) r → Gives (steps6to8 c start s) r
+    pub reached : {channel : ℕ} → watch ≡ W.F14 channel → Gives (faulted (F.F14 channel) moved) r → Gives (steps6to8 c start s) r
     unfolding mismatched
-    one-reached a g = gives (sym (pick-t _ _ _ (le-leb 64 (runs .one) a)) ∙ sixth) g
+    reached h g = gives (sym (ap (λ (w : Watch). mismatched (saysWatch w) moved (step7 moved start)) h) ∙ sixth) g
 
-    module _ (a : runs .one < 64) where
-      pub two-reached : 64 ≤ runs .two → Gives (faulted (F.F14 2) moved) r → Gives (steps6to8 c start s) r
-      unfolding mismatched
-      two-reached b g = gives (sym (pick-f _ _ _ (lt-leb 64 (runs .one) a) ∙ pick-t _ _ _ (le-leb 64 (runs .two) b)) ∙ sixth) g
-
-      module _ (b : runs .two < 64) where
-        pub three-reached : 64 ≤ runs .three → Gives (faulted (F.F14 3) moved) r → Gives (steps6to8 c start s) r
-        unfolding mismatched
-        three-reached d g =
-            gives
-            (sym (pick-f _ _ _ (lt-leb 64 (runs .one) a) ∙ pick-f _ _ _ (lt-leb 64 (runs .two) b) ∙ pick-t _ _ _ (le-leb 64 (runs .three) d)) ∙ sixth)
-            g
-
-        pub none-reached : runs .three < 64 → Gives (step7 moved start) r → Gives (steps6to8 c start s) r
-        unfolding mismatched
-        none-reached d g =
-            gives
-            (sym (pick-f _ _ _ (lt-leb 64 (runs .one) a) ∙ pick-f _ _ _ (lt-leb 64 (runs .two) b) ∙ pick-f _ _ _ (lt-leb 64 (runs .three) d)) ∙ sixth)
-            g
+    pub not-reached : watch ≡ W.Clear → Gives (step7 moved start) r → Gives (steps6to8 c start s) r
+    unfolding mismatched
+    not-reached h g = gives (sym (ap (λ (w : Watch). mismatched (saysWatch w) moved (step7 moved start)) h) ∙ sixth) g
 
 -- ---- steps 4 and 5
 
 module _ (c : Controller) (x : ℤ) (inputs : ℕ) {window : Window} {n : ℕ} {f : Units} {s : ℕ} {start : Bool} where
   pub kept-first : length (c .window .samples) ≡ 128
       → window ≡ pushOf (c .window) x
-      → n ≡ filterBy (c .set) (c .gates)
-      → f ≡ units (meanOf (take n (samplesOf window)))
-      → s ≡ calmBy (eqb (c .window .held) 0) f (c .f) (c .s)
-      → start ≡ startBy (c .set) (c .link) inputs
+      → n ≡ filterOf (c .set) (c .gates)
+      → f ≡ units (filtered window n)
+      → s ≡ calmRun (eqb (c .window .held) 0) (f .v) (c .f .v) (c .s)
+      → start ≡ startOf (c .set) (c .link) inputs
       → {r : Ticked} → Gives (steps6to8 (withInputs inputs (withF f (withWindow window c))) start s) r
       → Gives (steps4and5 (withInputs inputs c) x) r
-  unfolding steps4and5 filterOf filterBy startOf startBy calmRun calmBy samplesOf
-  kept-first l w p m k o g = gives (rw (k, o, m, p, w, none-held (c .window .held) (c .window .samples) (omega arith))) g
+  unfolding steps4and5
+  kept-first l w p m k o g = gives (rw (k, o, m, p, w, none-held (c .window) l)) g
 
-watched-short : (k : Condition) (r : Runs) → Watched k r → k ≡ Clear → Short r
-watched-short Clear r w e = record { one = w .0; two = w .1; three = w .2 }
-watched-short (Faulted why) r w e = let z : _≡_ {A = ℕ} 0 1 = cc in let n : ⊥ = omega arith in absurd n
-
-pub runs-short : (c : Controller) → Sound c → c .condition ≡ Clear → Short (c .runs)
-runs-short c s e = watched-short (c .condition) (c .runs) (s .runs) e
-
-pub mean-weighs : (c : Controller) (x : ℤ) (inputs n : ℕ) {window : Window} {f : Units} → Sound c → natAbs x ≤ 900000
-    → window ≡ pushOf (c .window) x
-    → f ≡ units (meanOf (take n (samplesOf window)))
-    → Weighs (withInputs inputs (withF f (withWindow window c))) (c .z)
-mean-weighs c x inputs n s h w m =
-    record {
-      set = good-ranges (c .set) (s .set);
-      small = record { mean = rw (m, w) (mean-most n _ (push-within c s x h)); zero = s .zero };
-    }
+-- F and Z of a tick are small
+pub mean-small : (c : Controller) (x : ℤ) (n : ℕ) {window : Window} {f : Units} → Sound c → natAbs x ≤ 900000
+    → window ≡ pushOf (c .window) x → f ≡ units (filtered window n) → Small f (c .z)
+mean-small c x n s h w m = record { mean = rw (m, w) (filtered-within _ n (push-within c s x h)); zero = s .zero }
 
 -- ---- steps 1 to 3
 

@@ -13,7 +13,9 @@ use Rattle.window.specs.Window.{emptyWindow}
 use Rattle.dosing.specs.Rules.{units}
 use Rattle.dosing.specs.declared.Phase.{Phase}
 use Rattle.dosing.specs.declared.Phase.the-variants.{Ready, Coarse, Fine, Hold, Settle, Discharge, Load, Calm, DoseCoarse, DoseFine, DoseSettle}
-use Rattle.controller.specs.State.{counters, noRuns, restarted, withSet, withWindow, withZ, withF, withS, withRuns, withLink, withCounters}
+use Rattle.channels.specs.Channels.{noRuns}
+use Rattle.counters.specs.Counters.{counters}
+use Rattle.controller.specs.State.{restarted, withSet, withWindow, withZ, withF, withS, withRuns, withLink, withCounters}
 use Rattle.controller.specs.Tick.{Result}
 use Rattle.controller.specs.declared.Controller.{Controller}
 use Rattle.controller.specs.declared.Condition.{Condition}

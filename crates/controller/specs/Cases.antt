@@ -15,9 +15,11 @@ use Rattle.window.specs.Mean.{meanOf, roundAway, halfUp, sumOf}
 use Rattle.window.specs.Window.{samplesOf, pushOf, emptyWindow}
 use Rattle.dosing.specs.Rules.{stepOf, ready, readyToFill, readyToDose, waits, zeroed, nearZero, fillBegins, coarseStage, fineStage, fill, full, hold, settle, settleEnds, dischargeOpens, discharge, amountOf, load, calm, doseCoarse, doseFine, doseSettle, reachedWf, reachedWc, notBelowZero}
 use Rattle.dosing.specs.Rules.{units}
-use Rattle.dosing.specs.declared.Dose.the-variants.{Complete}
-use Rattle.controller.specs.State.{counters, restarted, withZ, withS, withAlarm, withLink, withInputs}
-use Rattle.controller.specs.Tick.{Told, tickOf, step2, step3, steps4and5, steps6to8, mismatched, runsAfter, runAfter, expected, step7, step8, seenOf, wOf, stableOf, filterOf, equalZ, none, calmRun, startOf, outside, faulted, saysFault, outputsOf, worth, input, overCapacity, changed, countersAfter, countedOf, recordsOf}
+use Rattle.channels.specs.Channels.{input, worth, outputsOf, startOf, expected, runAfter, runsAfter, watchOf}
+use Rattle.counters.specs.Counters.{countedOf, countersAfter, recordOf, recordsOf}
+use Rattle.scale.specs.Scale.{outside, filtered, filterOf, equalZ, none, calmRun, stableOf, changed, calmAfter, overCapacity}
+use Rattle.controller.specs.State.{restarted, withZ, withS, withAlarm, withLink, withInputs}
+use Rattle.controller.specs.Tick.{Told, tickOf, step2, step3, steps4and5, steps6to8, mismatched, step7, step8, seenOf, wOf, faulted, saysFault}
 use Rattle.controller.specs.Calls.{atReady, readyIn, isReady, storedBad, restartOf, freshOf, taken, settingsAnswer, after, settingsOf, resetAnswer, resetOf, linkOf}
 use Rattle.controller.specs.declared.Controller.{Controller}
 
@@ -38,7 +40,7 @@ ticked c (t ∷ ts) = ticked (tickOf c (t .0) (t .1) .next) ts
 
 -- to unfold this is to unfold every rule of these calls
 unfoldable pub rules : Unit {0}
-unfolding lastOf ticked setOf restartOf storedBad onDone firstBad firstFrom table inRange leastLevel mostLevel settingsOf settingsAnswer after taken resetOf resetAnswer isReady readyIn atReady linkOf xor answers freshOf restarted defaultSet tickOf step2 step3 steps4and5 steps6to8 mismatched runsAfter runAfter expected step7 step8 seenOf wOf stableOf filterOf equalZ none calmRun startOf outside faulted saysFault outputsOf worth input overCapacity changed countersAfter countedOf recordsOf stepOf ready readyToFill readyToDose waits zeroed nearZero fillBegins coarseStage fineStage fill full hold settle settleEnds dischargeOpens discharge amountOf load calm doseCoarse doseFine doseSettle reachedWf reachedWc notBelowZero Wc Wf samplesOf pushOf emptyWindow meanOf roundAway halfUp sumOf pick
+unfolding lastOf ticked setOf restartOf storedBad onDone firstBad firstFrom table inRange leastLevel mostLevel settingsOf settingsAnswer after taken resetOf resetAnswer isReady readyIn atReady linkOf xor answers freshOf restarted defaultSet tickOf step2 step3 steps4and5 steps6to8 mismatched watchOf runsAfter runAfter expected step7 step8 seenOf wOf stableOf filtered filterOf equalZ none calmRun startOf outside faulted saysFault outputsOf worth input overCapacity changed calmAfter countersAfter countedOf recordOf recordsOf stepOf ready readyToFill readyToDose waits zeroed nearZero fillBegins coarseStage fineStage fill full hold settle settleEnds dischargeOpens discharge amountOf load calm doseCoarse doseFine doseSettle reachedWf reachedWc notBelowZero Wc Wf samplesOf pushOf emptyWindow meanOf roundAway halfUp sumOf pick
 rules = tt
 
 abbrev outputs : ℕ → Answer Told
@@ -95,15 +97,6 @@ pub calm-runs :
 unfolding rules
 calm-runs = (refl, refl, refl, refl, refl, refl, refl, refl, refl)
 
--- stable means S >= 64*p9
-pub stable-at :
-    (stableOf (set 1 50 1) 63 ≡ false)
-    × (stableOf (set 1 50 1) 64 ≡ true)
-    × (stableOf (setOf (1 ∷ 1000 ∷ 500 ∷ 100 ∷ 20 ∷ 50 ∷ 4 ∷ 8 ∷ 63 ∷ [])) 4031 ≡ false)
-    × (stableOf (setOf (1 ∷ 1000 ∷ 500 ∷ 100 ∷ 20 ∷ 50 ∷ 4 ∷ 8 ∷ 63 ∷ [])) 4032 ≡ true)
-unfolding rules
-stable-at = (refl, refl, refl, refl)
-
 -- start is input 4 or the link start; in AL3 the link start alone
 pub starts :
     (last (box 0 50 1) ((pos 0, 8) ∷ []) ≡ outputs 1)
@@ -133,14 +126,10 @@ pub runs :
 unfolding rules
 runs = (refl, refl, refl, refl, refl, refl, refl, refl, refl, refl, refl)
 
--- output 4: w = C+9 is no alarm, C+10 is; the dose record says how Settle ended
-pub told-at :
-    (last (box 1 50 1) ((pos 1009, 0) ∷ []) ≡ outputs 0)
-    × (last (box 1 50 1) ((pos 1010, 0) ∷ []) ≡ outputs 8)
-    × (recordsOf (counters 5 9) (Complete 3 false) ≡ record { count = 5; amount = 3; settled = false } ∷ [])
-    × (countersAfter (counters 999999 999999998) (Complete 3 false) ≡ counters 0 1)
+-- output 4: w = C+9 is no alarm, C+10 is
+pub told-at : (last (box 1 50 1) ((pos 1009, 0) ∷ []) ≡ outputs 0) × (last (box 1 50 1) ((pos 1010, 0) ∷ []) ≡ outputs 8)
 unfolding rules
-told-at = (refl, refl, refl, refl)
+told-at = (refl, refl)
 
 -- a fault, AL0's Fill and hold, AL2's Load and Calm
 abbrev busy : List Controller

@@ -10,13 +10,11 @@ use Rattle.laws.specs.Pick.{pick}
 use Rattle.paper.specs.Answer.{Answer, done, refused, fault, same}
 use Rattle.paper.specs.Numbers.{R3, R4, R5, R6, R7, R9, R15, F14}
 use Rattle.settings.specs.declared.Settings.{Settings}
+use Rattle.counters.specs.declared.Counters.{Counters}
+use Rattle.counters.specs.declared.Record.{Record}
 use Rattle.controller.specs.Tick.{Told, saysFault}
-use Rattle.controller.specs.Calls.{freshOf, linkOf}
-use Rattle.controller.specs.Says.{saysTick, saysSet, saysReset, saysRestart, saysReply, Ticks, Sets, Resets, Restarts, Replies}
-use Rattle.controller.specs.Made.{Made}
+use Rattle.controller.specs.Says.{saysTick, saysSet, saysReset, saysRestart, saysReply, Ticks, Freshens, Links, Counted, Sets, Resets, Restarts, Replies}
 use Rattle.controller.specs.declared.Controller.{Controller}
-use Rattle.controller.specs.declared.Counters.{Counters}
-use Rattle.controller.specs.declared.Record.{Record}
 use Rattle.controller.specs.declared.Fault.{Fault}
 use Rattle.controller.specs.declared.Fault.the-variants as F
 use Rattle.controller.specs.declared.TickAnswer.{TickAnswer}
@@ -48,12 +46,12 @@ toldBack : ℕ → List Record → TickAnswer
 toldBack o [] = T.Outputs o
 toldBack o (r ∷ rs) = T.Dose o r
 
-tickBack : Answer Told → TickAnswer
+pub tickBack : Answer Told → TickAnswer
 tickBack (done t) = toldBack (t .outputs) (t .doses)
 tickBack (refused n vs) = T.R1
 tickBack (fault n vs) = T.Fault (pick (eqb n F14) (F.F14 (named vs)) F.F21)
 
-tick-back : (a : TickAnswer) → tickBack (saysTick a) ≡ a
+pub tick-back : (a : TickAnswer) → tickBack (saysTick a) ≡ a
 unfolding tickBack toldBack saysFault pick
 tick-back (T.Outputs o) = refl
 tick-back (T.Dose o r) = refl
@@ -64,12 +62,12 @@ tick-back T.R1 = refl
 pub tick-one : (a b : TickAnswer) → saysTick a ≡ saysTick b → a ≡ b
 tick-one = back-one saysTick tickBack tick-back
 
-setBack : Answer (Unit {0}) → SetAnswer
+pub setBack : Answer (Unit {0}) → SetAnswer
 setBack (done u) = S.Taken
 setBack (refused n vs) = pick (eqb n R3) S.R3 (S.R2 (named vs))
 setBack (fault n vs) = S.Taken
 
-set-back : (a : SetAnswer) → setBack (saysSet a) ≡ a
+pub set-back : (a : SetAnswer) → setBack (saysSet a) ≡ a
 unfolding setBack pick
 set-back S.Taken = refl
 set-back S.R3 = refl
@@ -78,12 +76,12 @@ set-back (S.R2 row) = refl
 pub set-one : (a b : SetAnswer) → saysSet a ≡ saysSet b → a ≡ b
 set-one = back-one saysSet setBack set-back
 
-resetBack : Answer (Unit {0}) → ResetAnswer
+pub resetBack : Answer (Unit {0}) → ResetAnswer
 resetBack (done u) = C.Done
 resetBack (refused n vs) = C.R3
 resetBack (fault n vs) = C.R3
 
-reset-back : (a : ResetAnswer) → resetBack (saysReset a) ≡ a
+pub reset-back : (a : ResetAnswer) → resetBack (saysReset a) ≡ a
 unfolding resetBack
 reset-back C.Done = refl
 reset-back C.R3 = refl
@@ -91,12 +89,12 @@ reset-back C.R3 = refl
 pub reset-one : (a b : ResetAnswer) → saysReset a ≡ saysReset b → a ≡ b
 reset-one = back-one saysReset resetBack reset-back
 
-restartBack : Answer (Unit {0}) → RestartAnswer
+pub restartBack : Answer (Unit {0}) → RestartAnswer
 restartBack (done u) = N.Done
 restartBack (refused n vs) = pick (eqb n R15) N.R15 (N.R2 (named vs))
 restartBack (fault n vs) = N.Done
 
-restart-back : (a : RestartAnswer) → restartBack (saysRestart a) ≡ a
+pub restart-back : (a : RestartAnswer) → restartBack (saysRestart a) ≡ a
 unfolding restartBack pick
 restart-back N.Done = refl
 restart-back (N.R2 row) = refl
@@ -112,12 +110,12 @@ refusedBack n place =
     (pick (eqb n R5) (P.R5 place)
     (pick (eqb n R7) (P.R7 place) (pick (eqb n R3) (P.R3 place) (pick (eqb n R4) (P.R4 place) (P.R8 place))))))
 
-replyBack : Answer (ℕ × ℕ) → RequestAnswer
+pub replyBack : Answer (ℕ × ℕ) → RequestAnswer
 replyBack (done p) = P.Sent (p .0) (p .1)
 replyBack (refused n vs) = refusedBack n (named vs)
 replyBack (fault n vs) = P.R9 0
 
-reply-back : (a : RequestAnswer) → replyBack (saysReply a) ≡ a
+pub reply-back : (a : RequestAnswer) → replyBack (saysReply a) ≡ a
 unfolding replyBack refusedBack pick
 reply-back (P.Sent place len) = refl
 reply-back (P.R9 place) = refl
@@ -133,7 +131,7 @@ reply-one = back-one saysReply replyBack reply-back
 
 -- ---- two results that both meet a call's contract are equal
 
-pub fresh-determined : (a b : Controller) → Made freshOf a → Made freshOf b → a ≡ b
+pub fresh-determined : (a b : Controller) → Freshens a → Freshens b → a ≡ b
 fresh-determined a b p q = same (p .is) (q .is)
 
 pub restart-determined : (set : Settings) (count total : ℕ) (a b : Restarted) → Restarts set count total a → Restarts set count total b → a ≡ b
@@ -151,10 +149,10 @@ reset-determined c a b p q =
     ap₂ {C = ResetTo} (λ (d : Controller) (x : ResetAnswer). record { next = d; answer = x })
     (same (p .next) (q .next)) (reset-one (a .answer) (b .answer) (same (p .says) (q .says)))
 
-pub counters-determined : (c : Controller) (a b : Counters) → a ≡ c .counters → b ≡ c .counters → a ≡ b
+pub counters-determined : (c : Controller) (a b : Counters) → Counted c a → Counted c b → a ≡ b
 counters-determined c a b p q = same p q
 
-pub link-determined : (c : Controller) (on : Bool) (a b : Controller) → Made (linkOf c on) a → Made (linkOf c on) b → a ≡ b
+pub link-determined : (c : Controller) (on : Bool) (a b : Controller) → Links c on a → Links c on b → a ≡ b
 link-determined c on a b p q = same (p .is) (q .is)
 
 pub tick-determined : (c : Controller) (x : ℤ) (i : ℕ) (a b : Ticked) → Ticks c x i a → Ticks c x i b → a ≡ b

@@ -1,7 +1,7 @@
 -- Every call keeps `Sound`, and only a set that was taken makes a sound controller. Assumes nothing.
 use mathlib.Core.Path.{_≡_, refl, sym, subst, _∙_, ap}
-use mathlib.Core.Bool.{Bool, true, false, not, _&&_}
-use mathlib.Core.List.{List, [], _∷_}
+use mathlib.Core.Bool.{Bool, true, false, not, _&&_, _||_}
+use mathlib.Core.List.{List, []}
 use Prim.Native.Nat.{ℕ, _≤_}
 use native.Mathlib.Omega.{arith}
 use lib.Dec.{leb, ltb, eqb}
@@ -12,33 +12,32 @@ use Rattle.laws.specs.Pick.{pick, pick-all, pick-if}
 use Rattle.laws.specs.Whole.{false-true}
 use Rattle.laws.specs.Bools.{and-left, and-right, or-left, or-right}
 use Rattle.paper.specs.Answer.{Answer, done, refused, fault}
+use Rattle.paper.specs.AnswerLaws.{refused-done, on-done, passed, failed}
 use Rattle.paper.specs.Numbers.{R3, R4, R15}
 use Rattle.settings.specs.declared.Settings.{Settings}
 use Rattle.settings.specs.Table.{firstBad, firstFrom, table, inRange, defaultSet, default-good}
 use Rattle.settings.specs.Good.{good-ranges}
 use Rattle.window.specs.Window.{samplesOf, emptyWindow}
-use Rattle.window.specs.Range.{Within}
-use Rattle.window.specs.Laws.{samples-empty, empty-length, within-nil}
+use Rattle.window.specs.Laws.{empty-length}
 use Rattle.dosing.specs.Rules.{units, stepOf}
 use Rattle.dosing.specs.Gates.{gatesOf, belongs, Kept}
 use Rattle.dosing.specs.Laws.{near-most, step-gates, step-belongs, step-zero, step-kept}
 use Rattle.dosing.specs.declared.Phase.{Phase}
-use Rattle.dosing.specs.declared.Dose.{Dose}
-use Rattle.dosing.specs.declared.Dose.the-variants.{Nothing, Complete}
 use Rattle.dosing.specs.declared.Moved.{Moved}
-use Rattle.message.specs.Message.{partsOf}
-use Rattle.frame.specs.Read.{readOf}
-use Rattle.controller.specs.State.{noRuns, restarted, withZ}
-use Rattle.controller.specs.Tick.{Result, overCapacity, changed, countedOf, countersAfter, step8, step7, seenOf, wOf, none, tickOf}
+use Rattle.channels.specs.Channels.{noRuns}
+use Rattle.counters.specs.Laws.{after-storable}
+use Rattle.scale.specs.Scale.{filtered, none, overCapacity}
+use Rattle.scale.specs.Laws.{within-at, empty-within, calm-after-most}
+use Rattle.asking.specs.Asking.{Asked, askOf}
+use Rattle.controller.specs.State.{restarted, withZ}
+use Rattle.controller.specs.Tick.{Result, step8, step7, seenOf, wOf, tickOf}
 use Rattle.controller.specs.Calls.{isReady, storedBad, restartOf, freshOf, noSet, noController, taken, settingsAnswer, after, settingsOf, resetAnswer, resetOf, linkOf}
-use Rattle.controller.specs.Line.{filtered, Asked, addressed, zeroable, allowed, askedOf, zeroedBy, replied, repliesTo, requestOf}
+use Rattle.controller.specs.Line.{timely, timeOf, zeroable, mayZero, zeroOf, allowed, askedOf, zeroedBy, replied, repliesTo, requestOf}
 use Rattle.controller.specs.Sound.{Sound, Abandoned}
 use Rattle.controller.specs.Setters.{zero-sound, counters-sound}
 use Rattle.controller.specs.Ways.{tick-ways, clear-watched}
-use Rattle.paper.specs.AnswerLaws.{refused-done, on-done, passed, failed}
-use Rattle.controller.specs.Bounds.{within-at, clear-faulted, ready-is}
+use Rattle.controller.specs.Bounds.{clear-faulted, ready-is}
 use Rattle.controller.specs.declared.Controller.{Controller}
-use Rattle.controller.specs.declared.Counters.{Counters}
 use Rattle.controller.specs.declared.Condition.{Condition}
 use Rattle.controller.specs.declared.Condition.the-variants.{Clear, Faulted}
 
@@ -54,15 +53,6 @@ pub record Follows (c : Controller) (m : Moved) : Type 0 where
   pub kept : Kept (m .z .v) (m .phase)
   pub gates : m .gates ≡ gatesOf (c .set) (m .phase)
 
-counted-most : (n : Counters) (amount : ℕ) → (countedOf n amount .count ≤ 999999) × (countedOf n amount .total ≤ 999999999)
-unfolding countedOf
-counted-most n amount = (omega arith, omega arith)
-
-pub after-most : (n : Counters) (d : Dose) → n .count ≤ 999999 → n .total ≤ 999999999 → (countersAfter n d .count ≤ 999999) × (countersAfter n d .total ≤ 999999999)
-unfolding countersAfter
-after-most n Nothing a b = (a, b)
-after-most n (Complete amount settled) a b = counted-most _ amount
-
 abandoned-clear : (k : Condition) (p : Phase) (four : Bool) → k ≡ Clear → Abandoned k p four
 abandoned-clear Clear p four e = tt
 abandoned-clear (Faulted why) p four e = clear-faulted (sym e)
@@ -70,8 +60,8 @@ abandoned-clear (Faulted why) p four e = clear-faulted (sym e)
 pub step8-sound : (c : Controller) (m : Moved) → Sound c → c .condition ≡ Clear → Follows c m → Sound (step8 c m .next)
 unfolding step8
 step8-sound c m s e f =
-    let n = after-most (c .counters) (m .dose) (s .count) (s .total) in
-    let calm : pick (changed (c .gates) (m .gates)) 0 (c .s) ≤ 4032 = pick-all (λ (k : ℕ). k ≤ 4032) _ (omega arith) (s .calm) in
+    let n = after-storable (c .counters) (m .dose) (record { count = s .count; total = s .total }) in
+    let calm = calm-after-most (c .gates) (m .gates) (c .s) (s .calm) in
     let left = abandoned-clear (c .condition) (m .phase) (overCapacity (c .set) (c .f .v -ℤ m .z .v)) e in
     search needs
 
@@ -103,9 +93,6 @@ tick-sound c x i s =
 empty-held : emptyWindow .held ≤ 128
 unfolding emptyWindow
 empty-held = omega arith
-
-empty-within : Within 900000 (samplesOf emptyWindow)
-empty-within = rw samples-empty (within-nil 900000)
 
 pub restarted-sound : (set : Settings) (count total : ℕ) → firstBad set ≡ done tt → count ≤ 999999 → total ≤ 999999999 → Sound (restarted set count total)
 unfolding restarted gatesOf belongs
@@ -168,7 +155,7 @@ settings-sound c set s = after-sound (settingsAnswer c set) (taken set c) c s (s
 pub reset-sound : (c : Controller) → Sound c → Sound (resetOf c .next)
 unfolding resetOf
 reset-sound c s =
-    after-sound (resetAnswer c) _ c s (λ e. counters-sound c s _ (omega arith) (omega arith))
+    after-sound (resetAnswer c) _ c s (λ e. counters-sound c s _ (record { count = omega arith; total = omega arith }))
 
 -- the link start is set or cleared
 pub link-sound : (c : Controller) (on : Bool) → Sound c → Sound (linkOf c on)
@@ -177,39 +164,39 @@ link-sound c on s = search needs
 
 -- ---- a line request
 
-by-tests : (c0 ready near : Bool) (a b : Asked) (vs : List ℕ)
-    → pick c0 (pick ready (pick near (done a) (refused R4 vs)) (refused R3 vs)) (done a) ≡ done b
-    → (a ≡ b) × (c0 ≡ true → (ready ≡ true) × (near ≡ true))
+-- what passed a stage of C0 passed its test
+passed-zero : (zeroes test : Bool) (n : ℕ) (vs : List ℕ) (u : Unit {0}) → pick (not zeroes || test) (done tt) (refused n vs) ≡ done u → zeroes ≡ true → test ≡ true
 unfolding pick
-by-tests true true true a b vs e = (cc, λ h. (refl, refl))
-by-tests true true false a b vs e = refused-done e
-by-tests true false near a b vs e = refused-done e
-by-tests false ready near a b vs e = (cc, λ h. false-true h)
+passed-zero true true n vs u e h = refl
+passed-zero true false n vs u e h = refused-done e
+passed-zero false test n vs u e h = false-true h
 
 -- C0 is done only in Ready, and where the zero can be taken
-allowed-zero : (c : Controller) (a b : Asked) → allowed c a ≡ done b → eqb (b .operation) 0xC0 ≡ true → (isReady c ≡ true) × (zeroable c ≡ true)
-unfolding allowed
+allowed-zero : (c : Controller) (a b : Asked) → allowed c a ≡ done b → eqb (b .operation) 0xC0 ≡ true → (isReady c ≡ true) × (zeroable (c .set) (c .window) ≡ true)
+unfolding allowed timeOf timely zeroOf mayZero
 allowed-zero c a b e h =
-    let p = by-tests (eqb (a .operation) 0xC0) (isReady c) (zeroable c) a b (a .place ∷ []) e in
-    p .1 (ap (λ (x : Asked). eqb (x .operation) 0xC0) (p .0) ∙ h)
+    on-done (timeOf (a .place) (timely (a .operation) (isReady c))) _ b e
+    (λ u timed k. on-done (zeroOf (a .place) (mayZero (a .operation) (c .set) (c .window))) _ b k
+    (λ v zeroed l.
+    let same : a ≡ b = cc in
+    let zeroes : eqb (a .operation) 0xC0 ≡ true = ap (λ (x : Asked). eqb (x .operation) 0xC0) same ∙ h in
+    (passed-zero _ (isReady c) R3 _ u timed zeroes, passed-zero _ (zeroable (c .set) (c .window)) R4 _ v zeroed zeroes)))
 
-pub asked-zero : (c : Controller) (bytes : List ℕ) (a : Asked) → askedOf c bytes ≡ done a → eqb (a .operation) 0xC0 ≡ true → (isReady c ≡ true) × (zeroable c ≡ true)
+pub asked-zero : (c : Controller) (bytes : List ℕ) (a : Asked) → askedOf c bytes ≡ done a → eqb (a .operation) 0xC0 ≡ true → (isReady c ≡ true) × (zeroable (c .set) (c .window) ≡ true)
 unfolding askedOf
-asked-zero c bytes a e h =
-    on-done (readOf bytes) _ a e
-    (λ f e' k. on-done (addressed (c .set) (f .place) (partsOf (f .bytes))) _ a k (λ b e'' l. allowed-zero c b a l h))
+asked-zero c bytes a e h = on-done (askOf (c .set .address) (c .set .serial) bytes) _ a e (λ b e' k. allowed-zero c b a k h)
 
-zeroed-sound : (c : Controller) → Sound c → isReady c ≡ true → zeroable c ≡ true → Sound (withZ (units (filtered c (c .set .p8))) c)
+zeroed-sound : (c : Controller) → Sound c → isReady c ≡ true → zeroable (c .set) (c .window) ≡ true → Sound (withZ (units (filtered (c .window) (c .set .p8))) c)
 unfolding zeroable
 zeroed-sound c s e h =
-    let f = filtered c (c .set .p8) in
+    let f = filtered (c .window) (c .set .p8) in
     let al = leb (c .set .algorithm) 1 in
     let held = not (none (samplesOf (c .window))) in
     let z = near-most (c .set) f (good-ranges (c .set) (s .set)) (and-left al held (and-left (al && held) _ h)) (and-right (al && held) _ h) in
     zero-sound c s (units f) z (rw (ready-is c e .1) tt)
 
 replies-sound : (c : Controller) (room : ℕ) (a : Answer Asked) → Sound c
-    → ((x : Asked) → a ≡ done x → eqb (x .operation) 0xC0 ≡ true → (isReady c ≡ true) × (zeroable c ≡ true))
+    → ((x : Asked) → a ≡ done x → eqb (x .operation) 0xC0 ≡ true → (isReady c ≡ true) × (zeroable (c .set) (c .window) ≡ true))
     → Sound (repliesTo c room a .next)
 unfolding repliesTo replied zeroedBy
 replies-sound c room (done a) s go =

@@ -5,7 +5,7 @@ use mathlib.Core.List.{List, [], _∷_, _++_}
 use Prim.Native.Nat.{ℕ}
 use lib.IntN.{pos, negsuc}
 use lib.ListN.{replicate}
-use Rattle.paper.specs.Answer.{Answer, done, refused, fault}
+use Rattle.paper.specs.Answer.{Answer, done, refused, fault, told}
 use Rattle.paper.specs.Numbers.{R3, R4, R5, R7, R8, F14, F21}
 use Rattle.settings.specs.Cases.{setOf}
 use Rattle.field.specs.Field.{weight, fieldOf, bcdOf, conOf, bitOf, negative}
@@ -17,7 +17,9 @@ use Rattle.dosing.specs.Rules.{units, gates}
 use Rattle.controller.specs.State.{restarted, withZ, withS, withGates, withAlarm}
 use Rattle.controller.specs.Tick.{Told}
 use Rattle.controller.specs.Calls.{freshOf}
-use Rattle.controller.specs.Line.{Replied, filtered, weightFrom, weightBy, ours, known, bare, addressed, zeroable, allowed, askedOf, fieldBytes, replyData, replyFrame, zeroedBy, replied, repliesTo, requestOf}
+use Rattle.scale.specs.Scale.{weightFrom, weightBy}
+use Rattle.asking.specs.Asking.{heardOf, ours, addressOf, known, bare, codeOf, askOf, fieldBytes, answerFrame}
+use Rattle.controller.specs.Line.{Replied, timely, timeOf, zeroable, mayZero, zeroOf, allowed, askedOf, weightOf, replyData, replyFrame, zeroedBy, replied, repliesTo, requestOf}
 use Rattle.controller.specs.Cases.{answers, lastOf, ticked, rules}
 use Rattle.controller.specs.declared.Controller.{Controller}
 
@@ -29,7 +31,7 @@ box =
 
 -- to unfold this is to unfold every rule of a request, and of the calls before it
 unfoldable requests : Unit {0}
-unfolding rules box requestOf repliesTo replied askedOf addressed allowed zeroable ours known bare replyFrame replyData fieldBytes zeroedBy filtered weightFrom weightBy readOf readAll run step grown answerOf judged bad tooShort extended partsOf formOf addressLength bodyOf addressBytes frame sent sentByte check enterAll enter enterBits enterBit fellOut fieldOf bcdOf conOf bitOf negative
+unfolding rules box told requestOf repliesTo replied askedOf askOf heardOf addressOf codeOf allowed timely timeOf zeroOf mayZero zeroable ours known bare replyFrame answerFrame replyData fieldBytes zeroedBy weightFrom weightBy readOf readAll run step grown answerOf judged bad tooShort extended partsOf formOf addressLength bodyOf addressBytes frame sent sentByte check enterAll enter enterBits enterBit fellOut fieldOf bcdOf conOf bitOf negative
 requests = tt
 
 abbrev asked : List ℕ → ℕ → Answer Replied
@@ -116,16 +118,16 @@ order = (refl, refl, refl, refl, refl, refl, refl, refl, refl, refl, refl, refl,
 
 -- with no sample held weight and flags are 0 and the point is sent; stable by S; over by the weight of this reply; below 0; in a fault both flags are as before
 pub weights :
-    (weightBy (restarted (setOf (0 ∷ 10000 ∷ 100 ∷ 0 ∷ 0 ∷ 100 ∷ 4 ∷ 8 ∷ 1 ∷ 0 ∷ 0 ∷ 0 ∷ 0 ∷ 0 ∷ 1 ∷ 0 ∷ 2 ∷ [])) 0 0) 8 ≡ weight (pos 0) false false 2)
-    × (weightBy (withZ (units (pos 5)) (withS 64 freshOf)) 4 ≡ weight (pos 0) false false 0)
-    × (weightBy (ticked freshOf (replicate 64 (pos 7, 0))) 4 ≡ weight (pos 7) false false 0)
-    × (weightBy (ticked freshOf (replicate 65 (pos 7, 0))) 4 ≡ weight (pos 7) true false 0)
-    × (weightBy (ticked freshOf (replicate 65 (pos 7, 0) ++ (pos 900001, 0) ∷ [])) 4 ≡ weight (pos 7) true false 0)
-    × (weightBy (ticked box (replicate 4 (pos 19000, 5))) 8 ≡ weight (pos 9550) false false 2)
-    × (weightBy (ticked box (replicate 4 (pos 19000, 5))) 4 ≡ weight (pos 19000) false true 2)
-    × (weightBy (ticked freshOf ((pos 10009, 0) ∷ [])) 4 ≡ weight (pos 10009) false false 0)
-    × (weightBy (ticked freshOf ((pos 10010, 0) ∷ [])) 4 ≡ weight (pos 10010) false true 0)
-    × (weightBy (ticked freshOf ((negsuc 4, 0) ∷ [])) 4 ≡ weight (negsuc 4) false false 0)
+    (weightOf (restarted (setOf (0 ∷ 10000 ∷ 100 ∷ 0 ∷ 0 ∷ 100 ∷ 4 ∷ 8 ∷ 1 ∷ 0 ∷ 0 ∷ 0 ∷ 0 ∷ 0 ∷ 1 ∷ 0 ∷ 2 ∷ [])) 0 0) 8 ≡ weight (pos 0) false false 2)
+    × (weightOf (withZ (units (pos 5)) (withS 64 freshOf)) 4 ≡ weight (pos 0) false false 0)
+    × (weightOf (ticked freshOf (replicate 64 (pos 7, 0))) 4 ≡ weight (pos 7) false false 0)
+    × (weightOf (ticked freshOf (replicate 65 (pos 7, 0))) 4 ≡ weight (pos 7) true false 0)
+    × (weightOf (ticked freshOf (replicate 65 (pos 7, 0) ++ (pos 900001, 0) ∷ [])) 4 ≡ weight (pos 7) true false 0)
+    × (weightOf (ticked box (replicate 4 (pos 19000, 5))) 8 ≡ weight (pos 9550) false false 2)
+    × (weightOf (ticked box (replicate 4 (pos 19000, 5))) 4 ≡ weight (pos 19000) false true 2)
+    × (weightOf (ticked freshOf ((pos 10009, 0) ∷ [])) 4 ≡ weight (pos 10009) false false 0)
+    × (weightOf (ticked freshOf ((pos 10010, 0) ∷ [])) 4 ≡ weight (pos 10010) false true 0)
+    × (weightOf (ticked freshOf ((negsuc 4, 0) ∷ [])) 4 ≡ weight (negsuc 4) false false 0)
 unfolding requests
 weights = (refl, refl, refl, refl, refl, refl, refl, refl, refl, refl)
 

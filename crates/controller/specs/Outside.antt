@@ -14,7 +14,7 @@ use Rattle.settings.specs.declared.Settings.{Settings}
 use Rattle.dosing.specs.Rules.{notBelowZero}
 use Rattle.dosing.specs.declared.Phase.{Phase}
 use Rattle.dosing.specs.declared.Phase.the-variants.{Ready, Coarse, Fine, Hold, Settle, Discharge, Load, Calm, DoseCoarse, DoseFine, DoseSettle}
-use Rattle.controller.specs.Tick.{filterOf}
+use Rattle.scale.specs.Scale.{filterOf}
 use Rattle.controller.specs.Calls.{atReady}
 use Rattle.controller.specs.declared.Controller.{Controller}
 use Rattle.controller.specs.declared.Condition.{Condition}
@@ -22,7 +22,7 @@ use Rattle.controller.specs.declared.Condition.the-variants.{Clear, Faul
 
 -- w at a tick from c to c': F-Z with the n of step 4 and the Z after the tick, worked out from the samples
 unfoldable pub wAt : Controller → ℤ → Controller → ℤ
-wAt c x c' = meanOf (take (filterOf c) (take 128 (x ∷ samplesOf (c .window)))) -ℤ c' .z .v
+wAt c x c' = meanOf (take (filterOf (c .set) (c .gates)) (take 128 (x ∷ samplesOf (c .window)))) -ℤ c' .z .v
 
 unfoldable pub clear : Condition → Bool
 clear Clear = true

@@ -26,32 +26,21 @@ use Rattle.dosing.specs.declared.Dose.{Dose}
 use Rattle.dosing.specs.declared.Dose.the-variants.{Nothing, Complete}
 use Rattle.dosing.specs.declared.Moved.{Moved}
 use Rattle.controller.specs.State.{withInputs}
-use Rattle.controller.specs.Tick.{Result, Told, still, saysFault, faulted, countedOf, countersAfter, recordsOf, step8, wOf, seenOf, step7, mismatched, steps6to8, filterOf, steps4and5, outside, step3, step2, tickOf}
+use Rattle.counters.specs.Counters.{countersAfter, recordsOf}
+use Rattle.counters.specs.Laws.{countedIn, Tells, amountsIn, counts-in, tells-one}
+use Rattle.counters.specs.declared.Counters.{Counters}
+use Rattle.scale.specs.Scale.{outside, filtered, filterOf}
+use Rattle.controller.specs.Tick.{Result, Told, still, saysFault, faulted, step8, wOf, seenOf, step7, mismatched, steps6to8, steps4and5, step3, step2, tickOf}
 use Rattle.controller.specs.Calls.{atReady}
 use Rattle.controller.specs.Sound.{Sound}
 use Rattle.controller.specs.Outside.{wAt, clear, inDoseSettle, shuts3, leavesSettle, completes, Noted, begins, opens3, noted, amountSeen, dosesSeen, Agrees}
 use Rattle.controller.specs.declared.Controller.{Controller}
-use Rattle.controller.specs.declared.Runs.{Runs}
-use Rattle.controller.specs.declared.Counters.{Counters}
-use Rattle.controller.specs.declared.Record.{Record}
 use Rattle.controller.specs.declared.Fault.{Fault}
 use Rattle.controller.specs.declared.Fault.the-variants as F
 use Rattle.controller.specs.declared.Condition.{Condition}
 use Rattle.controller.specs.declared.Condition.the-variants.{Clear, Faulted}
 
 -- ---- what is said of a tick
-
--- amounts counted in, one after another
-unfoldable pub countedIn : Counters → List ℕ → Counters
-countedIn n [] = n
-countedIn n (amount ∷ more) = countedIn (countedOf n amount) more
-
--- the records tell of these amounts, each with the count after it
-unfoldable pub Tells : Counters → List ℕ → List Record → Type 0
-Tells n [] [] = Unit {0}
-Tells n [] (r ∷ rs) = ⊥
-Tells n (amount ∷ more) [] = ⊥
-Tells n (amount ∷ more) (r ∷ rs) = (r .amount ≡ amount) × (r .count ≡ countedOf n amount .count) × Tells (countedOf n amount) more rs
 
 -- an answer tells of exactly these amounts; a refusal and a fault tell of none
 unfoldable pub Answers : Counters → List ℕ → Answer Told → Type 0
@@ -93,11 +82,6 @@ ends set p to =
 
 abbrev amounts : Settings → Phase → ℤ → Moved → Noted → List ℕ
 amounts set p f to m = pick (ends set p to) (amountSeen set m (after f to) ∷ []) []
-
--- the amounts that a step itself hands on
-unfoldable amountsIn : Dose → List ℕ
-amountsIn Nothing = []
-amountsIn (Complete amount settled) = amount ∷ []
 
 record Matches (set : Settings) (p : Phase) (f : ℤ) (m : Noted) (to : Moved) : Type 0 where
   agrees : Agrees (to .phase) (notes set p f to m)
@@ -204,22 +188,12 @@ step-matches set (DoseSettle wH n) m t e b a =
 
 -- ---- a tick
 
-counts-in : (n : Counters) (d : Dose) → countersAfter n d ≡ countedIn n (amountsIn d)
-unfolding countersAfter countedIn amountsIn
-counts-in n Nothing = refl
-counts-in n (Complete amount settled) = refl
-
-tells-one : (n : Counters) (d : Dose) → Tells n (amountsIn d) (recordsOf (countersAfter n d) d)
-unfolding countersAfter recordsOf amountsIn Tells
-tells-one n Nothing = tt
-tells-one n (Complete amount settled) = (refl, refl, tt)
-
 tells-of : (n k : Counters) (d : Dose) (amounts : List ℕ) → k ≡ n → amounts ≡ amountsIn d → Tells n amounts (recordsOf (countersAfter k d) d)
 tells-of n k d amounts e h = rw (e, h) (tells-one n d)
 
 -- F of the tick, worked out from the samples
 abbrev mean : Controller → ℤ → ℤ
-mean c x = meanOf (take (filterOf c) (take 128 (x ∷ samplesOf (c .window))))
+mean c x = meanOf (take (filterOf (c .set) (c .gates)) (take 128 (x ∷ samplesOf (c .window))))
 
 -- no phase is both
 settles-not-ready : (p : Phase) → (inDoseSettle p && atReady p) ≡ false
@@ -292,19 +266,19 @@ module _ (c : Controller) (x : ℤ) (i : ℕ) (m : Noted) where
         weight = λ h' k'. ap (λ (f' : ℤ). f' -ℤ to .z .v) (sym f);
       }
 
-  mismatched-shown : (runs : Runs) (d : Controller) (next : Result Told) → d .counters ≡ c .counters → d .set ≡ c .set → Shown c x i m next → Shown c x i m (mismatched runs d next)
+  mismatched-shown : (a : Answer (Unit {0})) (d : Controller) (next : Result Told) → d .counters ≡ c .counters → d .set ≡ c .set → Shown c x i m next → Shown c x i m (mismatched a d next)
   unfolding mismatched
-  mismatched-shown runs d next e set h =
-      pick-all (Shown c x i m) (leb 64 (runs .one)) (faulted-shown (F.F14 1) d e set)
-      (pick-all (Shown c x i m) (leb 64 (runs .two)) (faulted-shown (F.F14 2) d e set)
-      (pick-all (Shown c x i m) (leb 64 (runs .three)) (faulted-shown (F.F14 3) d e set) h))
+  mismatched-shown (done u) d next e set h = h
+  mismatched-shown (refused n vs) d next e set h = h
+  mismatched-shown (fault n vs) d next e set h = faulted-shown (F.F14 _) d e set
 
 module _ (c : Controller) (x : ℤ) (i : ℕ) (m : Noted) (s : Sound c) (a : Agrees (c .phase) m) where
-  kept-mean : (f : ℤ) → f ≡ meanOf (take (filterOf c) (samplesOf (pushOf (c .window) x))) → f ≡ mean c x
-  kept-mean f e = e ∙ ap (λ (l : List ℤ). meanOf (take (filterOf c) l)) (samples-push (c .window) x (s .places))
+  kept-mean : (f : ℤ) → f ≡ filtered (pushOf (c .window) x) (filterOf (c .set) (c .gates)) → f ≡ mean c x
+  unfolding filtered
+  kept-mean f e = e ∙ ap (λ (l : List ℤ). meanOf (take (filterOf (c .set) (c .gates)) l)) (samples-push (c .window) x (s .places))
 
   steps4to8-shown : c .condition ≡ Clear → Shown c x i m (steps4and5 (withInputs i c) x)
-  unfolding steps4and5 steps6to8 step7 seenOf wOf filterOf
+  unfolding steps4and5 steps6to8 step7 seenOf wOf
   steps4to8-shown k =
       mismatched-shown c x i m _ _ _ refl refl
       (step8-shown c x i m _ _ (s .gates) refl refl k (kept-mean _ refl) (step-matches (c .set) (c .phase) m _ refl (s .phase) a))

@@ -1,41 +1,39 @@
 -- What every sound controller promises beside the calls: doses and weights that can always be written, shut gates, refusals that change nothing, and counters that a tick, a reset and a restart alone change. Assumes nothing.
 use mathlib.Core.Path.{_≡_, refl, sym, ap, _∙_}
 use mathlib.Core.Bool.{Bool, true, false, _&&_}
-use mathlib.Core.List.{List, [], _∷_}
+use mathlib.Core.List.{List, []}
 use Prim.Native.Nat.{ℕ, _≤_, _<_}
 use native.Mathlib.Omega.{arith}
 use lib.Dec.{leb, ltb, eqb}
-use lib.IntN.{ℤ, natAbs, _-ℤ_}
+use lib.IntN.{ℤ, _-ℤ_}
 use lib.ListN.{length}
 use Rattle.laws.specs.Pick.{pick, pick-all, pick-if}
 use Rattle.laws.specs.Whole.{true-false}
 use Rattle.paper.specs.Answer.{Answer, done, refused, fault, onDone}
+use Rattle.paper.specs.AnswerLaws.{refused-done, fault-done, done-refused, fault-refused, on-done, passed, failed}
 use Rattle.paper.specs.Numbers.{R3, R15}
 use Rattle.settings.specs.declared.Settings.{Settings}
 use Rattle.settings.specs.Table.{firstBad, defaultSet, default-good}
 use Rattle.settings.specs.Good.{good-ranges}
-use Rattle.window.specs.Window.{samplesOf}
 use Rattle.field.specs.Field.{writable}
-use Rattle.field.specs.RoundTrip.{small-writable}
 use Rattle.dosing.specs.Rules.{shut, stepOf}
 use Rattle.dosing.specs.Gates.{gatesOf, fillingOpen, emptyingOpen}
 use Rattle.dosing.specs.Laws.{ready-shut, shut-fills, never-both, over-unfilled, step-amount}
 use Rattle.dosing.specs.declared.Units.{Units}
 use Rattle.dosing.specs.declared.Phase.the-variants.{Ready}
-use Rattle.dosing.specs.declared.Dose.{Dose}
-use Rattle.dosing.specs.declared.Dose.the-variants.{Nothing, Complete}
-use Rattle.controller.specs.State.{counters, restarted, withZ, withAlarm, withLink, withInputs}
-use Rattle.controller.specs.Tick.{Result, Told, saysFault, faulted, overCapacity, countersAfter, recordsOf, step8, step7, seenOf, wOf, none, tickOf, step2}
+use Rattle.counters.specs.Counters.{counters, countersAfter, recordsOf}
+use Rattle.counters.specs.Laws.{AllRecordable, after-storable, records-recordable}
+use Rattle.scale.specs.Scale.{overCapacity}
+use Rattle.scale.specs.Laws as scale
+use Rattle.asking.specs.Asking.{Asked}
+use Rattle.controller.specs.State.{restarted, withZ, withAlarm, withLink, withInputs}
+use Rattle.controller.specs.Tick.{Result, Told, saysFault, faulted, step8, step7, seenOf, wOf, tickOf, step2}
 use Rattle.controller.specs.Calls.{isReady, storedBad, restartOf, freshOf, taken, after, settingsAnswer, settingsOf, resetAnswer, resetOf, linkOf}
-use Rattle.controller.specs.Line.{filtered, weightFrom, weightBy, Asked, Replied, askedOf, replyFrame, zeroedBy, replied, repliesTo, requestOf}
+use Rattle.controller.specs.Line.{weightOf, Replied, askedOf, replyFrame, zeroedBy, replied, repliesTo, requestOf}
 use Rattle.controller.specs.Sound.{Sound, Abandoned}
-use Rattle.paper.specs.AnswerLaws.{refused-done, fault-done, done-refused, fault-refused, on-done, passed, failed}
-use Rattle.controller.specs.Bounds.{weight-within, clear-faulted, ready-is}
+use Rattle.controller.specs.Bounds.{samples-within, clear-faulted, ready-is}
 use Rattle.controller.specs.Ways.{tick-ways}
-use Rattle.controller.specs.Keeps.{after-most}
 use Rattle.controller.specs.declared.Controller.{Controller}
-use Rattle.controller.specs.declared.Counters.{Counters}
-use Rattle.controller.specs.declared.Record.{Record}
 use Rattle.controller.specs.declared.Fault.{Fault}
 use Rattle.controller.specs.declared.Fault.the-variants as F
 use Rattle.controller.specs.declared.Condition.{Condition}
@@ -50,20 +48,6 @@ fresh-restarts = rw default-good
 
 -- ---- doses
 
--- count 0..999,999, amount 0..1,800,000: the ranges of a D line
-pub record Recordable (r : Record) : Type 0 where
-  pub count : r .count ≤ 999999
-  pub amount : r .amount ≤ 1800000
-
-abbrev pub AllRecordable : List Record → Type 0
-AllRecordable [] = Unit {0}
-AllRecordable (r ∷ rs) = Recordable r × AllRecordable rs
-
-records-recordable : (n : Counters) (d : Dose) → n .count ≤ 999999 → ((a : ℕ) (settled : Bool) → d ≡ Complete a settled → a ≤ 1800000) → AllRecordable (recordsOf n d)
-unfolding recordsOf
-records-recordable n Nothing h most = tt
-records-recordable n (Complete a settled) h most = (record { count = h; amount = most a settled refl }, tt)
-
 -- the D line of a tick's dose is never refused
 step7-recordable : (c : Controller) (start : Bool) (t : Told) → Sound c → step7 c start .answer ≡ done t → AllRecordable (t .doses)
 unfolding step7 step8 seenOf wOf
@@ -72,7 +56,7 @@ step7-recordable c start t s e =
     let after = countersAfter (c .counters) (m .dose) in
     let same : recordsOf after (m .dose) ≡ t .doses = cc in
     rw (sym same)
-    (records-recordable after (m .dose) (after-most (c .counters) (m .dose) (s .count) (s .total) .0)
+    (records-recordable after (m .dose) (after-storable (c .counters) (m .dose) (record { count = s .count; total = s .total }) .count)
     (step-amount (c .set) (c .phase) (seenOf c start) (good-ranges (c .set) (s .set)) (s .previous) refl (s .kept)))
 
 fault-undone : {X Q : Type 0} (why : Fault) (x : X) → saysFault why ≡ done x → Q
@@ -92,15 +76,10 @@ tick-recordable c x i t s =
 
 -- ---- weights
 
-weight-from : (c : Controller) (w : ℤ) (empty : Bool) → Sound c → natAbs w ≤ 924998 → writable (weightFrom empty c w) ≡ true
-unfolding weightFrom
-weight-from c w true s h = small-writable (weightFrom true c w) (omega arith) (omega (arith, good-ranges (c .set) (s .set) .point))
-weight-from c w false s h = small-writable (weightFrom false c w) (omega arith) (omega (arith, good-ranges (c .set) (s .set) .point))
-
 -- a reply's weight field is never refused
-pub weight-writable : (c : Controller) (n : ℕ) → Sound c → writable (weightBy c n) ≡ true
-unfolding weightBy
-weight-writable c n s = weight-from c (filtered c n -ℤ c .z .v) (none (samplesOf (c .window))) s (weight-within c s n)
+pub weight-writable : (c : Controller) (n : ℕ) → Sound c → writable (weightOf c n) ≡ true
+weight-writable c n s =
+    scale.weight-writable (c .set) (c .window) (c .z) (c .s) n (omega (arith, good-ranges (c .set) (s .set) .point)) (samples-within c s) (s .zero)
 
 -- ---- gates
 

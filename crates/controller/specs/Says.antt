@@ -1,5 +1,6 @@
 -- What the controller's answers say in the paper's words, and the contract of each call. Assumes nothing.
 use mathlib.Core.Path.{_≡_}
+use mathlib.Core.Bool.{Bool}
 use mathlib.Core.List.{List, [], _∷_}
 use Prim.Native.Nat.{ℕ}
 use lib.IntN.{ℤ}
@@ -7,10 +8,12 @@ use lib.ListN.{length}
 use Rattle.paper.specs.Answer.{Answer, done, refused, told, leaves}
 use Rattle.paper.specs.Numbers.{R1, R2, R3, R4, R5, R6, R7, R8, R9, R15}
 use Rattle.settings.specs.declared.Settings.{Settings}
+use Rattle.counters.specs.declared.Counters.{Counters}
 use Rattle.controller.specs.Tick.{Told, saysFault, tickOf}
-use Rattle.controller.specs.Calls.{restartOf, controllerIn, settingsOf, resetOf}
+use Rattle.controller.specs.Calls.{freshOf, restartOf, controllerIn, settingsOf, resetOf, linkOf}
 use Rattle.controller.specs.Line.{Replied, requestOf}
 use Rattle.controller.specs.Sound.{Sound}
+use Rattle.controller.specs.Made.{Made}
 use Rattle.controller.specs.declared.Controller.{Controller}
 use Rattle.controller.specs.declared.Fault.{Fault}
 use Rattle.controller.specs.declared.TickAnswer.{TickAnswer}
@@ -68,6 +71,16 @@ pub record Ticks (c : Controller) (sample : ℤ) (inputs : ℕ) (r : Ticked) : T
   pub next : r .next ≡ tickOf c sample inputs .next
   pub says : saysTick (r .answer) ≡ tickOf c sample inputs .answer
   pub sound : Sound (r .next)
+
+abbrev pub Freshens : Controller → Type 0
+Freshens r = Made freshOf r
+
+abbrev pub Links : Controller → Bool → Controller → Type 0
+Links c on r = Made (linkOf c on) r
+
+-- A call of its own answers count and total at any time
+abbrev pub Counted : Controller → Counters → Type 0
+Counted c r = r ≡ c .counters
 
 pub record Sets (c : Controller) (set : Settings) (r : SetTo) : Type 0 where
   pub next : r .next ≡ settingsOf c set .next

@@ -9,13 +9,14 @@ use Rattle.window.specs.Window.{samplesOf}
 use Rattle.window.specs.Range.{Within}
 use Rattle.dosing.specs.Gates.{gatesOf, belongs, Kept}
 use Rattle.dosing.specs.declared.Units.{Units}
+use Rattle.channels.specs.declared.Runs.{Runs}
+use Rattle.counters.specs.declared.Counters.{Counters}
+use Rattle.counters.specs.Laws.{Storable}
+use Rattle.scale.specs.Laws.{within-at}
 use Rattle.controller.specs.State.{withWindow, withZ, withF, withS, withRuns, withInputs, withCounters}
 use Rattle.controller.specs.Tick.{faulted}
 use Rattle.controller.specs.Sound.{Sound, Watched}
-use Rattle.controller.specs.Bounds.{within-at}
 use Rattle.controller.specs.declared.Controller.{Controller}
-use Rattle.controller.specs.declared.Runs.{Runs}
-use Rattle.controller.specs.declared.Counters.{Counters}
 use Rattle.controller.specs.declared.Fault.{Fault}
 use Rattle.controller.specs.declared.Condition.the-variants.{Faulted}
 
@@ -32,8 +33,8 @@ module _ (c : Controller) (s : Sound c) where
   pub zero-sound : (z : Units) → natAbs (z .v) ≤ 24998 → Kept (z .v) (c .phase) → Sound (withZ z c)
   zero-sound z h k = search needs
 
-  pub counters-sound : (n : Counters) → n .count ≤ 999999 → n .total ≤ 999999999 → Sound (withCounters n c)
-  counters-sound n a b = search needs
+  pub counters-sound : (n : Counters) → Storable n → Sound (withCounters n c)
+  counters-sound n h = search needs
 
   -- the filter with F
   pub filter-sound : (w : Window) (f : Units) → length (w .samples) ≡ 128 → w .held ≤ 128 → Within 900000 (samplesOf w) → natAbs (f .v) ≤ 900000 → Sound (withF f (withWindow w c))

@@ -10,8 +10,9 @@ use Rattle.window.specs.Window.{samplesOf}
 use Rattle.dosing.specs.Gates.{gatesOf, belongs, Kept}
 use Rattle.dosing.specs.declared.Phase.{Phase}
 use Rattle.dosing.specs.declared.Phase.the-variants.{Ready}
+use Rattle.channels.specs.declared.Runs.{Runs}
+use Rattle.channels.specs.Laws.{NoLonger}
 use Rattle.controller.specs.declared.Controller.{Controller}
-use Rattle.controller.specs.declared.Runs.{Runs}
 use Rattle.controller.specs.declared.Condition.{Condition}
 use Rattle.controller.specs.declared.Condition.the-variants.{Clear, Faulted}
 
@@ -22,8 +23,8 @@ Abandoned (Faulted why) p four = (p ≡ Ready) × (four ≡ true)
 
 -- a run of 64 is a fault
 abbrev pub Watched : Condition → Runs → Type 0
-Watched Clear r = (r .one ≤ 63) × (r .two ≤ 63) × (r .three ≤ 63)
-Watched (Faulted why) r = (r .one ≤ 64) × (r .two ≤ 64) × (r .three ≤ 64)
+Watched Clear r = NoLonger 63 r
+Watched (Faulted why) r = NoLonger 64 r
 
 pub record Sound (c : Controller) : Type 0 where
   -- the set was taken

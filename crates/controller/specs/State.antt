@@ -10,17 +10,13 @@ use Rattle.dosing.specs.declared.Gates.{Gates}
 use Rattle.dosing.specs.declared.Phase.{Phase}
 use Rattle.dosing.specs.declared.Phase.the-variants.{Ready}
 use Rattle.dosing.specs.Rules.{units, shut}
+use Rattle.channels.specs.declared.Runs.{Runs}
+use Rattle.channels.specs.Channels.{noRuns}
+use Rattle.counters.specs.declared.Counters.{Counters}
+use Rattle.counters.specs.Counters.{counters}
 use Rattle.controller.specs.declared.Controller.{Controller}
-use Rattle.controller.specs.declared.Runs.{Runs}
-use Rattle.controller.specs.declared.Counters.{Counters}
 use Rattle.controller.specs.declared.Condition.{Condition}
 use Rattle.controller.specs.declared.Condition.the-variants.{Clear}
-
-abbrev pub counters : ℕ → ℕ → Counters
-counters count total = record { count = count; total = total }
-
-abbrev pub noRuns : Runs
-noRuns = record { one = 0; two = 0; three = 0 }
 
 -- A restart takes a set and the stored count and total; it empties the filter and puts Z to 0, clears link start and fault, closes all outputs, and is in Ready
 unfoldable pub restarted : Settings → ℕ → ℕ → Controller

@@ -1,15 +1,15 @@
 // Fresh and restarted controllers, settings, counter reset, counters and link start.
 use crate::Condition;
 use crate::Controller;
-use crate::Counters;
 use crate::ResetAnswer;
 use crate::ResetTo;
 use crate::RestartAnswer;
 use crate::Restarted;
-use crate::Runs;
 use crate::SetAnswer;
 use crate::SetTo;
 use crate::is_ready;
+use channels::Runs;
+use counters::Counters;
 use dosing::Gates;
 use dosing::Phase;
 use dosing::Units;
@@ -19,24 +19,18 @@ use window::Window;
 ghost use mathlib.Core.Path.{_≡_};
 ghost use mathlib.Core.List.{[]};
 ghost use Rattle.laws.specs.Pick.{pick};
-ghost use Rattle.paper.specs.Answer.{refused};
-ghost use Rattle.paper.specs.Numbers.{R3};
+ghost use Rattle.paper.specs.Answer.{done, refused, onDone};
+ghost use Rattle.paper.specs.Numbers.{R3, R15};
 ghost use Rattle.settings.specs.Says.{says};
 ghost use Rattle.controller.specs.State.{restarted};
-ghost use Rattle.controller.specs.Calls.{freshOf, noController, taken, linkOf};
+ghost use Rattle.controller.specs.Calls.{storedBad, noController, taken};
 ghost use Rattle.controller.specs.Sound.{Sound};
-ghost use Rattle.controller.specs.Says.{saysSet, Sets, Resets, Restarts};
-ghost use Rattle.controller.specs.Made.{Made};
+ghost use Rattle.controller.specs.Says.{saysSet, saysRestart, Freshens, Restarts, Sets, Resets, Counted, Links};
 
 impl Controller {
-    // The greatest stored count.
-    pub const COUNT_MOST: u32 = 999999;
-    // The greatest stored total.
-    pub const TOTAL_MOST: u32 = 999999999;
-
     // A restart with both at 0 and the default set.
     pub fn fresh() -> Controller
-        ensures { λ r. ⌜ Made freshOf r ⌝ }
+        ensures { λ r. ⌜ Freshens r ⌝ }
     {
         restarted(Settings::default(), 0, 0)
     }
@@ -45,22 +39,16 @@ impl Controller {
     pub fn restart(set: Settings, count: u32, total: u32) -> Restarted
         ensures { λ r. ⌜ Restarts set count total r ⌝ }
     {
-        let checked = set.check();
-        if let Checked::R2(row) = checked {
+        let answer = restart_answer(set.check(), count, total);
+        if let RestartAnswer::Done = answer {
             return Restarted {
-                next: no_controller(),
-                answer: RestartAnswer::R2(row),
-            };
-        }
-        if (Controller::COUNT_MOST < count) | (Controller::TOTAL_MOST < total) {
-            return Restarted {
-                next: no_controller(),
-                answer: RestartAnswer::R15,
+                next: restarted(set, count, total),
+                answer,
             };
         }
         Restarted {
-            next: restarted(set, count, total),
-            answer: RestartAnswer::Done,
+            next: no_controller(),
+            answer,
         }
     }
 
@@ -69,7 +57,9 @@ impl Controller {
         requires { ⌜ Sound self ⌝ }
         ensures { λ r. ⌜ Sets self set r ⌝ }
     {
-        let answer = set_answer(is_ready(self), set.check());
+        let condition = self.condition;
+        let phase = self.phase;
+        let answer = set_answer(is_ready(condition, phase), set.check());
         if let SetAnswer::Taken = answer {
             return SetTo {
                 next: taken(set, self),
@@ -84,7 +74,9 @@ impl Controller {
         requires { ⌜ Sound self ⌝ }
         ensures { λ r. ⌜ Resets self r ⌝ }
     {
-        if !is_ready(self) {
+        let condition = self.condition;
+        let phase = self.phase;
+        if !is_ready(condition, phase) {
             return ResetTo {
                 next: self,
                 answer: ResetAnswer::R3,
@@ -100,7 +92,7 @@ impl Controller {
 
     // Count and total, at any time.
     pub fn counters(self) -> Counters
-        ensures { λ r. ⌜ r ≡ self .counters ⌝ }
+        ensures { λ r. ⌜ Counted self r ⌝ }
     {
         let kept = self.counters;
         kept
@@ -109,11 +101,24 @@ impl Controller {
     // Sets or clears the link start, at any time.
     pub fn link(mut self, on: bool) -> Controller
         requires { ⌜ Sound self ⌝ }
-        ensures { λ r. ⌜ Made (linkOf self on) r ⌝ }
+        ensures { λ r. ⌜ Links self on r ⌝ }
     {
         self.link = on;
         self
     }
+}
+
+// What a restart answers: R2, then R15.
+fn restart_answer(checked: Checked, count: u32, total: u32) -> RestartAnswer
+    ensures { λ r. ⌜ saysRestart r ≡ onDone (says checked) (λ good. pick (storedBad count total) (refused R15 []) (done tt)) ⌝ }
+{
+    if let Checked::R2(row) = checked {
+        return RestartAnswer::R2(row);
+    }
+    if (Counters::COUNT_MOST < count) | (Counters::TOTAL_MOST < total) {
+        return RestartAnswer::R15;
+    }
+    RestartAnswer::Done
 }
 
 // What a set answers: R3 before R2.

@@ -3,6 +3,9 @@ mod calls;
 mod line;
 mod tick;
 
+use channels::Runs;
+use counters::Counters;
+use counters::Record;
 use dosing::Gates;
 use dosing::Phase;
 use dosing::Units;
@@ -10,13 +13,8 @@ use settings::Settings;
 use window::Window;
 ghost use mathlib.Core.Path.{_≡_};
 ghost use lib.IntN.{_-ℤ_};
-ghost use lib.ListN.{take};
-ghost use Rattle.settings.specs.Ranges.{Ranges};
-ghost use Rattle.window.specs.Mean.{meanOf};
-ghost use Rattle.window.specs.Window.{samplesOf};
 ghost use Rattle.dosing.specs.Rules.{units};
-ghost use Rattle.controller.specs.Tick.{worth, outputsOf, overCapacity, stableOf};
-ghost use Rattle.controller.specs.Calls.{isReady};
+ghost use Rattle.controller.specs.Calls.{readyIn};
 ghost use Rattle.controller.specs.Parts.{Small};
 
 // F14 names its channel.
@@ -29,19 +27,6 @@ pub enum Fault {
 pub enum Condition {
     Clear,
     Faulted(Fault),
-}
-
-// The runs of mismatches of channels 1 to 3.
-pub struct Runs {
-    pub one: u32,
-    pub two: u32,
-    pub three: u32,
-}
-
-// The number of doses, and the sum of their amounts.
-pub struct Counters {
-    pub count: u32,
-    pub total: u32,
 }
 
 // The box between two calls.
@@ -67,13 +52,6 @@ pub struct Controller {
     pub inputs: u8,
     pub condition: Condition,
     pub counters: Counters,
-}
-
-// The record of a completed dose: the count after it, the amount, whether Settle ended stable.
-pub struct Record {
-    pub count: u32,
-    pub amount: u32,
-    pub settled: bool,
 }
 
 // What a tick answers: the outputs, with the dose record if one completed; or the fault; or R1.
@@ -147,26 +125,16 @@ pub struct Requested {
 }
 
 // The phase is Ready, and there is no fault.
-fn is_ready(c: Controller) -> bool
-    ensures { λ r. ⌜ r ≡ isReady c ⌝ }
+fn is_ready(condition: Condition, phase: Phase) -> bool
+    ensures { λ r. ⌜ r ≡ readyIn condition phase ⌝ }
 {
-    let condition = c.condition;
     let Condition::Clear = condition else {
         return false;
     };
-    let phase = c.phase;
     match phase {
         Phase::Ready => true,
         _ => false,
     }
-}
-
-// The mean of the last n samples.
-fn mean_of(window: Window, n: u32) -> Units
-    ensures { λ r. ⌜ r ≡ units (meanOf (take n (samplesOf window))) ⌝ }
-{
-    let v = window.mean(n as usize);
-    Units { v }
 }
 
 // w = F-Z
@@ -177,40 +145,4 @@ fn weight(f: Units, z: Units) -> Units
     let x = f.v;
     let y = z.v;
     Units { v: x - y }
-}
-
-// w > C+9
-fn over_capacity(set: Settings, w: Units) -> bool
-    requires { ⌜ Ranges set ⌝ }
-    ensures { λ r. ⌜ r ≡ overCapacity set (w .v) ⌝ }
-{
-    let v = w.v;
-    let most = (set.capacity + Controller::OVER_CAPACITY) as i32;
-    most < v
-}
-
-// S >= 64*p9
-fn stable_of(set: Settings, s: u32) -> bool
-    requires { ⌜ Ranges set ⌝ }
-    ensures { λ r. ⌜ r ≡ stableOf set s ⌝ }
-{
-    64 * set.p9 <= s
-}
-
-// n where it is on, else 0.
-fn worth(on: bool, n: u8) -> u8
-    ensures { λ r. ⌜ r ≡ worth on n ⌝ }
-{
-    if on { n } else { 0 }
-}
-
-// Output i is bit i-1.
-fn outputs_of(g: Gates, four: bool) -> u8
-    ensures { λ r. ⌜ r ≡ outputsOf g four ⌝ }
-{
-    let one = worth(g.one, 1);
-    let two = worth(g.two, 2);
-    let three = worth(g.three, 4);
-    let alarm = worth(four, 8);
-    one + two + three + alarm
 }

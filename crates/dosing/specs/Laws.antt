@@ -25,13 +25,6 @@ use Rattle.dosing.specs.declared.Seen.{Seen}
 use Rattle.dosing.specs.declared.Dose.the-variants.{Nothing, Complete}
 use Rattle.dosing.specs.declared.Moved.{Moved}
 
--- two results that both meet the contract of `near_zero`, or of `step`, are equal
-pub near-zero-determined : (set : Settings) (f : ℤ) (a b : Bool) → a ≡ nearZero set f → b ≡ nearZero set f → a ≡ b
-near-zero-determined set f a b h k = h ∙ sym k
-
-pub step-determined : (set : Settings) (p : Phase) (t : Seen) (a b : Moved) → a ≡ stepOf set p t → b ≡ stepOf set p t → a ≡ b
-step-determined set p t a b h k = h ∙ sym k
-
 -- the phase determines the outputs, and a dose completes only into Ready
 
 record Tells (set : Settings) (m : Moved) : Type 0 where

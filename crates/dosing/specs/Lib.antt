@@ -1,4 +1,5 @@
 pub mod Rules
+pub mod Calls
 pub mod Gates
 pub mod Ways
 pub mod Laws

@@ -1,13 +1,11 @@
 // The phase rules of AL0 to AL3 as one step: no samples, no counters.
 use settings::Settings;
 ghost use mathlib.Core.Path.{_≡_};
-ghost use mathlib.Core.Bool.{true, false};
 ghost use Prim.Native.Nat.{_+_, _-_};
-ghost use lib.Dec.{eqb};
 ghost use lib.IntN.{pos, negℤ, _-ℤ_};
 ghost use lib.Signed.{ltZ, leZ};
-ghost use Rattle.dosing.specs.Rules.{gates, shut, to, complete, reachedWf, reachedWc, notBelowZero, nearZero, zeroed, full, coarseStage, fineStage, readyToFill, fill, hold, settleEnds, dischargeOpens, settle, amountOf, discharge, load, calm, doseCoarse, doseFine, doseSettle, readyToDose, ready, stepOf};
-ghost use Rattle.dosing.specs.declared.Phase.the-variants.{Coarse, Fine, Load, DoseCoarse, DoseFine};
+ghost use Rattle.dosing.specs.Rules.{gates, shut, to, complete, reachedWf, reachedWc, notBelowZero, zeroed, full, coarseStage, fineStage, readyToFill, fill, hold, settleEnds, dischargeOpens, settle, amountOf, discharge, load, calm, doseCoarse, doseFine, doseSettle, readyToDose, ready};
+ghost use Rattle.dosing.specs.Calls.{TellsNear, Steps};
 
 // A weight in display units.
 pub struct Units {
@@ -146,7 +144,7 @@ fn reached_wc(set: Settings, x: Wide) -> bool
 
 // -M < F < M
 pub fn near_zero(set: Settings, f: Units) -> bool
-    ensures { λ r. ⌜ r ≡ nearZero set (f .v) ⌝ }
+    ensures { λ r. ⌜ TellsNear set f r ⌝ }
 {
     let x = widened(f);
     above_minus(x, set.level) & below(x, set.level)
@@ -176,10 +174,11 @@ fn outcome(phase: Phase, g: Gates, d: Dose, t: Seen) -> Moved
     }
 }
 
-// The phase goes on or changes, and no dose completes.
-fn to(phase: Phase, g: Gates, t: Seen) -> Moved
-    ensures { λ r. ⌜ r ≡ to phase g t ⌝ }
+// The phase goes on or changes, with outputs 1, 2 and 3 open or shut, and no dose completes.
+fn opens(phase: Phase, one: bool, two: bool, three: bool, t: Seen) -> Moved
+    ensures { λ r. ⌜ r ≡ to phase (gates one two three) t ⌝ }
 {
+    let g = outputs(one, two, three);
     outcome(phase, g, Dose::Nothing, t)
 }
 
@@ -187,8 +186,7 @@ fn to(phase: Phase, g: Gates, t: Seen) -> Moved
 fn rests(phase: Phase, t: Seen) -> Moved
     ensures { λ r. ⌜ r ≡ to phase shut t ⌝ }
 {
-    let g = outputs(false, false, false);
-    to(phase, g, t)
+    opens(phase, false, false, false, t)
 }
 
 // The dose is complete, Ready.
@@ -201,47 +199,6 @@ fn completes(amount: u32, settled: bool, t: Seen) -> Moved
         settled: settled,
     };
     outcome(Phase::Ready, g, d, t)
-}
-
-// Fill, coarse stage: 1 open, and 2 open exactly if o = 1.
-fn coarse_filling(set: Settings, w0: Units, t: Seen) -> Moved
-    ensures { λ r. ⌜ r ≡ to (Coarse w0) (gates true (eqb (set .o) 1) false) t ⌝ }
-{
-    let both = set.o == 1;
-    let g = outputs(true, both, false);
-    to(Phase::Coarse { w0: w0 }, g, t)
-}
-
-// Fill, fine stage: 2 open.
-fn fine_filling(w0: Units, t: Seen) -> Moved
-    ensures { λ r. ⌜ r ≡ to (Fine w0) (gates false true false) t ⌝ }
-{
-    let g = outputs(false, true, false);
-    to(Phase::Fine { w0: w0 }, g, t)
-}
-
-// Load: 3 open.
-fn loading(t: Seen) -> Moved
-    ensures { λ r. ⌜ r ≡ to Load (gates false false true) t ⌝ }
-{
-    let g = outputs(false, false, true);
-    to(Phase::Load, g, t)
-}
-
-// Dose, coarse stage: 1 and 2 open.
-fn coarse_dosing(wh: Units, t: Seen) -> Moved
-    ensures { λ r. ⌜ r ≡ to (DoseCoarse wh) (gates true true false) t ⌝ }
-{
-    let g = outputs(true, true, false);
-    to(Phase::DoseCoarse { wh: wh }, g, t)
-}
-
-// Dose, fine stage: 2 open.
-fn fine_dosing(wh: Units, t: Seen) -> Moved
-    ensures { λ r. ⌜ r ≡ to (DoseFine wh) (gates false true false) t ⌝ }
-{
-    let g = outputs(false, true, false);
-    to(Phase::DoseFine { wh: wh }, g, t)
 }
 
 // If -M < F < M then Z becomes F and w is 0.
@@ -268,7 +225,7 @@ fn full(set: Settings, w0: Units) -> Phase
     Phase::Settle { w0: w0, n: 0 }
 }
 
-// Coarse stage of Fill.
+// Coarse stage of Fill: 1 open, and 2 open exactly if o = 1; at Wc 2 open, fine stage; at Wf both closed.
 fn coarse_stage(set: Settings, w0: Units, t: Seen) -> Moved
     ensures { λ r. ⌜ r ≡ coarseStage set w0 t ⌝ }
 {
@@ -277,12 +234,13 @@ fn coarse_stage(set: Settings, w0: Units, t: Seen) -> Moved
         return rests(full(set, w0), t);
     }
     if reached_wc(set, x) {
-        return fine_filling(w0, t);
+        return opens(Phase::Fine { w0: w0 }, false, true, false, t);
     }
-    coarse_filling(set, w0, t)
+    let both = set.o == 1;
+    opens(Phase::Coarse { w0: w0 }, true, both, false, t)
 }
 
-// Fine stage of Fill.
+// Fine stage of Fill: 2 open; at Wf closed.
 fn fine_stage(set: Settings, w0: Units, t: Seen) -> Moved
     ensures { λ r. ⌜ r ≡ fineStage set w0 t ⌝ }
 {
@@ -290,7 +248,7 @@ fn fine_stage(set: Settings, w0: Units, t: Seen) -> Moved
     if reached_wf(set, x) {
         return rests(full(set, w0), t);
     }
-    fine_filling(w0, t)
+    opens(Phase::Fine { w0: w0 }, false, true, false, t)
 }
 
 // AL0 and AL1, Ready: on start the zero, w0 = w; go on at once as Fill, coarse stage.
@@ -381,8 +339,7 @@ fn discharge(set: Settings, w0: Units, ws: Units, settled: bool, t: Seen) -> Mov
         ws: ws,
         settled: settled,
     };
-    let g = outputs(false, false, true);
-    to(p, g, t)
+    opens(p, false, false, true, t)
 }
 
 // AL2 and AL3, Load: w >= M closes 3, Calm.
@@ -392,7 +349,7 @@ fn load(set: Settings, t: Seen) -> Moved
     if at_least(widened(t.w), set.level) {
         return rests(Phase::Calm { n: 0 }, t);
     }
-    loading(t)
+    opens(Phase::Load, false, false, true, t)
 }
 
 // Calm ends as Settle does, then Ready.
@@ -405,7 +362,7 @@ fn calm(set: Settings, n: u64, t: Seen) -> Moved
     rests(Phase::Calm { n: n + 1 }, t)
 }
 
-// Coarse stage of Dose.
+// Coarse stage of Dose: 1 and 2 open; at Wc 2 open, fine stage; at Wf both closed.
 fn dose_coarse(set: Settings, wh: Units, t: Seen) -> Moved
     ensures { λ r. ⌜ r ≡ doseCoarse set wh t ⌝ }
 {
@@ -414,19 +371,19 @@ fn dose_coarse(set: Settings, wh: Units, t: Seen) -> Moved
         return rests(Phase::DoseSettle { wh: wh, n: 0 }, t);
     }
     if reached_wc(set, x) {
-        return fine_dosing(wh, t);
+        return opens(Phase::DoseFine { wh: wh }, false, true, false, t);
     }
-    coarse_dosing(wh, t)
+    opens(Phase::DoseCoarse { wh: wh }, true, true, false, t)
 }
 
-// Fine stage of Dose.
+// Fine stage of Dose: 2 open; at Wf closed.
 fn dose_fine(set: Settings, wh: Units, t: Seen) -> Moved
     ensures { λ r. ⌜ r ≡ doseFine set wh t ⌝ }
 {
     if reached_wf(set, difference(wh, t.w)) {
         return rests(Phase::DoseSettle { wh: wh, n: 0 }, t);
     }
-    fine_dosing(wh, t)
+    opens(Phase::DoseFine { wh: wh }, false, true, false, t)
 }
 
 // Settle of Dose: at its end the dose is complete, amount wH-w or 0 if below 0, Ready.
@@ -444,7 +401,7 @@ fn ready_to_dose(set: Settings, t: Seen) -> Moved
     ensures { λ r. ⌜ r ≡ readyToDose set t ⌝ }
 {
     if below(widened(t.w), set.dose) {
-        return loading(t);
+        return opens(Phase::Load, false, false, true, t);
     }
     if t.start {
         return dose_coarse(set, t.w, t);
@@ -467,7 +424,7 @@ fn ready(set: Settings, t: Seen) -> Moved
 
 // The phase rule of one tick.
 pub fn step(set: Settings, phase: Phase, seen: Seen) -> Moved
-    ensures { λ r. ⌜ r ≡ stepOf set phase seen ⌝ }
+    ensures { λ r. ⌜ Steps set phase seen r ⌝ }
 {
     match phase {
         Phase::Ready => ready(set, seen),

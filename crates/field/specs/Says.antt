@@ -34,15 +34,28 @@ got-one (G.Values v) G.R16 e = cc
 got-one G.R16 (G.Values w) e = cc
 got-one G.R16 G.R16 e = refl
 
+-- what each call's answer has to meet
+abbrev pub Sizes : ℤ → ℕ → Type 0
+Sizes v r = r ≡ natAbs v
+
+abbrev pub Writes : Weight → Written → Type 0
+Writes v r = saysWritten r ≡ writeOf v
+
+abbrev pub Reads : Field → Got → Type 0
+Reads f r = saysGot r ≡ readOf f
+
+abbrev pub Echoes : Weight → Got → Type 0
+Echoes v r = saysGot r ≡ echoOf v
+
 -- two answers that both meet a call's contract are equal
-pub size-determined : (v : ℤ) (a b : ℕ) → a ≡ natAbs v → b ≡ natAbs v → a ≡ b
+pub size-determined : (v : ℤ) (a b : ℕ) → Sizes v a → Sizes v b → a ≡ b
 size-determined v a b p q = same p q
 
-pub write-determined : (v : Weight) (a b : Written) → saysWritten a ≡ writeOf v → saysWritten b ≡ writeOf v → a ≡ b
+pub write-determined : (v : Weight) (a b : Written) → Writes v a → Writes v b → a ≡ b
 write-determined v a b p q = written-one a b (same p q)
 
-pub read-determined : (f : Field) (a b : Got) → saysGot a ≡ readOf f → saysGot b ≡ readOf f → a ≡ b
+pub read-determined : (f : Field) (a b : Got) → Reads f a → Reads f b → a ≡ b
 read-determined f a b p q = got-one a b (same p q)
 
-pub echo-determined : (v : Weight) (a b : Got) → saysGot a ≡ echoOf v → saysGot b ≡ echoOf v → a ≡ b
+pub echo-determined : (v : Weight) (a b : Got) → Echoes v a → Echoes v b → a ≡ b
 echo-determined v a b p q = got-one a b (same p q)

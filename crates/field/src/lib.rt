@@ -3,8 +3,8 @@ ghost use mathlib.Core.Path.{_≡_};
 ghost use mathlib.Core.Bool.{true};
 ghost use Prim.Native.Nat.{_≤_, _<_, _^_};
 ghost use lib.IntN.{natAbs};
-ghost use Rattle.field.specs.Field.{bcdOf, isBcd, valueOf, bitOf, hasBit, negative, conOf, fieldOf, writable, writeOf, signed, weightOf, readOf, echoOf};
-ghost use Rattle.field.specs.Says.{saysWritten, saysGot};
+ghost use Rattle.field.specs.Field.{bcdOf, isBcd, valueOf, bitOf, hasBit, negative, conOf, fieldOf, writable, signed, weightOf};
+ghost use Rattle.field.specs.Says.{Sizes, Writes, Reads, Echoes};
 
 // What a field stands for.
 pub struct Weight {
@@ -34,7 +34,7 @@ pub enum Got {
 
 // How far a number is from 0, at every i32.
 pub fn size_of(value: i32) -> u32
-    ensures { λ r. ⌜ r ≡ natAbs value ⌝ }
+    ensures { λ r. ⌜ Sizes value r ⌝ }
 {
     let wide = value as i64;
     if wide < 0 {
@@ -139,7 +139,7 @@ fn weight_of(f: Field) -> Weight
 
 // The field of a weight, or R16.
 pub fn write(weight: Weight) -> Written
-    ensures { λ r. ⌜ saysWritten r ≡ writeOf weight ⌝ }
+    ensures { λ r. ⌜ Writes weight r ⌝ }
 {
     let size = size_of(weight.value);
     if size > 999999 {
@@ -153,7 +153,7 @@ pub fn write(weight: Weight) -> Written
 
 // What a field stands for, or R16.
 pub fn read(field: Field) -> Got
-    ensures { λ r. ⌜ saysGot r ≡ readOf field ⌝ }
+    ensures { λ r. ⌜ Reads field r ⌝ }
 {
     if !is_bcd(field.low) {
         return Got::R16;
@@ -169,7 +169,7 @@ pub fn read(field: Field) -> Got
 
 // What was written, read back.
 pub fn echo(weight: Weight) -> Got
-    ensures { λ r. ⌜ saysGot r ≡ echoOf weight ⌝ }
+    ensures { λ r. ⌜ Echoes weight r ⌝ }
 {
     match write(weight) {
         Written::Bytes(field) => read(field),

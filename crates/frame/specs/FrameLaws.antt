@@ -6,7 +6,7 @@ use Prim.Native.Nat.{ℕ, _+_, _*_, _<_, _≤_}
 use native.Mathlib.Omega.{arith}
 use lib.Dec.{leb, eqb}
 use lib.ListN.{length, getD, length-append}
-use borrow.Author.Tests.{eqb-false, leb-true, eq-eqb, ne-eqb, lt-leb}
+use borrow.Author.Tests.{eqb-false, leb-true, eq-eqb, ne-eqb, le-leb, lt-leb}
 use Rattle.laws.specs.Pick.{pick-all, pick-t, pick-f}
 use Rattle.laws.specs.Whole.{false-true}
 use Rattle.frame.specs.Check.{check}
@@ -70,6 +70,13 @@ framable-is body e =
       enough = leb-true (fewest body) (length body) (f .2);
       most = leb-true (length body) 254 (f .3);
     }
+
+-- and it is no more
+pub is-framable : (body : List ℕ) → Framable body → framable body ≡ true
+unfolding framable
+is-framable body f =
+    let x = getD body 0 0 in
+    rw (ne-eqb x 0xFF (f .not-FF), ne-eqb x 0xFE (f .not-FE), le-leb (fewest body) (length body) (f .enough), le-leb (length body) 254 (f .most))
 
 pub fewest-two : (body : List ℕ) → 2 ≤ fewest body
 unfolding fewest

@@ -8,5 +8,6 @@ pub mod CheckLaws
 pub mod FrameLaws
 pub mod ReadLaws
 pub mod RoundTrip
+pub mod ReadBack
 pub mod Puts
 pub mod Stands

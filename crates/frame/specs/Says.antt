@@ -64,15 +64,24 @@ pub record Reads (s : List ℕ) (r : Read) : Type 0 where
   pub says : saysFound (r .found) ≡ told placeAndLength (readOf s)
   pub holds : r .body ≡ bytesIn (told bytesOf (readOf s)) ++ replicate (255 - length (bytesIn (told bytesOf (readOf s)))) 0
 
+-- what the other calls' results have to meet
+abbrev pub ChecksTo : List ℕ → ℕ → Type 0
+ChecksTo body r = r ≡ check body
+
+abbrev pub TellsFramable : List ℕ → Bool → Type 0
+TellsFramable body r = r ≡ framable body
+
+abbrev pub Writes : List ℕ → List ℕ → List ℕ → Wrote → Type 0
+Writes body old new r = Fills (saysWrote r) (writeOf body (length old)) old new
+
 -- two results that both meet a call's contract are equal
-pub check-determined : (body : List ℕ) (a b : ℕ) → a ≡ check body → b ≡ check body → a ≡ b
+pub check-determined : (body : List ℕ) (a b : ℕ) → ChecksTo body a → ChecksTo body b → a ≡ b
 check-determined body a b p q = same p q
 
-pub framable-determined : (body : List ℕ) (a b : Bool) → a ≡ framable body → b ≡ framable body → a ≡ b
+pub framable-determined : (body : List ℕ) (a b : Bool) → TellsFramable body a → TellsFramable body b → a ≡ b
 framable-determined body a b p q = same p q
 
-pub write-determined : (body old new new' : List ℕ) (a b : Wrote)
-    → Fills (saysWrote a) (writeOf body (length old)) old new → Fills (saysWrote b) (writeOf body (length old)) old new' → (a ≡ b) × (new ≡ new')
+pub write-determined : (body old new new' : List ℕ) (a b : Wrote) → Writes body old new a → Writes body old new' b → (a ≡ b) × (new ≡ new')
 write-determined body old new new' a b p q = (wrote-one a b (fills-one p q .0), fills-one p q .1)
 
 pub read-determined : (s : List ℕ) (a b : Read) → Reads s a → Reads s b → a ≡ b

@@ -4,12 +4,11 @@ ghost use mathlib.Core.List.{_++_};
 ghost use Prim.Native.Nat.{_+_, _-_, _≤_};
 ghost use lib.ListN.{length, take, replicate};
 ghost use lib.Seq.{sets};
-ghost use Rattle.paper.specs.Answer.{Fills};
 ghost use Rattle.frame.specs.Check.{check, enter};
 ghost use Rattle.frame.specs.Table.{entries};
-ghost use Rattle.frame.specs.Frame.{sentByte, sent, frame, framable, writeOf};
+ghost use Rattle.frame.specs.Frame.{sentByte, sent, frame};
 ghost use Rattle.frame.specs.Read.{grown, step, readAll, tooShort, bad};
-ghost use Rattle.frame.specs.Says.{saysWrote, Reads};
+ghost use Rattle.frame.specs.Says.{ChecksTo, TellsFramable, Writes, Reads};
 ghost use Rattle.frame.specs.Puts.{Puts};
 ghost use Rattle.frame.specs.Stands.{stands, Held, Stands};
 
@@ -73,7 +72,7 @@ fn enter(table: &[u8; 256], s: u8, x: u8) -> u8
 
 // The check byte of a body.
 pub fn check_byte(body: &[u8]) -> u8
-    ensures { λ r. ⌜ r ≡ check (now (body .entry)) ⌝ }
+    ensures { λ r. ⌜ ChecksTo (now (body .entry)) r ⌝ }
 {
     let table = made_table();
     let mut c: u8 = 0;
@@ -87,7 +86,7 @@ pub fn check_byte(body: &[u8]) -> u8
 
 // Whether a body can be framed.
 pub fn framable(body: &[u8]) -> bool
-    ensures { λ r. ⌜ r ≡ framable (now (body .entry)) ⌝ }
+    ensures { λ r. ⌜ TellsFramable (now (body .entry)) r ⌝ }
 {
     if body.len() < 2 {
         return false;
@@ -181,7 +180,7 @@ fn put_frame(out: &mut [u8], body: &[u8], c: u8)
 
 // Writes the frame of a body from the buffer's start; a refusal leaves the buffer as it was.
 pub fn write_frame(body: &[u8], out: &mut [u8]) -> Wrote
-    ensures { λ r. ⌜ Fills (saysWrote r) (writeOf (now (body .entry)) (length (now (out .entry)))) (now (out .entry)) (now (out .exit)) ⌝ }
+    ensures { λ r. ⌜ Writes (now (body .entry)) (now (out .entry)) (now (out .exit)) r ⌝ }
 {
     if !framable(body) {
         return Wrote::R14;

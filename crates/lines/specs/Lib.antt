@@ -1,6 +1,4 @@
 pub mod Lines
 pub mod Places
-pub mod Blocks
-pub mod Going
-pub mod Fed
+pub mod Intake
 pub mod Cases

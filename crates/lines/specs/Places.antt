@@ -1,23 +1,18 @@
--- The places of a block: where a line ends, a line that stands in it, and the bytes between two places. Assumes nothing.
+-- The places of a buffer: where a line ends, and the bytes between two places. Assumes nothing.
 use mathlib.Core.Path.{_≡_, refl, sym, ap, _∙_, subst}
 use mathlib.Core.Bool.{Bool, true, false}
-use mathlib.Core.List.{List, [], _∷_, _++_, append-assoc, append-nil}
-use Prim.Native.Nat.{ℕ, suc, _+_, _-_, _≤_, _<_}
+use mathlib.Core.List.{List, [], _∷_, _++_}
+use Prim.Native.Nat.{ℕ, zero, suc, _+_, _-_, _≤_, _<_, min}
 use native.Mathlib.Omega.{arith}
-use native.Mathlib.Numerals.{add-one}
-use lib.Dec.{eqb}
-use lib.ListN.{length, getD, take, drop, length-append, length-take, length-drop, drop-of-length-le, take-append-drop}
-use lib.Seq.{sets, sets-eq, length-take-le, take-all, drop-cons, drop-drop, getD-drop}
-use borrow.Author.Tests.{eqb-true, eqb-false}
+use lib.Dec.{leb, eqb}
+use lib.ListN.{length, getD, take, drop, length-take, length-drop, length-append, take-append-drop}
+use lib.Seq.{take-all, take-nil, take-at, drop-cons}
+use borrow.Author.Tests.{leb-true, leb-false, eqb-true, eqb-false}
 use Rattle.laws.specs.Pick.{pick, pick-all}
 use Rattle.laws.specs.Over.{over}
 use Rattle.paper.specs.Answer.{same}
 use Rattle.text.specs.Scan.{LF}
 use Rattle.lines.specs.Lines.{Plain}
-
--- the bytes from a place on begin with the byte there
-pub from-byte : (s : List ℕ) (at : ℕ) → at < length s → drop at s ≡ getD s at 0 ∷ drop (at + 1) s
-from-byte s at h = drop-cons s at 0 h ∙ ap (λ (n : ℕ). getD s at 0 ∷ drop n s) (sym (add-one at))
 
 -- ---- where a line ends
 
@@ -30,21 +25,8 @@ plainLength (b ∷ bs) = let more = suc (plainLength bs) in pick (eqb b LF) 0 mo
 unfoldable pub endOf : List ℕ → ℕ → ℕ
 endOf block at = at + plainLength (drop at block)
 
--- from `at` to `end` no LF stands in the block, and at `end` an LF or nothing
-pub record EndsAt (block : List ℕ) (at end : ℕ) : Type 0 where
-  pub after : at ≤ end
-  pub within : end ≤ length block
-  pub plain : Plain (take (end - at) (drop at block))
-  pub stop : end < length block → getD block end 0 ≡ LF
-
--- a whole line stands from `at` to the LF at `end`
-pub record LineAt (block : List ℕ) (at end : ℕ) (line : List ℕ) : Type 0 where
-  pub cut : drop at block ≡ line ++ LF ∷ drop (end + 1) block
-  pub plain : Plain line
-  pub place : at + length line ≡ end
-  pub inside : end < length block
-
-plain-taken : (l : List ℕ) → Plain (take (plainLength l) l)
+-- before the first LF stands none
+pub plain-taken : (l : List ℕ) → Plain (take (plainLength l) l)
 unfolding plainLength pick
 plain-taken [] = tt
 plain-taken (b ∷ bs) = go (eqb b LF) refl (plain-taken bs)
@@ -53,7 +35,7 @@ plain-taken (b ∷ bs) = go (eqb b LF) refl (plain-taken bs)
     go true e p = tt
     go false e p = (eqb-false b LF e, p)
 
-plain-within : (l : List ℕ) → plainLength l ≤ length l
+pub plain-within : (l : List ℕ) → plainLength l ≤ length l
 unfolding plainLength
 plain-within [] = omega arith
 plain-within (b ∷ bs) = pick-all (λ (n : ℕ). n ≤ suc (length bs)) (eqb b LF) (omega arith) (omega (arith, plain-within bs))
@@ -68,57 +50,16 @@ plain-stop (b ∷ bs) h = go (eqb b LF) refl h (plain-stop bs)
     go true e k p = eqb-true b LF e
     go false e k p = p (omega arith)
 
--- a place of the block, and where its line ends
-pub ends-at : (block : List ℕ) (at : ℕ) → at ≤ length block → EndsAt block at (endOf block at)
-unfolding endOf
-ends-at block at h =
-    let l = drop at block in
+-- the first line, its LF, and what follows it
+pub plain-line : (l : List ℕ) → plainLength l < length l → l ≡ take (plainLength l) l ++ LF ∷ drop (suc (plainLength l)) l
+plain-line l h =
     let n = plainLength l in
-    let size = length-drop at block in
-    let run : at + n - at ≡ n = omega arith in
-    record {
-      after = omega arith;
-      within = omega (arith, plain-within l);
-      plain = subst (λ (k : ℕ). Plain (take k l)) (sym run) (plain-taken l);
-      stop = λ k. sym (getD-drop at block n 0) ∙ plain-stop l (omega (arith, size));
-    }
+    sym (take-append-drop n l)
+    ∙ ap (λ (r : List ℕ). take n l ++ r) (drop-cons l n 0 h ∙ ap (λ (b : ℕ). b ∷ drop (suc n) l) (plain-stop l h))
 
-ends-rest : (block : List ℕ) (at end : ℕ) → at ≤ end → end ≤ length block → drop at block ≡ take (end - at) (drop at block) ++ drop end block
-ends-rest block at end h k =
-    let place : at + (end - at) ≡ end = omega arith in
-    sym (take-append-drop (end - at) (drop at block))
-    ∙ ap (λ (l : List ℕ). take (end - at) (drop at block) ++ l) (drop-drop (end - at) at block ∙ ap (λ (n : ℕ). drop n block) place)
-
-pub ends-line : {block : List ℕ} {at end : ℕ} → EndsAt block at end → end < length block → LineAt block at end (take (end - at) (drop at block))
-ends-line {block} {at} {end} e h = record {
-  cut =
-      ends-rest block at end (e .after) (e .within)
-      ∙ ap (λ (l : List ℕ). take (end - at) (drop at block) ++ l) (from-byte block end h ∙ ap (λ (b : ℕ). b ∷ drop (end + 1) block) (e .stop h));
-  plain = e .plain;
-  place = omega (arith, e .after, length-take-le (end - at) (drop at block) (omega (arith, length-drop at block)));
-  inside = h;
-}
-
-pub ends-begun : {block : List ℕ} {at end : ℕ} → EndsAt block at end → length block ≤ end → Plain (drop at block)
-ends-begun {block} {at} {end} e h = subst Plain (take-all (end - at) (drop at block) (omega (arith, length-drop at block))) (e .plain)
-
--- ---- a part of a buffer that was lent and comes back
-
-pub put-part : (out : List ℕ) (len : ℕ) (text ys : List ℕ) → len ≤ length out → length text ≤ length out - len → ys ≡ over text (take (length out - len) (drop len out))
-    → take len out ++ (ys ++ drop (length out - len) (drop len out)) ≡ sets out len text
-unfolding over
-put-part out len text ys h k e =
-    let size = length-drop len out in
-    ap (λ (l : List ℕ). take len out ++ (l ++ drop (length out - len) (drop len out))) e
-    ∙ ap (λ (l : List ℕ). take len out ++ ((text ++ drop (length text) l) ++ drop (length out - len) (drop len out))) (take-all (length out - len) (drop len out) (omega arith))
-    ∙ ap (λ (l : List ℕ). take len out ++ ((text ++ drop (length text) (drop len out)) ++ l)) (drop-of-length-le (drop len out) {i = length out - len} (omega arith))
-    ∙ ap (λ (l : List ℕ). take len out ++ l) (append-nil (text ++ drop (length text) (drop len out)) ∙ ap (λ (l : List ℕ). text ++ l) (drop-drop (length text) len out))
-    ∙ sym (append-assoc (take len out) text (drop (len + length text) out))
-    ∙ sym (sets-eq text out len (omega arith))
-
--- the part that is lent
-pub part-length : (out : List ℕ) (len : ℕ) → length (take (length out - len) (drop len out)) ≡ length out - len
-part-length out len = length-take-le (length out - len) (drop len out) (omega (arith, length-drop len out))
+-- or no line at all
+pub plain-begun : (l : List ℕ) → length l ≤ plainLength l → Plain l
+plain-begun l h = subst Plain (take-all (plainLength l) l h) (plain-taken l)
 
 -- ---- the bytes between two places
 
@@ -126,24 +67,48 @@ part-length out len = length-take-le (length out - len) (drop len out) (omega (a
 unfoldable pub partOf : ℕ → ℕ → List ℕ → List ℕ
 partOf from to bytes = take (to - from) (drop from bytes)
 
+-- which are those of the buffer's first bytes too
+pub part-held : (from to : ℕ) (l : List ℕ) → drop from (take to l) ≡ partOf from to l
+unfolding partOf
+part-held zero to l = let all : to - 0 ≡ to = omega arith in ap (λ (n : ℕ). take n l) (sym all)
+part-held (suc from) zero l = let none : 0 - suc from ≡ 0 = omega arith in ap (λ (n : ℕ). take n (drop (suc from) l)) (sym none)
+part-held (suc from) (suc to) [] = sym (take-nil (suc to - suc from))
+part-held (suc from) (suc to) (x ∷ xs) = let less : to - from ≡ suc to - suc from = omega arith in part-held from to xs ∙ ap (λ (n : ℕ). take n (drop from xs)) less
+
+-- no more bytes are taken than there are
+pub take-least : (n : ℕ) (l : List ℕ) → take (min n (length l)) l ≡ take n l
+take-least n l = go (leb n (length l)) refl
+  where
+    go : (t : Bool) → leb n (length l) ≡ t → take (min n (length l)) l ≡ take n l
+    go true e =
+        let fits = leb-true n (length l) e in
+        let m : min n (length l) ≡ n = omega arith in
+        ap (λ (j : ℕ). take j l) m
+    go false e =
+        let more = leb-false n (length l) e in
+        let m : min n (length l) ≡ length l = omega arith in
+        ap (λ (j : ℕ). take j l) m ∙ take-all (length l) l (omega arith) ∙ sym (take-all n l (omega arith))
+
+pub part-least : (from to : ℕ) (l : List ℕ) → partOf from (min to (length l)) l ≡ partOf from to l
+part-least from to l = sym (part-held from (min to (length l)) l) ∙ ap (drop from) (take-least to l) ∙ part-held from to l
+
 -- they stand at the buffer's start, the rest of it is as it was
 pub record Carries (from to : ℕ) (old new : List ℕ) (r : ℕ) : Type 0 where
   pub len : r ≡ length (partOf from to old)
   pub left : new ≡ over (partOf from to old) old
 
 -- two results that both meet the contract are equal
-pub end-determined : (block : List ℕ) (at : ℕ) {r s : ℕ} → r ≡ endOf block at → s ≡ endOf block at → r ≡ s
-end-determined block at p q = same p q
-
 pub carry-determined : {from to r s : ℕ} {old new new' : List ℕ} → Carries from to old new r → Carries from to old new' s → (r ≡ s) × (new ≡ new')
 carry-determined p q = (same (p .len) (q .len), same (p .left) (q .left))
 
--- what was written over a buffer that keeps its length is not longer
-pub over-fits : (text old new : List ℕ) → new ≡ over text old → length new ≡ length old → length text ≤ length old
+-- the bytes that were moved are the part, and no more than there are
+pub carry-part : {from to r : ℕ} {old new : List ℕ} → Carries from to old new r → take r new ≡ partOf from to old
 unfolding over
-over-fits text old new e k = omega (arith, ap length e, length-append text (drop (length text) old), length-drop (length text) old)
+carry-part {from} {to} {r} {old} {new} p = ap (take r) (p .left) ∙ take-at (partOf from to old) (drop (length (partOf from to old)) old) r (sym (p .len))
 
--- no more bytes are moved than lie between the two places
-pub carry-inside : {from to r : ℕ} {old new : List ℕ} → Carries from to old new r → r ≤ to - from
-unfolding partOf
-carry-inside {from} {to} {r} {old} p = omega (arith, p .len, length-take (to - from) (drop from old))
+pub carry-inside : {from to r : ℕ} {old new : List ℕ} → Carries from to old new r → (r ≤ length old) × (length new ≡ length old)
+unfolding partOf over
+carry-inside {from} {to} {r} {old} {new} p =
+    let part = take (to - from) (drop from old) in
+    let few : length part ≤ length old = omega (arith, length-take (to - from) (drop from old), length-drop from old) in
+    (omega (arith, p .len), ap length (p .left) ∙ omega (arith, length-append part (drop (length part) old), length-drop (length part) old))

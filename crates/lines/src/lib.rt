@@ -1,14 +1,34 @@
-// An input that comes in blocks: where a line ends, and the bytes that are carried over to the next block.
+// An input that comes in blocks: the next whole line of what is held, and the bytes that are carried over to the next block.
 ghost use mathlib.Core.Path.{_≡_};
+ghost use Prim.Native.Nat.{_≤_, min};
 ghost use Rattle.lines.specs.Places.{endOf, Carries};
+ghost use Rattle.lines.specs.Intake.{overlong, HoldsNothing, HandsOver};
+
+// What is carried from read to read: the bytes of the buffer from `at` to `have` are not done with; `long` says that the line that they go on is too long already.
+pub struct Intake {
+    pub at: usize,
+    pub have: usize,
+    pub long: bool,
+}
+
+// The next whole line, from one place of the buffer to another, or that more has to be read.
+pub enum Next {
+    Line { from: usize, to: usize },
+    More,
+}
+
+pub struct Taken {
+    pub intake: Intake,
+    pub next: Next,
+}
 
 // A line has at most so many bytes, its LF left out.
-pub const LONGEST: usize = 4095;
+const LONGEST: usize = 4095;
 
 const LF: u8 = 10;
 
 // The place of the first LF from `at` on, or that after the last byte.
-pub fn line_end(block: &[u8], at: usize) -> usize
+fn line_end(block: &[u8], at: usize) -> usize
     ensures { λ r. ⌜ r ≡ endOf (now (block .entry)) at ⌝ }
 {
     let mut i = at;
@@ -21,16 +41,88 @@ pub fn line_end(block: &[u8], at: usize) -> usize
     i
 }
 
+// The smaller of two.
+fn least(a: usize, b: usize) -> usize
+    ensures { λ r. ⌜ r ≡ min a b ⌝ }
+{
+    if a < b { a } else { b }
+}
+
+impl Intake {
+    // Nothing is held.
+    pub fn start() -> Intake
+        ensures { λ r. ⌜ HoldsNothing r ⌝ }
+    {
+        Intake {
+            at: 0,
+            have: 0,
+            long: false,
+        }
+    }
+
+    // Whether the line that goes on to `end` is too long.
+    fn overlong(self, end: usize) -> bool
+        requires { ⌜ self .at ≤ end ⌝ }
+        ensures { λ r. ⌜ r ≡ overlong self end ⌝ }
+    {
+        if self.long {
+            return true;
+        }
+        LONGEST < end - self.at
+    }
+
+    // The next whole line of what is held, or that more has to be read.
+    pub fn next_line(self, buffer: &[u8]) -> Taken
+        ensures { λ r. ⌜ HandsOver self (now (buffer .entry)) r ⌝ }
+    {
+        let have = least(self.have, buffer.len());
+        let end = line_end(&buffer[..have], self.at);
+        let over = self.overlong(end);
+        if have <= end {
+            if over {
+                return Taken {
+                    intake: Intake {
+                        at: end,
+                        have: self.have,
+                        long: true,
+                    },
+                    next: Next::More,
+                };
+            }
+            return Taken {
+                intake: self,
+                next: Next::More,
+            };
+        }
+        let intake = Intake {
+            at: end + 1,
+            have: self.have,
+            long: false,
+        };
+        if over {
+            return Taken {
+                intake,
+                next: Next::Line { from: end, to: end },
+            };
+        }
+        Taken {
+            intake,
+            next: Next::Line {
+                from: self.at,
+                to: end,
+            },
+        }
+    }
+}
+
 // Moves the bytes from one place to another to the start, and answers how many they are.
 pub fn carry(buffer: &mut [u8], from: usize, to: usize) -> usize
     ensures { λ r. ⌜ Carries from to (now (buffer .entry)) (now (buffer .exit)) r ⌝ }
 {
+    let end = least(to, buffer.len());
     let mut i = from;
     let mut n: usize = 0;
-    while i < to {
-        if buffer.len() <= i {
-            return n;
-        }
+    while i < end {
         buffer[n] = buffer[i];
         n += 1;
         i += 1;

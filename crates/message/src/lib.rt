@@ -5,13 +5,18 @@ ghost use lib.ListN.{length, replicate};
 ghost use lib.Seq.{sets};
 ghost use Rattle.paper.specs.Answer.{Hands};
 ghost use Rattle.frame.specs.Puts.{Puts};
-ghost use Rattle.message.specs.Message.{addressBytes, splitOf, buildOf};
-ghost use Rattle.message.specs.Says.{saysSplit, saysBuilt};
+ghost use Rattle.message.specs.Message.{serialOf, addressBytes, proper, framableOf};
+ghost use Rattle.message.specs.Says.{saysBuilt, Splits, Builds};
 
 // The address form: an address, or an extended address, which is a serial number.
 pub enum Form {
     Address(u8),
     Serial(u32),
+}
+
+impl Form {
+    // The greatest serial number: three bytes.
+    pub const SERIAL_MOST: u32 = 16777215;
 }
 
 // The parts of a body; its data stand from place `from` up to place `to`.
@@ -27,9 +32,10 @@ pub enum Split {
     R6,
 }
 
-// What building answers: the length of the body, or a refusal.
+// What building answers: the length of the body, or a refusal: a form that its bytes would not give back, which has no number in document 01, or R14.
 pub enum Built {
     Body(usize),
+    Improper,
     R14,
 }
 
@@ -39,9 +45,16 @@ pub struct Body {
     pub bytes: [u8; 254],
 }
 
+// The serial of three bytes.
+fn serial_of(low: u8, middle: u8, high: u8) -> u32
+    ensures { λ r. ⌜ r ≡ serialOf low middle high ⌝ }
+{
+    (low as u32) + 256 * (middle as u32) + 65536 * (high as u32)
+}
+
 // Splits a finished body into its parts.
 pub fn split_body(body: &[u8]) -> Split
-    ensures { λ r. ⌜ saysSplit r ≡ splitOf (now (body .entry)) ⌝ }
+    ensures { λ r. ⌜ Splits (now (body .entry)) r ⌝ }
 {
     if body.len() < 3 {
         return Split::R6;
@@ -57,7 +70,7 @@ pub fn split_body(body: &[u8]) -> Split
     if body.len() < 6 {
         return Split::R6;
     }
-    let serial = (body[1] as u32) + 256 * (body[2] as u32) + 65536 * (body[3] as u32);
+    let serial = serial_of(body[1], body[2], body[3]);
     Split::Parts(Parts {
         form: Form::Serial(serial),
         operation: body[4],
@@ -98,33 +111,53 @@ fn put_all(out: &mut [u8], at: usize, values: &[u8])
     }
 }
 
-// A body that cannot be framed.
-fn no_body() -> Body
-    ensures { λ r. ⌜ (r .built ≡ Built.R14) × (r .bytes ≡ replicate 254 0) ⌝ }
+// A refusal.
+fn no_body(built: Built) -> Body
+    ensures { λ r. ⌜ (r .built ≡ built) × (r .bytes ≡ replicate 254 0) ⌝ }
 {
     Body {
-        built: Built::R14,
+        built,
         bytes: [0u8; 254],
     }
 }
 
-// Builds a body of address, operation code and data, without its check.
-pub fn build_body(form: Form, operation: u8, values: &[u8]) -> Body
-    ensures { λ r. ⌜ Hands 254 (saysBuilt (r .built)) (buildOf form operation (now (values .entry))) (r .bytes) ⌝ }
+// Whether a form's bytes give it back.
+fn proper(form: Form) -> bool
+    ensures { λ r. ⌜ r ≡ proper form ⌝ }
+{
+    match form {
+        Form::Address(a) => a != 0,
+        Form::Serial(n) => n <= Form::SERIAL_MOST,
+    }
+}
+
+// Address, operation code and data as a body, if it can be framed.
+fn framable_body(form: Form, operation: u8, values: &[u8]) -> Body
+    ensures { λ r. ⌜ Hands 254 (saysBuilt (r .built)) (framableOf form operation (now (values .entry))) (r .bytes) ⌝ }
 {
     let mut bytes = [0u8; 254];
     let head = put_address(&mut bytes, form);
     if 253 - head < values.len() {
-        return no_body();
+        return no_body(Built::R14);
     }
     bytes[head] = operation;
     put_all(&mut bytes, head + 1, values);
     let n = head + 1 + values.len();
     if !frame::framable(&bytes[..n]) {
-        return no_body();
+        return no_body(Built::R14);
     }
     Body {
         built: Built::Body(n),
         bytes,
     }
+}
+
+// Builds a body of address, operation code and data, without its check.
+pub fn build_body(form: Form, operation: u8, values: &[u8]) -> Body
+    ensures { λ r. ⌜ Builds form operation (now (values .entry)) r ⌝ }
+{
+    if !proper(form) {
+        return no_body(Built::Improper);
+    }
+    framable_body(form, operation, values)
 }

@@ -1,68 +1,39 @@
 // From samples on standard input to a journal on standard output.
-use libc::STDIN_FILENO;
 use libc::STDOUT_FILENO;
-use recorder::Intake;
-ghost use Prim.Native.Nat.{_≤_};
-ghost use lib.ListN.{length};
+use lines::Intake;
+use recorder::Recorder;
 ghost use Rattle.recorder.specs.Recording.{Carries};
-ghost use Rattle.record.specs.Kept.{Left, Kept};
 
-// What is carried on behind a block, and how many of its bytes are done with.
-struct Done {
-    now: Intake,
-    used: usize,
-}
-
-// What is carried on behind a read, how many bytes are held at the buffer's start, and whether there may be more.
-struct Carried {
-    now: Intake,
-    held: usize,
+// What is carried on behind a turn, and whether there may be more.
+struct Turned {
+    state: Recorder,
+    intake: Intake,
     more: bool,
 }
 
-// Prints what the whole lines of a block add to the journal.
-fn note_block(r: Intake, block: &[u8], output: &mut [u8]) -> Done
-    requires { ⌜ Carries (r .recorder) × (64 ≤ length (now output)) ⌝ }
-    ensures { λ d. ⌜ Left (now (block .entry)) d ⌝ }
+// Notes what is held and prints what it adds; where no whole line is left, reads on.
+fn turn(state: Recorder, intake: Intake, input: &mut [u8], output: &mut [u8]) -> Turned
+    requires { ⌜ Carries state ⌝ }
+    ensures { λ t. ⌜ Carries (t .state) ⌝ }
 {
-    let mut now = r;
-    let mut used: usize = 0;
-    while used < block.len() {
-        let fed = recorder::feed(now, &block[used..], output);
-        let len = fed.len;
-        let more = fed.used;
-        now = fed.next;
-        io::write_all(STDOUT_FILENO, &output[..len]);
-        if more == 0 {
-            return Done { now, used };
-        }
-        used += more;
-    }
-    Done { now, used }
-}
-
-// Reads once behind what is held, and notes it.
-fn turn(r: Intake, held: usize, input: &mut [u8], output: &mut [u8]) -> Carried
-    requires { ⌜ Carries (r .recorder) × (held ≤ 4095) × (4096 ≤ length (now input)) × (64 ≤ length (now output)) ⌝ }
-    ensures { λ t. ⌜ Kept t ⌝ }
-{
-    let got = libc::read(STDIN_FILENO, &mut input[held..]);
-    let n = io::count(got, &input[held..]);
-    if n == 0 {
-        return Carried {
-            now: r,
-            held: 0,
-            more: false,
+    let fed = recorder::feed(state, intake, input, output);
+    let next = fed.next;
+    let left = fed.intake;
+    let len = fed.len;
+    io::write_all(STDOUT_FILENO, &output[..len]);
+    if output.len() - len < recorder::ENOUGH {
+        return Turned {
+            state: next,
+            intake: left,
+            more: true,
         };
     }
-    let have = held + n;
-    let done = note_block(r, &input[..have], output);
-    let now = done.now;
-    let held = lines::carry(input, done.used, have);
-    Carried {
-        now,
-        held,
-        more: true,
+    let refilled = refill::refill(left, input);
+    let held = refilled.intake;
+    Turned {
+        state: next,
+        intake: held,
+        more: refilled.more,
     }
 }
 
@@ -70,16 +41,16 @@ fn turn(r: Intake, held: usize, input: &mut [u8], output: &mut [u8]) -> Carried
 fn main() {
     let mut input = io::large_buffer();
     let mut output = io::large_buffer();
-    let mut now = Intake::start();
-    let mut held: usize = 0;
+    let mut state = Recorder::start();
+    let mut intake = Intake::start();
     let mut turns: u64 = 9223372036854775808;
     while 0 < turns {
-        let t = turn(now, held, &mut input, &mut output);
+        let t = turn(state, intake, &mut input, &mut output);
         if !t.more {
             return;
         }
-        now = t.now;
-        held = t.held;
+        state = t.state;
+        intake = t.intake;
         turns -= 1;
     }
 }

@@ -1,96 +1,115 @@
--- A line heard by how it was read. Assumes nothing.
-use mathlib.Core.Path.{_≡_, refl, sym, ap, _∙_, subst}
-use mathlib.Core.Bool.{false}
+-- What a line was, from the contracts of the reader and of what acts. Assumes nothing.
+use mathlib.Core.Path.{_≡_, refl, sym, ap, ap₂, _∙_}
 use mathlib.Core.List.{List, [], _∷_}
-use Prim.Native.Nat.{ℕ, _≤_, _<_}
-use native.Mathlib.Omega.{arith}
-use lib.Dec.{eqb}
-use lib.ListN.{length, getD, drop, replicate, length-replicate}
-use borrow.Author.Tests.{lt-ltb, le-ltb}
-use Rattle.laws.specs.Pick.{pick, pick-t, pick-f}
+use Prim.Native.Nat.{ℕ, _≤_}
+use types.Run.{OneOf, miss}
+use denote.Enum.Declared.{tagOf}
+use lib.ListN.{length}
 use Rattle.laws.specs.Over.{over}
-use Rattle.laws.specs.Decimal.{Parsed, bad}
-use Rattle.paper.specs.Answer.{Answer, done, refused, fault, told}
-use Rattle.controller.specs.Says.{noValue}
 use Rattle.controller.specs.declared.Controller.{Controller}
 use Rattle.controller.specs.declared.Fault.{Fault}
 use Rattle.controller.specs.declared.Fault.the-variants as F
 use Rattle.controller.specs.Tick.{saysFault}
-use Rattle.calls.specs.Call.{Call, callBy, atEnd, callOf}
-use Rattle.lines.specs.Lines.{tooLong}
-use Rattle.script.specs.Answer.{Step, onCall, answerTo, asked, asksTick}
-use Rattle.script.specs.Steps.{Answers, asideIn}
-use Rattle.script.specs.Aside.{other-letter, asked-call, by-call, aside-answers}
-use Rattle.script.specs.declared.Answered.{Answered}
-use Rattle.recorder.specs.Recording.{heardTick, heardRestart, heardOf, heardIn}
-use Rattle.recorder.specs.Noting.{HearsCall, Hears}
-use Rattle.recorder.specs.Aside.{questioned, line-aside}
-use Rattle.recorder.specs.declared.Hearing.{Hearing}
-use Rattle.recorder.specs.declared.Heard.{Heard}
-use Rattle.recorder.specs.declared.Heard.the-variants.{Ticked, Lost, Other}
-
-pub hears-as : (c : Controller) {p q : Parsed Call} {r : Hearing} → p ≡ q → HearsCall c q r → HearsCall c p r
-hears-as c {p} {q} {r} e h = subst (λ (x : Parsed Call). HearsCall c x r) (sym e) h
-
--- a line that is too long is no call
-pub hears-long : {c : Controller} {l : List ℕ} {r : Hearing} → 4095 < length l → HearsCall c bad r → Hears c l r
-unfolding answerTo heardIn tooLong heardOf
-hears-long {c} {l} {r} m h = record {
-  next = h .next ∙ sym (ap (λ (s : Step). s .next) (pick-t _ _ _ (lt-ltb 4095 (length l) m)));
-  heard = h .heard ∙ sym (pick-t _ _ _ (lt-ltb 4095 (length l) m));
-}
-
-pub hears-call : {c : Controller} {l : List ℕ} {p : Parsed Call} {r : Hearing} → length l ≤ 4095 → callOf l ≡ p → HearsCall c p r → Hears c l r
-unfolding answerTo heardIn tooLong
-hears-call {c} {l} {p} {r} m e h =
-    let k = hears-as c e h in
-    record {
-      next = k .next ∙ sym (ap (λ (s : Step). s .next) (pick-f _ _ _ (le-ltb 4095 (length l) m)));
-      heard = k .heard ∙ sym (pick-f _ _ _ (le-ltb 4095 (length l) m));
-    }
-
-pub no-letter : (l : List ℕ) → length l ≡ 0 → callOf l ≡ bad
-unfolding callOf
-no-letter [] h = refl
-no-letter (x ∷ xs) h = absurd (omega arith)
-
--- the call of a line by its letter
-pub by-letter : (l : List ℕ) (k : ℕ) {rule : Parsed Call} → 1 ≤ length l → getD l 0 0 ≡ k → callBy k (drop 1 l) ≡ rule → callOf l ≡ atEnd rule
-unfolding callOf
-by-letter [] k h e s = absurd (omega arith)
-by-letter (x ∷ xs) k h e s = ap (λ (n : ℕ). atEnd (callBy n xs)) e ∙ ap atEnd s
+use Rattle.series.specs.Events.{run}
+use Rattle.calls.specs.Call.{callOf}
+use Rattle.calls.specs.Reads.{asCall, Reads, read-call}
+use Rattle.calls.specs.declared.Call as read
+use Rattle.calls.specs.declared.Call.the-variants as C
+use Rattle.calls.proofs.Call.{the-type as call-type}
+use Rattle.acts.specs.Acts.{Ask, askBy, eventsIn, madeBy, saidTo, lent}
+use Rattle.acts.specs.Makes.{saysAct, Acts, lent-read}
+use Rattle.acts.specs.declared.Acted.{Acted}
+use Rattle.acts.specs.declared.Answer as acts
+use Rattle.acts.specs.declared.Answer.the-variants as A
+use Rattle.acts.proofs.Answer.{the-type as answer-type}
+use Rattle.clock.specs.Clock.{Note}
+use Rattle.recorder.specs.Recording.{heardTick, heardSaid, heardOf, noteBy, noteOf, boxBy, nextOf}
+use Rattle.clock.specs.Marking.{Writes}
+use Rattle.recorder.specs.Noting.{Hears, Notes}
+use Rattle.clock.specs.declared.Heard.{Heard}
+use Rattle.clock.specs.declared.Heard.the-variants.{Ticked, Lost, Other}
+use Rattle.clock.specs.declared.Stage.{Stage}
+use Rattle.clock.specs.declared.Clock.{Clock}
+use Rattle.clock.specs.declared.Marked.{Marked}
+use Rattle.recorder.specs.declared.Recorder.{Recorder}
 
 -- a tick in a fault is counted
 pub fault-heard : (f : Fault) → heardTick (saysFault f) ≡ Ticked
-unfolding saysFault heardTick
+unfolding heardTick saysFault
 fault-heard (F.F14 channel) = refl
 fault-heard F.F21 = refl
 
-pub restart-heard : (a : Answer Controller) → heardRestart (told noValue a) ≡ heardRestart a
-unfolding told heardRestart
-restart-heard (done c) = refl
-restart-heard (refused n vs) = refl
-restart-heard (fault n vs) = refl
+-- an answer that is neither a tick's nor a restart's
+pub other-answer : (a : acts.Answer) → OneOf (1 ∷ 2 ∷ 3 ∷ 4 ∷ 6 ∷ 7 ∷ []) (tagOf answer-type a) → Other ≡ heardSaid (saysAct a)
+unfolding heardSaid saysAct
+other-answer (A.Tick a) h = absurd (miss (1 ∷ 2 ∷ 3 ∷ 4 ∷ 6 ∷ 7 ∷ []) 0 tt h)
+other-answer A.Link h = refl
+other-answer (A.Set a) h = refl
+other-answer (A.Reset a) h = refl
+other-answer (A.Counters n) h = refl
+other-answer (A.Restart a) h = absurd (miss (1 ∷ 2 ∷ 3 ∷ 4 ∷ 6 ∷ 7 ∷ []) 5 tt h)
+other-answer (A.Request a) h = refl
+other-answer A.Aside h = refl
 
--- ---- a letter that is neither T nor N
+-- a call is heard by what it answers
+heard-call : (c : Controller) (bytes : List ℕ) (call : read.Call) → OneOf (0 ∷ 1 ∷ 2 ∷ 3 ∷ 4 ∷ 5 ∷ 6 ∷ 7 ∷ 8 ∷ 9 ∷ 10 ∷ 11 ∷ 12 ∷ 13 ∷ 14 ∷ []) (tagOf call-type call) → heardOf c (asCall bytes call) ≡ heardSaid (saidTo c (askBy (asCall bytes call)))
+unfolding heardOf askBy asCall
+heard-call c bytes (C.Tick x i) h = refl
+heard-call c bytes (C.Link on) h = refl
+heard-call c bytes (C.Settings set) h = refl
+heard-call c bytes C.Reset h = refl
+heard-call c bytes C.Counters h = refl
+heard-call c bytes (C.Restart set count total) h = refl
+heard-call c bytes (C.Request n room) h = refl
+heard-call c bytes (C.WriteFrame n room) h = refl
+heard-call c bytes (C.ReadFrame n) h = refl
+heard-call c bytes (C.WriteField v) h = refl
+heard-call c bytes (C.ReadField f) h = refl
+heard-call c bytes (C.WriteLine l room) h = refl
+heard-call c bytes (C.ReadLine n) h = refl
+heard-call c bytes (C.Hour n k) h = refl
+heard-call c bytes (C.Hours n room) h = refl
+heard-call c bytes C.Unknown h = absurd (miss (0 ∷ 1 ∷ 2 ∷ 3 ∷ 4 ∷ 5 ∷ 6 ∷ 7 ∷ 8 ∷ 9 ∷ 10 ∷ 11 ∷ 12 ∷ 13 ∷ 14 ∷ []) 15 tt h)
 
--- the first byte of a text that stands over zeros
-first-over : (text : List ℕ) → getD (over text (replicate 4096 0)) 0 0 ≡ getD text 0 0
-unfolding over
-first-over [] = refl
-first-over (b ∷ bs) = refl
+module _ (c : Controller) {l old new reply left : List ℕ} {call : read.Call} {r : Acted} (p : Reads l old new call) (room : 2048 ≤ length old) (short : length l ≤ 4095)
+    (enough : 64 ≤ length reply) (a : Acts c (lent (length reply) (askBy (asCall new call))) reply left r) where
+  is : asCall new call ≡ callOf l
+  is = read-call p room short
 
-pub other-hears : {c : Controller} (l : List ℕ) {old new : List ℕ} {a : Answered} {h : Heard} → length l ≤ 4095 → (getD l 0 0 ≡ 84 → ⊥) × (getD l 0 0 ≡ 78 → ⊥) → old ≡ replicate 4096 0
-    → Answers (asideIn (length old) c l) old new a → pick (eqb (getD new 0 0) 63) Lost Other ≡ h → HearsCall c (callOf l) (record { next = a .next; heard = h })
-unfolding questioned
-other-hears {c} l {old} {new} {a} {h} m o z w e =
-    let size : length old ≡ 4096 = ap length z ∙ length-replicate {A = ℕ} 4096 0 in
-    let none : asksTick (asked l) ≡ false = ap asksTick (asked-call l m) ∙ other-letter l (o .0) in
-    let step : asideIn (length old) c l ≡ onCall c (callOf l) = aside-answers (length old) c l (omega arith) none ∙ by-call c l m in
-    let text = onCall c (callOf l) .text in
-    let first : getD new 0 0 ≡ getD text 0 0 =
-    ap (λ (t : List ℕ). getD t 0 0) (w .left ∙ ap (λ (x : Step). over (x .text) old) step ∙ ap (over text) z) ∙ first-over text in
+  asks : lent (length reply) (askBy (asCall new call)) ≡ askBy (callOf l)
+  asks = lent-read (length reply) new call (p .within) enough ∙ ap askBy is
+
+  box : r .next ≡ madeBy c (callOf l)
+  unfolding madeBy
+  box = a .makes .next ∙ ap (λ (ask : Ask). run c (eventsIn ask)) asks
+
+  pub hears-lost : call ≡ C.Unknown → Hears c (callOf l) (record { next = r .next; heard = Lost })
+  unfolding asCall heardOf
+  hears-lost e = record { next = box; heard = ap (heardOf c) (sym (ap (asCall new) e) ∙ is) }
+
+  pub hears-call : {h : Heard} → OneOf (0 ∷ 1 ∷ 2 ∷ 3 ∷ 4 ∷ 5 ∷ 6 ∷ 7 ∷ 8 ∷ 9 ∷ 10 ∷ 11 ∷ 12 ∷ 13 ∷ 14 ∷ []) (tagOf call-type call) → h ≡ heardSaid (saysAct (r .answer)) → Hears c (callOf l) (record { next = r .next; heard = h })
+  hears-call k e =
+      record {
+        next = box;
+        heard =
+            e
+            ∙ ap heardSaid (a .makes .says ∙ ap (saidTo c) (asks ∙ ap askBy (sym is)))
+            ∙ sym (heard-call c new call k)
+            ∙ ap (heardOf c) is;
+      }
+
+-- ---- a line, by the stage
+
+pub notes-by : (s : Stage) (r : Recorder) (l : List ℕ) {c : Controller} {old new : List ℕ} {m : Marked} → r .clock .stage ≡ s → c ≡ boxBy s (r .controller) l → Writes (noteBy s r l) old new m
+    → Notes r l old new (record { next = record { controller = c; clock = m .next }; len = m .len })
+unfolding nextOf noteOf
+notes-by s r l {old = old} {m = m} e b w =
+    let same : noteBy s r l ≡ noteBy (r .clock .stage) r l = ap (λ (t : Stage). noteBy t r l) (sym e) in
     record {
-      next = w .next ∙ ap (λ (x : Step). x .next) step;
-      heard = sym e ∙ ap (λ (b : ℕ). pick (eqb b 63) Lost Other) first ∙ sym (line-aside l (o .0) (o .1) .heard c);
+      next =
+          ap₂ (λ (c : Controller) (k : Clock). record { controller = c; clock = k })
+          (b ∙ ap (λ (t : Stage). boxBy t (r .controller) l) (sym e))
+          (w .next ∙ ap (λ (n : Note). n .next) same);
+      left = w .left ∙ ap (λ (n : Note). over (n .text) old) same;
+      len = w .len ∙ ap (λ (n : Note). length (n .text)) same;
     }

@@ -1,6 +1,6 @@
 -- What a recording writes is readable: lines in range and in order, up to a refusal that ends it. Assumes nothing.
 use mathlib.Core.Path.{_≡_, refl, sym, ap, _∙_, subst}
-use mathlib.Core.Bool.{Bool, true, false}
+use mathlib.Core.Bool.{Bool, true, false, _&&_}
 use mathlib.Core.List.{List, [], _∷_, _++_, append-assoc, append-nil}
 use Prim.Native.Nat.{ℕ, suc, _+_, _≤_, _<_}
 use native.Mathlib.Nat.{add-zero}
@@ -21,18 +21,23 @@ use Rattle.journal.specs.LineLaws.{read-text, text-only}
 use Rattle.journal.specs.Journal.{hourIn, closes, noPast, ordered, journalOf, firstHour, journalText}
 use Rattle.journal.specs.JournalLaws.{Reads, none, more, Each, each-map, linesFrom, lines-bad, lines-good, journal-lines, journal-reads}
 use Rattle.journal.specs.Order.{Steps, ordered-journal}
-use Rattle.controller.specs.declared.Record.{Record}
-use Rattle.answers.specs.Text.{lineText, refusedText}
-use Rattle.script.specs.Answer.{answerTo}
-use Rattle.lines.specs.Lines as input
-use Rattle.lines.specs.Blocks.{saidTo}
-use Rattle.recorder.specs.Recording.{ticksAnHour, greatestHour, heardIn, Note, startOf, withBox, withStage, withHour, withTicks, withWhole, refuse, firstOf, doseIn, closing, nextHour, oneMore, counted, heardBy, recorded, noteBy, noteOf, notesOf, recordOf, Carries}
-use Rattle.recorder.specs.Noting.{Writable}
-use Rattle.recorder.specs.Keeps.{answer-sound, heard-writable, on-in-range, dose-in-range, start-carries, box-carries, note-carries, ticks-carries, next-carries, whole-carries}
-use Rattle.recorder.specs.declared.Heard.{Heard}
-use Rattle.recorder.specs.declared.Heard.the-variants.{Ticked, Dosed, Restarted, Lost, Other}
-use Rattle.recorder.specs.declared.Stage.{Stage}
-use Rattle.recorder.specs.declared.Stage.the-variants.{Recording, Over}
+use Rattle.controller.specs.declared.Controller.{Controller}
+use Rattle.counters.specs.declared.Record.{Record}
+use Rattle.controller.specs.Sound.{Sound}
+use Rattle.lines.specs.Lines.{linesOf}
+use Rattle.calls.specs.Call.{callOf}
+use Rattle.acts.specs.Acts.{madeBy}
+use Rattle.clock.specs.Clock.{ticksAnHour, greatestHour, Note, note, withStage, withHour, withTicks, withWhole, withKnown, refusalText, refuse, firstOf, doseIn, closing, nextHour, oneMore, counts, restartedBy, lostBy, heardBy, Runs}
+use Rattle.recorder.specs.Recording.{heardOf, noteBy, noteOf, boxBy, nextOf, startOf, notesOf, recordOf, Carries}
+use Rattle.clock.specs.Clock as clock
+use Rattle.clock.specs.Marking.{Writable}
+use Rattle.clock.specs.Keeps.{on-in-range, dose-in-range, ticks-runs, next-runs, restarted-runs, lost-runs}
+use Rattle.recorder.specs.Keeps.{made-sound, heard-writable, start-carries, note-carries}
+use Rattle.clock.specs.declared.Heard.{Heard}
+use Rattle.clock.specs.declared.Heard.the-variants.{Ticked, Dosed, Restarted, Lost, Other}
+use Rattle.clock.specs.declared.Stage.{Stage}
+use Rattle.clock.specs.declared.Stage.the-variants.{Recording, Over}
+use Rattle.clock.specs.declared.Clock.{Clock}
 use Rattle.recorder.specs.declared.Recorder.{Recorder}
 
 -- ---- the statement
@@ -40,8 +45,8 @@ use Rattle.recorder.specs.declared.Recorder.{Recorder}
 -- after the lines: nothing, or the one line of a refusal; R10 with line 1 only where there are none
 pub data Ends : List Line → List ℕ → Type 0 where
   ended : {ls : List Line} → Ends ls []
-  above : {ls : List Line} → Ends ls (refusedText R10 (0 ∷ []) [])
-  notFirst : Ends [] (refusedText R10 (1 ∷ []) [])
+  above : {ls : List Line} → Ends ls (refusalText 0)
+  notFirst : Ends [] (refusalText 1)
 
 -- lines in range, whose hours never go back, and after an H the next line's hour is greater
 pub record Readable (text : List ℕ) : Type 0 where
@@ -100,15 +105,21 @@ before {k} l r e f w = record {
 
 -- ---- what a line adds
 
-over-nothing : (r : Recorder) (ls : List (List ℕ)) → r .stage ≡ Over → notesOf r ls ≡ []
-unfolding saidTo noteOf noteBy
+-- a recorder with this box
+abbrev with : Controller → Clock → Recorder
+with c k = record { controller = c; clock = k }
+
+over-nothing : (r : Recorder) (ls : List (List ℕ)) → r .clock .stage ≡ Over → notesOf r ls ≡ []
+unfolding notesOf nextOf noteOf noteBy boxBy
 over-nothing r [] e = refl
-over-nothing r (l ∷ ls) e = ap (λ (n : Note). n .text ++ notesOf (n .next) ls) (ap (λ (s : Stage). noteBy s r l) e) ∙ over-nothing r ls e
+over-nothing r (l ∷ ls) e =
+    ap (λ (s : Stage). noteBy s r l .text ++ notesOf (with (boxBy s (r .controller) l) (noteBy s r l .next)) ls) e
+    ∙ over-nothing r ls e
 
 -- a refusal ends it
-refusal-ends : {h : ℕ} (n : ℕ) (r : Recorder) (ls : List (List ℕ)) → ((ms : List Line) → Ends ms (refusedText R10 (n ∷ []) [])) → Written h (refuse n r .text ++ notesOf (refuse n r .next) ls)
+refusal-ends : {h : ℕ} (c : Controller) (n : ℕ) (k : Clock) (ls : List (List ℕ)) → ((ms : List Line) → Ends ms (refusalText n)) → Written h (refuse n k .text ++ notesOf (with c (refuse n k .next)) ls)
 unfolding refuse withStage
-refusal-ends n r ls e = same-text (ap (λ (t : List ℕ). refusedText R10 (n ∷ []) [] ++ t) (over-nothing (withStage Over r) ls refl) ∙ append-nil (refusedText R10 (n ∷ []) [])) (no-lines e)
+refusal-ends c n k ls e = same-text (ap (λ (t : List ℕ). refusalText n ++ t) (over-nothing (with c (withStage Over k)) ls refl) ∙ append-nil (refusalText n)) (no-lines e)
 
 -- a D line of an hour
 record DoseOf (h : ℕ) (l : Line) : Type 0 where
@@ -126,102 +137,97 @@ before-doses {h} {text} (d ∷ ds) e w =
     (before {k = h} d (o .range) (omega (arith, o .hour)) (λ c. false-true (sym (o .unclosed) ∙ c)) (before-doses ds (e .1) w)))
 
 -- the H line of an hour, before the lines of those that follow
-before-closing : {text : List ℕ} (r : Recorder) → r .hour ≤ greatestHour → Written (r .hour + 1) text → Written (r .hour) (journalText (closing r) ++ text)
+before-closing : {text : List ℕ} (k : Clock) → k .hour ≤ greatestHour → Written (k .hour + 1) text → Written (k .hour) (journalText (closing k) ++ text)
 unfolding closing journalText hourIn pick
-before-closing {text} r h w = go (r .whole)
+before-closing {text} k h w = go (k .whole && k .known)
   where
-    go : (b : Bool) → Written (r .hour) (journalText (pick b (On (r .hour) ∷ []) []) ++ text)
+    go : (b : Bool) → Written (k .hour) (journalText (pick b (On (k .hour) ∷ []) []) ++ text)
     go true =
-        same-text (ap (λ (t : List ℕ). t ++ text) (append-nil (textOf (On (r .hour)))))
-        (before {k = r .hour + 1} (On (r .hour)) (on-in-range (r .hour) h) (omega arith) (λ c. omega arith) w)
-    go false = later {k = r .hour + 1} (omega arith) w
+        same-text (ap (λ (t : List ℕ). t ++ text) (append-nil (textOf (On (k .hour)))))
+        (before {k = k .hour + 1} (On (k .hour)) (on-in-range (k .hour) h) (omega arith) (λ c. omega arith) w)
+    go false = later {k = k .hour + 1} (omega arith) w
 
-pub journal-append : (a b : List Line) → journalText (a ++ b) ≡ journalText a ++ journalText b
+journal-append : (a b : List Line) → journalText (a ++ b) ≡ journalText a ++ journalText b
 unfolding journalText
 journal-append [] b = refl
 journal-append (l ∷ ls) b = ap (λ (t : List ℕ). textOf l ++ t) (journal-append ls b) ∙ sym (append-assoc (textOf l) (journalText ls) (journalText b))
 
 -- what the lines that follow add, from every recorder that they can meet
 abbrev Following : List (List ℕ) → Type 0
-Following ls = (q : Recorder) → q .stage ≡ Recording → Carries q → Written (q .hour) (notesOf q ls)
+Following ls = (q : Recorder) → q .clock .stage ≡ Recording → Carries q → Written (q .clock .hour) (notesOf q ls)
 
-more-written : (r : Recorder) (ds : List Line) (ls : List (List ℕ)) → r .stage ≡ Recording → Carries r → r .hour ≤ greatestHour → Each (DoseOf (r .hour)) ds → Following ls
-    → Written (r .hour) (oneMore r ds .text ++ notesOf (oneMore r ds .next) ls)
-unfolding oneMore nextHour withHour withTicks withWhole
-more-written r ds ls s k h o rest =
-    pick-if (λ (n : Note). Written (r .hour) (n .text ++ notesOf (n .next) ls)) (eqb (r .ticks + 1) ticksAnHour)
-    (λ e.
-    same-text (ap (λ (t : List ℕ). t ++ notesOf (nextHour r) ls) (journal-append ds (closing r)) ∙ append-assoc (journalText ds) (journalText (closing r)) (notesOf (nextHour r) ls))
-    (before-doses ds o (before-closing r h (following (next-carries r k h)))))
-    (λ e. before-doses ds o (one-tick (ticks-carries r k e)))
+counts-written : (c : Controller) (k : Clock) (ds : List Line) (ls : List (List ℕ)) → k .stage ≡ Recording → Sound c → Runs k → (k .hour ≤ greatestHour → Each (DoseOf (k .hour)) ds) → Following ls
+    → Written (k .hour) (counts k ds .text ++ notesOf (with c (counts k ds .next)) ls)
+unfolding counts oneMore nextHour withHour withTicks withWhole
+counts-written c k ds ls s a m o rest =
+    pick-if Adds (ltb greatestHour (k .hour))
+    (λ e. refusal-ends c 0 k ls (λ ms. above))
+    (λ e. let h = ltb-false greatestHour (k .hour) e in pick-if Adds (eqb (k .ticks + 1) ticksAnHour) (λ f. closed h) (λ f. before-doses ds (o h) (more (ticks-runs k m f))))
   where
-    following : Carries (nextHour r) → Written (r .hour + 1) (notesOf (nextHour r) ls)
-    following c = rest (nextHour r) s c
+    Adds : Note → Type 0
+    Adds n = Written (k .hour) (n .text ++ notesOf (with c (n .next)) ls)
 
-    one-tick : Carries (withTicks (r .ticks + 1) r) → Written (r .hour) (notesOf (withTicks (r .ticks + 1) r) ls)
-    one-tick c = rest (withTicks (r .ticks + 1) r) s c
+    more : Runs (withTicks (k .ticks + 1) k) → Written (k .hour) (notesOf (with c (withTicks (k .ticks + 1) k)) ls)
+    more t = rest (with c (withTicks (k .ticks + 1) k)) s (record { sound = a; runs = t })
 
-counted-written : (r : Recorder) (ds : List Line) (ls : List (List ℕ)) → r .stage ≡ Recording → Carries r → (r .hour ≤ greatestHour → Each (DoseOf (r .hour)) ds) → Following ls
-    → Written (r .hour) (counted r ds .text ++ notesOf (counted r ds .next) ls)
-unfolding counted
-counted-written r ds ls s k o rest =
-    pick-if (λ (n : Note). Written (r .hour) (n .text ++ notesOf (n .next) ls)) (ltb greatestHour (r .hour))
-    (λ e. refusal-ends 0 r ls (λ ms. above))
-    (λ e. let h = ltb-false greatestHour (r .hour) e in more-written r ds ls s k h (o h) rest)
+    closed : k .hour ≤ greatestHour → Adds (note (nextHour k) (journalText (ds ++ closing k)))
+    closed h =
+        let following : Written (k .hour + 1) (notesOf (with c (nextHour k)) ls) = rest (with c (nextHour k)) s (record { sound = a; runs = next-runs k h }) in
+        same-text (ap (λ (t : List ℕ). t ++ notesOf (with c (nextHour k)) ls) (journal-append ds (closing k)) ∙ append-assoc (journalText ds) (journalText (closing k)) (notesOf (with c (nextHour k)) ls))
+        (before-doses ds (o h) (before-closing k h following))
 
-dose-of : (h : ℕ) (d : Record) → h ≤ greatestHour → Writable (Dosed d) → Each (DoseOf h) (doseIn h d)
+dose-of : (h : ℕ) (d : Record) → h ≤ greatestHour → Writable (Dosed d) → Each (DoseOf h) (doseIn h d ∷ [])
 unfolding doseIn hourIn closes
 dose-of h d m k = (record { range = dose-in-range h d m k; hour = refl; unclosed = refl }, tt)
 
-heard-written : (r : Recorder) (h : Heard) (ls : List (List ℕ)) → r .stage ≡ Recording → Carries r → Writable h → Following ls
-    → Written (r .hour) (heardBy r h .text ++ notesOf (heardBy r h .next) ls)
-unfolding heardBy withWhole
-heard-written r Ticked ls s k w rest = counted-written r [] ls s k (λ h. tt) rest
-heard-written r (Dosed d) ls s k w rest = counted-written r (doseIn (r .hour) d) ls s k (λ h. dose-of (r .hour) d h w) rest
-heard-written r Restarted ls s k w rest = rest _ s (whole-carries _ r k)
-heard-written r Lost ls s k w rest = rest _ s (whole-carries false r k)
-heard-written r Other ls s k w rest = rest r s k
+heard-written : (c : Controller) (k : Clock) (h : Heard) (ls : List (List ℕ)) → k .stage ≡ Recording → Sound c → Runs k → Writable h → Following ls
+    → Written (k .hour) (heardBy k h .text ++ notesOf (with c (heardBy k h .next)) ls)
+unfolding heardBy restartedBy lostBy withKnown withWhole
+heard-written c k Ticked ls s a m w rest = counts-written c k [] ls s a m (λ h. tt) rest
+heard-written c k (Dosed d) ls s a m w rest = counts-written c k (doseIn (k .hour) d ∷ []) ls s a m (λ h. dose-of (k .hour) d h w) rest
+heard-written c k Restarted ls s a m w rest = rest _ s (record { sound = a; runs = restarted-runs k m })
+heard-written c k Lost ls s a m w rest = rest _ s (record { sound = a; runs = lost-runs k m })
+heard-written c k Other ls s a m w rest = rest _ s (record { sound = a; runs = m })
 
 recording-written : (ls : List (List ℕ)) → Following ls
-unfolding saidTo noteOf noteBy recorded withBox
-recording-written [] q s k = no-lines (λ ms. ended)
-recording-written (l ∷ ls) q s k =
+unfolding notesOf nextOf noteOf noteBy boxBy
+recording-written [] = λ q s k. no-lines (λ ms. ended)
+recording-written (l ∷ ls) = λ q s k.
     let c = q .controller in
-    let a = answerTo c l .next in
-    same-text (ap (λ (n : Note). n .text ++ notesOf (n .next) ls) (ap (λ (t : Stage). noteBy t q l) s))
-    (heard-written (withBox a q) (heardIn c l) ls s (box-carries a q (answer-sound c l (k .sound)) k) (heard-writable c l (k .sound)) (recording-written ls))
+    same-text (ap (λ (t : Stage). noteBy t q l .text ++ notesOf (with (boxBy t c l) (noteBy t q l .next)) ls) s)
+    (heard-written (madeBy c (callOf l)) (q .clock) (heardOf c (callOf l)) ls s (made-sound c (callOf l) (k .sound)) (k .runs) (heard-writable c (callOf l) (k .sound)) (recording-written ls))
 
 -- ---- a whole input
 
 readable : {h : ℕ} {text : List ℕ} → Written h text → Readable text
 readable w = record { lines = w .lines; rest = w .rest; is = w .is; ends = w .ends (w .lines); range = w .range; steps = w .steps }
 
-not-first : (r : Recorder) (ls : List (List ℕ)) → Readable (refuse 1 r .text ++ notesOf (refuse 1 r .next) ls)
+not-first : (c : Controller) (k : Clock) (ls : List (List ℕ)) → Readable (refuse 1 k .text ++ notesOf (with c (refuse 1 k .next)) ls)
 unfolding refuse withStage journalText
-not-first r ls = record {
+not-first c k ls = record {
   lines = [];
-  rest = refusedText R10 (1 ∷ []) [];
-  is = ap (λ (t : List ℕ). refusedText R10 (1 ∷ []) [] ++ t) (over-nothing (withStage Over r) ls refl) ∙ append-nil (refusedText R10 (1 ∷ []) []);
+  rest = refusalText 1;
+  is = ap (λ (t : List ℕ). refusalText 1 ++ t) (over-nothing (with c (withStage Over k)) ls refl) ∙ append-nil (refusalText 1);
   ends = notFirst;
   range = tt;
   steps = tt;
 }
 
-first-readable : (r : Recorder) (p : Parsed ℕ) (ls : List (List ℕ)) → Carries (firstOf r p .next) → Readable (firstOf r p .text ++ notesOf (firstOf r p .next) ls)
+first-readable : (c : Controller) (k : Clock) (p : Parsed ℕ) (ls : List (List ℕ)) → Carries (with c (firstOf k p .next)) → Readable (firstOf k p .text ++ notesOf (with c (firstOf k p .next)) ls)
 unfolding firstOf withStage
-first-readable r (good h []) ls k = readable (recording-written ls (withStage Recording (withHour h r)) refl k)
-first-readable r (good h (b ∷ bs)) ls k = not-first r ls
-first-readable r bad ls k = not-first r ls
+first-readable c k (good h []) ls s = readable (recording-written ls (with c (withStage Recording (withHour h k))) refl s)
+first-readable c k (good h (b ∷ bs)) ls s = not-first c k ls
+first-readable c k bad ls s = not-first c k ls
 
 lines-readable : (ls : List (List ℕ)) → Readable (notesOf startOf ls)
-unfolding saidTo noteOf noteBy startOf
+unfolding notesOf nextOf noteOf noteBy boxBy startOf clock.startOf
 lines-readable [] = readable {h = 0} (no-lines (λ ms. ended))
-lines-readable (l ∷ ls) = first-readable startOf (numberAt greatestHour l) ls (note-carries startOf l start-carries)
+lines-readable (l ∷ ls) = first-readable (startOf .controller) (startOf .clock) (numberAt greatestHour l) ls (note-carries startOf l start-carries)
 
 -- what `record` writes, for every input
 pub record-readable : (bytes : List ℕ) → Readable (recordOf bytes)
 unfolding recordOf
-record-readable bytes = lines-readable (input.linesFrom [] bytes)
+record-readable bytes = lines-readable (linesOf [] bytes)
 
 -- ---- the journal is read as those lines, or refused at the line of the refusal
 
@@ -248,15 +254,15 @@ after-lines {p} {s} n tail h e (more {rest = rest} {l = l} {ls = ls} q k r) =
     ∙ ap (told (λ (ms : List Line). l ∷ ms)) (after-lines (suc n) tail h e r)
     ∙ ap (λ (i : ℕ). refused R10 (i ∷ [])) place
 
-refusal-unread : (n : ℕ) → (lineOf (refusedText R10 (n ∷ []) []) ≡ bad) × (0 < length (refusedText R10 (n ∷ []) []))
-unfolding refusedText lineText lineOf pick
+refusal-unread : (n : ℕ) → (lineOf (refusalText n) ≡ bad) × (0 < length (refusalText n))
+unfolding refusalText lineOf pick
 refusal-unread n = (refl, omega arith)
 
-pub readable-refused : {text : List ℕ} (r : Readable text) (n : ℕ) → r .rest ≡ refusedText R10 (n ∷ []) [] → Near (r .lines) → length text ≤ 65536
+pub readable-refused : {text : List ℕ} (r : Readable text) (n : ℕ) → r .rest ≡ refusalText n → Near (r .lines) → length text ≤ 65536
     → journalOf text ≡ refused R10 ((1 + length (r .lines)) ∷ [])
 readable-refused {text} r n e near h =
     let ls = r .lines in
-    let tail = refusedText R10 (n ∷ []) [] in
+    let tail = refusalText n in
     let is : text ≡ journalText ls ++ tail = r .is ∙ ap (λ (t : List ℕ). journalText ls ++ t) e in
     let size : length (journalText ls) ≤ 65536 = omega (arith, ap length is, length-append (journalText ls) tail) in
     let read = journal-reads (journalText ls) ls (ordered-journal ls (record { steps = r .steps; near = near }) (r .range) size) in

@@ -1,85 +1,178 @@
 // Every call of the box from standard input, one answer to a line.
-use libc::STDIN_FILENO;
+mod answers;
+mod aside;
+mod hours;
+mod put;
+
+use acts::Acted;
+use acts::Answer;
+use calls::Call;
+use controller::Controller;
+use controller::RequestAnswer;
 use libc::STDOUT_FILENO;
-use replayer::Replay;
+use lines::Intake;
+use lines::Next;
 ghost use Prim.Native.Nat.{_≤_};
 ghost use lib.ListN.{length};
 ghost use Rattle.controller.specs.Sound.{Sound};
-ghost use Rattle.replay.specs.Kept.{Left, Kept};
+ghost use Rattle.calls.specs.Reads.{asCall, Within};
+ghost use Rattle.replay.specs.Answers.{Made, Carries};
 
-// What is carried on behind a block, and how many of its bytes are done with.
-struct Done {
-    now: Replay,
-    used: usize,
-}
-
-// What is carried on behind a read, how many bytes are held at the buffer's start, and whether there may be more.
+// What is carried on behind the whole lines of a buffer.
 struct Carried {
-    now: Replay,
-    held: usize,
-    more: bool,
+    controller: Controller,
+    intake: Intake,
 }
 
-// Prints the answers to the whole lines of a block.
-fn answer_block(r: Replay, block: &[u8], output: &mut [u8]) -> Done
-    requires { ⌜ Sound (r .controller) × (4096 ≤ length (now output)) ⌝ }
-    ensures { λ d. ⌜ Left (now (block .entry)) d ⌝ }
-{
-    let mut now = r;
-    let mut used: usize = 0;
-    while used < block.len() {
-        let fed = replayer::feed(now, &block[used..], output);
-        let len = fed.len;
-        let more = fed.used;
-        now = fed.next;
-        io::write_all(STDOUT_FILENO, &output[..len]);
-        if more == 0 {
-            return Done { now, used };
-        }
-        used += more;
+// So many bytes hold every answer.
+const ENOUGH: usize = 4096;
+
+// How many bytes a call carries.
+fn size_of(call: Call) -> usize {
+    match call {
+        Call::Request(n, _) => n,
+        Call::WriteFrame(n, _) => n,
+        Call::ReadFrame(n) => n,
+        Call::ReadLine(n) => n,
+        Call::Hour(n, _) => n,
+        Call::Hours(n, _) => n,
+        _ => 0,
     }
-    Done { now, used }
 }
 
-// Reads once behind what is held, and answers it.
-fn turn(r: Replay, held: usize, input: &mut [u8], output: &mut [u8]) -> Carried
-    requires { ⌜ Sound (r .controller) × (held ≤ 4095) × (4096 ≤ length (now input)) × (4096 ≤ length (now output)) ⌝ }
-    ensures { λ t. ⌜ Kept t ⌝ }
+// The room of the buffer that a call asks for.
+fn room_of(call: Call) -> usize {
+    match call {
+        Call::Request(_, room) => room,
+        Call::WriteFrame(_, room) => room,
+        Call::WriteLine(_, room) => room,
+        Call::Hours(_, room) => room,
+        _ => 0,
+    }
+}
+
+// The buffer that a request is lent, each byte A5.
+fn lend(call: Call, spare: &mut [u8]) {
+    if let Call::Request(_, room) = call {
+        let n = put::within(room, spare);
+        put::blank(&mut spare[..n]);
+    }
+}
+
+// What a call makes of the controller, and the box's answer.
+fn made(c: Controller, call: Call, bytes: &[u8], spare: &mut [u8]) -> Acted
+    requires sound { ⌜ Sound c ⌝ }
+    requires room { ⌜ Within call × (64 ≤ length (now spare)) ⌝ }
+    ensures { λ r. ⌜ Made c (asCall (now (bytes .entry)) call) r ⌝ }
 {
-    let got = libc::read(STDIN_FILENO, &mut input[held..]);
-    let n = io::count(got, &input[held..]);
-    if n == 0 {
-        return Carried {
-            now: r,
-            held: 0,
-            more: false,
+    lend(call, spare);
+    acts::act(c, call, bytes, spare)
+}
+
+// The reply to a request, with the buffer that it was lent.
+fn put_reply(out: &mut [u8], call: Call, replied: RequestAnswer, spare: &[u8]) -> usize {
+    let room = put::within(room_of(call), spare);
+    answers::reply(out, replied, &spare[..room])
+}
+
+// The answer of a writer or reader, on the bytes of its call and with a buffer of its room.
+fn put_aside(out: &mut [u8], call: Call, bytes: &[u8], spare: &mut [u8]) -> usize {
+    let size = put::within(size_of(call), bytes);
+    let room = put::within(room_of(call), spare);
+    aside::answer(out, call, &bytes[..size], &mut spare[..room])
+}
+
+// The answer to a call.
+fn put_answer(out: &mut [u8], call: Call, said: Answer, bytes: &[u8], spare: &mut [u8]) -> usize {
+    if let Answer::Aside = said {
+        return put_aside(out, call, bytes, spare);
+    }
+    if let Answer::Request(replied) = said {
+        return put_reply(out, call, replied, spare);
+    }
+    answers::answer(out, said)
+}
+
+// The answer, and how many bytes of the buffer it has.
+fn say(out: &mut [u8], call: Call, said: Answer, bytes: &[u8], spare: &mut [u8]) -> usize
+    ensures { λ r. ⌜ r ≤ length (now (out .exit)) ⌝ }
+{
+    let len = put_answer(out, call, said, bytes, spare);
+    put::within(len, out)
+}
+
+// Writes the answers out.
+fn write_out(out: &[u8], len: usize) {
+    let n = put::within(len, out);
+    io::write_all(STDOUT_FILENO, &out[..n]);
+}
+
+// Writes the answers out where there is no room for one more, and answers how many bytes still stand there.
+fn with_room(out: &[u8], len: usize) -> usize
+    requires { ⌜ len ≤ length (now out) ⌝ }
+    ensures { λ r. ⌜ r ≤ length (now (out .entry)) ⌝ }
+{
+    if out.len() - len < ENOUGH {
+        write_out(out, len);
+        return 0;
+    }
+    len
+}
+
+// Answers the whole lines of what is held.
+fn answer_lines(
+    old: Controller,
+    intake: Intake,
+    input: &[u8],
+    bytes: &mut [u8],
+    spare: &mut [u8],
+    out: &mut [u8],
+) -> Carried
+    requires sound { ⌜ Sound old ⌝ }
+    requires room { ⌜ (2048 ≤ length (now bytes)) × (64 ≤ length (now spare)) ⌝ }
+    ensures { λ r. ⌜ Carries old intake (now (input .entry)) r ⌝ }
+{
+    let mut c = old;
+    let mut held = intake;
+    let mut len: usize = 0;
+    loop {
+        let taken = held.next_line(input);
+        let next = taken.next;
+        held = taken.intake;
+        let Next::Line { from, to } = next else {
+            write_out(out, len);
+            return Carried {
+                controller: c,
+                intake: held,
+            };
         };
-    }
-    let have = held + n;
-    let done = answer_block(r, &input[..have], output);
-    let now = done.now;
-    let held = lines::carry(input, done.used, have);
-    Carried {
-        now,
-        held,
-        more: true,
+        len = with_room(out, len);
+        let call = calls::read(&input[from..to], bytes);
+        let acted = made(c, call, bytes, spare);
+        let said = acted.answer;
+        c = acted.next;
+        len += say(&mut out[len..], call, said, bytes, spare);
     }
 }
 
-// Reads to the end of the input; the turns are counted down from a number that no input uses up.
+// Reads to the end of the input; the reads are counted down from a number that no input uses up.
 fn main() {
     let mut input = io::large_buffer();
     let mut output = io::large_buffer();
-    let mut now = Replay::start();
-    let mut held: usize = 0;
-    let mut turns: u64 = 9223372036854775808;
-    while 0 < turns {
-        let t = turn(now, held, &mut input, &mut output);
-        if !t.more {
+    let mut bytes = io::buffer();
+    let mut spare = io::buffer();
+    let mut c = Controller::fresh();
+    let mut held = Intake::start();
+    let mut reads: u64 = 9223372036854775808;
+    while 0 < reads {
+        let refilled = refill::refill(held, &mut input);
+        if !refilled.more {
             return;
         }
-        now = t.now;
-        held = t.held;
-        turns -= 1;
+        let intake = refilled.intake;
+        let carried = answer_lines(c, intake, &input, &mut bytes, &mut spare, &mut output);
+        c = carried.controller;
+        held = carried.intake;
+        reads -= 1;
     }
 }

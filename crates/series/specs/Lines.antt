@@ -7,7 +7,7 @@ use native.Mathlib.Omega.{arith}
 use lib.Dec.{eqb}
 use lib.ListN.{length}
 use borrow.Author.Tests.{le-leb}
-use Rattle.laws.specs.Pick.{pick, pick-all, pick-map}
+use Rattle.laws.specs.Pick.{pick, pick-map}
 use Rattle.paper.specs.Answer.{Answer, done, told, onDone, inRoom}
 use Rattle.journal.specs.declared.Line.{Line}
 use Rattle.journal.specs.declared.Line.the-variants.{Dose, On}
@@ -15,14 +15,12 @@ use Rattle.journal.specs.Line.{mostOfD, mostOfH, within, inRange}
 use Rattle.journal.specs.Journal.{hourIn, journalOf, journalText}
 use Rattle.journal.specs.JournalLaws.{Each}
 use Rattle.journal.specs.Order.{Ordered, ordered-journal}
-use Rattle.hourly.specs.declared.Hour.{Hour}
-use Rattle.hourly.specs.declared.Hour.the-variants.{Missing}
-use Rattle.hourly.specs.Hours.{doseAt, amountsAt, hasOn, measuredOrIdle, hourOf, askOf}
+use Rattle.hourly.specs.Hours.{HourAnswer, missing, doseAt, amountsAt, hasOn, measuredOrIdle, hourOf, askOf}
 use Rattle.hourly.specs.Text.{hoursText, rowFrom, rowOf, printOf}
-use Rattle.controller.specs.declared.Record.{Record}
+use Rattle.counters.specs.declared.Record.{Record}
 use Rattle.controller.specs.declared.Controller.{Controller}
 use Rattle.controller.specs.Sound.{Sound}
-use Rattle.controller.specs.Promises.{AllRecordable}
+use Rattle.counters.specs.Laws.{AllRecordable}
 use Rattle.series.specs.Events.{Event, records}
 use Rattle.series.specs.Records.{records-recordable}
 
@@ -38,7 +36,7 @@ doseOf s = s .dose
 
 -- `D` hour, count, amount, settled: 1 if Settle ended stable else 0
 unfoldable pub lineFor : Stamped → Line
-lineFor s = Dose (s .hour) (s .dose .count) (s .dose .amount) (pick (s .dose .settled) 1 0)
+lineFor s = Dose (s .hour) (s .dose .count) (s .dose .amount) (s .dose .settled)
 
 unfoldable pub doseLines : List Line → List Line
 doseLines [] = []
@@ -55,11 +53,9 @@ pub record JournalOf (c : Controller) (es : List Event) (stamps : List Stamped) 
 
 -- ---- it is read as exactly its lines
 
-stamped-range : (s : Stamped) → s .hour ≤ 9999999 → s .dose .count ≤ 999999 → s .dose .amount ≤ 1800000 → inRange (lineFor s) ≡ true
+stamped-range : (s : Stamped) → s .hour ≤ 9999999 → s .dose .count ≤ 999999 → s .dose .amount ≤ 1800000 → s .dose .settled ≤ 1 → inRange (lineFor s) ≡ true
 unfolding lineFor inRange within mostOfD
-stamped-range s h c a =
-    let f : pick (s .dose .settled) 1 0 ≤ 1 = pick-all (λ (n : ℕ). n ≤ 1) (s .dose .settled) (omega arith) (omega arith) in
-    rw (le-leb _ _ h, le-leb _ _ c, le-leb _ _ a, le-leb _ _ f)
+stamped-range s h c a f = rw (le-leb _ _ h, le-leb _ _ c, le-leb _ _ a, le-leb _ _ f)
 
 on-range : (h : ℕ) → h ≤ 9999999 → inRange (On h) ≡ true
 unfolding inRange within mostOfH
@@ -73,7 +69,7 @@ lines-range (Dose x c a s ∷ ls) [] e r h = let z : _≡_ {A = ℕ} 0 1 = cc in
 lines-range (Dose x c a s ∷ ls) (t ∷ ts) e r h =
     let same : Dose x c a s ≡ lineFor t = cc in
     let hour : x ≡ t .hour = ap hourIn same in
-    (rw same (stamped-range t (omega arith) (r .0 .count) (r .0 .amount)), lines-range ls ts (cc) (r .1) (h .1))
+    (rw same (stamped-range t (omega arith) (r .0 .count) (r .0 .amount) (r .0 .settled)), lines-range ls ts (cc) (r .1) (h .1))
 
 pub lines-read : (c : Controller) (es : List Event) (stamps : List Stamped) (ls : List Line) → Sound c → JournalOf c es stamps ls → journalOf (journalText ls) ≡ done ls
 lines-read c es stamps ls s j =
@@ -105,8 +101,8 @@ stamped-amounts h (s ∷ more) =
     ∙ sym (map-append (λ (r : Record). r .amount) (pick (eqb (s .hour) h) (s .dose ∷ []) []) (completedIn h more))
 
 -- an hour by whether it has an H, and by the doses completed in it
-unfoldable pub hourWith : Bool → List Record → Hour
-hourWith on rs = pick on (measuredOrIdle (amountsOf rs)) Missing
+unfoldable pub hourWith : Bool → List Record → HourAnswer
+hourWith on rs = pick on (measuredOrIdle (amountsOf rs)) missing
 
 module _ (c : Controller) (es : List Event) (stamps : List Stamped) (ls : List Line) (j : JournalOf c es stamps ls) where
   -- the amounts of an hour are those of the doses completed in it: so its number of doses and its sum are theirs
@@ -115,7 +111,7 @@ module _ (c : Controller) (es : List Event) (stamps : List Stamped) (ls : List L
 
   hour-kind : (h : ℕ) → hourOf ls h ≡ hourWith (hasOn h ls) (completedIn h stamps)
   unfolding hourOf hourWith
-  hour-kind h = ap (λ (l : List ℕ). pick (hasOn h ls) (measuredOrIdle l) Missing) (hour-amounts h)
+  hour-kind h = ap (λ (l : List ℕ). pick (hasOn h ls) (measuredOrIdle l) missing) (hour-amounts h)
 
   -- and so are its kind, its figures and its row in print
   pub hour-answer : Sound c → (h : ℕ) → askOf (journalText ls) h ≡ done (hourWith (hasOn h ls) (completedIn h stamps))

@@ -4,7 +4,7 @@ use Prim.Native.Nat.{ℕ, _+_, _/_, _≤_, _<_}
 use native.Mathlib.Omega.{arith}
 use Rattle.laws.specs.Pick.{pick-all, picks}
 use Rattle.paper.specs.Answer.{done}
-use Rattle.settings.specs.Table.{table, firstBad, leastLevel, mostLevel, Wc, Wf}
+use Rattle.settings.specs.Table.{capacityMost, table, firstBad, leastLevel, mostLevel, Wc, Wf}
 use Rattle.settings.specs.Named.{good-all, all-good, all-join}
 use Rattle.settings.specs.Ranges.{Ranges}
 use Rattle.settings.specs.declared.Settings.{Settings}
@@ -21,12 +21,12 @@ ranges-good s r = all-good 1 (table s) (all-join 8 (table s) (omega arith) (omeg
 
 -- the bounds that hold in every good set
 pub record GoodBounds (s : Settings) : Type 0 where
-  pub capacity : s .capacity ≤ 99999
-  pub dose : s .dose ≤ 99999
+  pub capacity : s .capacity ≤ capacityMost
+  pub dose : s .dose ≤ capacityMost
   pub pc : s .pc ≤ s .dose
   pub pf : s .pf ≤ s .dose
   pub least : 1 ≤ s .level
-  pub most : s .level ≤ 99999
+  pub most : s .level ≤ capacityMost
   -- Wc = D-Pc and Wf = D-Pf in whole numbers, nothing cut off at 0
   pub coarse : Wc s + s .pc ≡ s .dose
   pub fine : Wf s + s .pf ≡ s .dose
@@ -36,7 +36,7 @@ pub ranges-bounds : (s : Settings) → Ranges s → GoodBounds s
 unfolding leastLevel mostLevel Wc Wf
 ranges-bounds s r =
     let a : 1 ≤ leastLevel s = pick-all (λ (x : ℕ). 1 ≤ x) _ (omega arith) (omega arith) in
-    let b : mostLevel s ≤ 99999 = pick-all (λ (x : ℕ). x ≤ 99999) _ (omega arith) (omega arith) in
+    let b : mostLevel s ≤ capacityMost = pick-all (λ (x : ℕ). x ≤ capacityMost) _ (omega arith) (omega arith) in
     omega arith
 
 -- the level in AL0 and AL1, and in AL2 and AL3

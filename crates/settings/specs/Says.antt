@@ -19,10 +19,16 @@ says-one C.Good (C.R2 k) e = cc
 says-one (C.R2 k) C.Good e = cc
 says-one (C.R2 k) (C.R2 l) e = cc
 
--- two answers that both meet the check's contract are equal
-pub check-determined : (s : Settings) (a b : Checked) → says a ≡ firstBad s → says b ≡ firstBad s → a ≡ b
+-- what each call's result has to meet
+abbrev pub Checks : Settings → Checked → Type 0
+Checks s r = says r ≡ firstBad s
+
+abbrev pub IsDefault : Settings → Type 0
+IsDefault r = r ≡ defaultSet
+
+-- two results that both meet a call's contract are equal
+pub check-determined : (s : Settings) (a b : Checked) → Checks s a → Checks s b → a ≡ b
 check-determined s a b p q = says-one a b (same p q)
 
--- two sets that both meet the default set's contract are equal
-pub default-determined : (a b : Settings) → a ≡ defaultSet → b ≡ defaultSet → a ≡ b
+pub default-determined : (a b : Settings) → IsDefault a → IsDefault b → a ≡ b
 default-determined a b p q = same p q

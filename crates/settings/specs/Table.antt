@@ -26,13 +26,20 @@ leastLevel s = pick (leb (s .algorithm) 1) 1 (s .dose)
 unfoldable pub mostLevel : Settings → ℕ
 mostLevel s = pick (leb (s .algorithm) 1) (s .capacity / 4) (s .capacity)
 
+-- the greatest capacity, and the most samples that a filter takes the mean of
+abbrev pub capacityMost : ℕ
+capacityMost = 99999
+
+abbrev pub filterMost : ℕ
+filterMost = 128
+
 -- One table lists each setting with its least and greatest value
 unfoldable pub table : Settings → List Row
 table s =
     -- algorithm: 0..3
     row (s .algorithm) 0 3
     -- capacity C: 1..99,999
-    ∷ row (s .capacity) 1 99999
+    ∷ row (s .capacity) 1 capacityMost
     -- dose D: 1..C
     ∷ row (s .dose) 1 (s .capacity)
     -- coarse lead Pc: 0..D
@@ -42,9 +49,9 @@ table s =
     -- level M: AL0, AL1: 1..C/4 rounded down; AL2, AL3: D..C
     ∷ row (s .level) (leastLevel s) (mostLevel s)
     -- filter coarse p7: 4..128
-    ∷ row (s .p7) 4 128
+    ∷ row (s .p7) 4 filterMost
     -- filter fine p8: p7..128
-    ∷ row (s .p8) (s .p7) 128
+    ∷ row (s .p8) (s .p7) filterMost
     -- settle time p9: 1..63
     ∷ row (s .p9) 1 63
     -- sum p11 (0 unloaded, 1 loaded): 0..1

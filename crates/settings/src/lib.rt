@@ -1,9 +1,9 @@
 // The settings, the table of their ranges, and the check that names the first bad one.
 ghost use mathlib.Core.Path.{_≡_};
 ghost use mathlib.Core.List.{map};
-ghost use Rattle.settings.specs.Table.{table, leastLevel, mostLevel, firstBad, defaultSet};
+ghost use Rattle.settings.specs.Table.{table, leastLevel, mostLevel};
 ghost use Rattle.settings.specs.Columns.{valueOf, rangeOf, bounds};
-ghost use Rattle.settings.specs.Says.{says};
+ghost use Rattle.settings.specs.Says.{Checks, IsDefault};
 
 pub struct Settings {
     pub algorithm: u32,
@@ -40,13 +40,34 @@ struct Range {
 // Each setting's fixed range, in the order of the check; a bound that depends on other settings is laid over it.
 const TABLE: [Range; 17] = [
     Range { from: 0, to: 3 }, // algorithm
-    Range { from: 1, to: 99999 }, // capacity C
-    Range { from: 1, to: 99999 }, // dose D, at most C
-    Range { from: 0, to: 99999 }, // coarse lead Pc, at most D
-    Range { from: 0, to: 99999 }, // fine lead Pf, at most Pc
-    Range { from: 1, to: 99999 }, // level M, by algorithm, C and D
-    Range { from: 4, to: 128 }, // filter coarse p7
-    Range { from: 4, to: 128 }, // filter fine p8, at least p7
+    Range {
+        from: 1,
+        to: Settings::CAPACITY_MOST,
+    }, // capacity C
+    Range {
+        from: 1,
+        to: Settings::CAPACITY_MOST,
+    }, // dose D, at most C
+    Range {
+        from: 0,
+        to: Settings::CAPACITY_MOST,
+    }, // coarse lead Pc, at most D
+    Range {
+        from: 0,
+        to: Settings::CAPACITY_MOST,
+    }, // fine lead Pf, at most Pc
+    Range {
+        from: 1,
+        to: Settings::CAPACITY_MOST,
+    }, // level M, by algorithm, C and D
+    Range {
+        from: 4,
+        to: Settings::FILTER_MOST,
+    }, // filter coarse p7
+    Range {
+        from: 4,
+        to: Settings::FILTER_MOST,
+    }, // filter fine p8, at least p7
     Range { from: 1, to: 63 }, // settle time p9
     Range { from: 0, to: 1 }, // sum p11
     Range { from: 0, to: 1 }, // both gates at once o
@@ -62,6 +83,12 @@ const TABLE: [Range; 17] = [
 ];
 
 impl Settings {
+    // The greatest capacity.
+    pub const CAPACITY_MOST: u32 = 99999;
+
+    // The most samples that a filter takes the mean of.
+    pub const FILTER_MOST: u32 = 128;
+
     // The values of the settings, in the table's order.
     fn values(self) -> [u32; 17]
         ensures { λ r. ⌜ r ≡ map valueOf (table self) ⌝ }
@@ -120,7 +147,7 @@ impl Settings {
 
     // Checks the settings in the table's order; the first that is out of its range is named.
     pub fn check(self) -> Checked
-        ensures { λ r. ⌜ says r ≡ firstBad self ⌝ }
+        ensures { λ r. ⌜ Checks self r ⌝ }
     {
         let values = self.values();
         let ranges = self.ranges();
@@ -138,7 +165,7 @@ impl Settings {
 
     // The default set: AL0, C 10,000, D 100, M 100.
     pub fn default() -> Settings
-        ensures { λ r. ⌜ r ≡ defaultSet ⌝ }
+        ensures { λ r. ⌜ IsDefault r ⌝ }
     {
         Settings {
             algorithm: 0,

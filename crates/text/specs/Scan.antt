@@ -1,11 +1,12 @@
 -- A number read at a place of some bytes, with a tab before it or without. Assumes nothing.
 use mathlib.Core.Path.{_≡_}
+use mathlib.Core.Bool.{Bool}
 use mathlib.Core.List.{List, [], _∷_}
 use Prim.Native.Nat.{ℕ, _≤_}
 use lib.Dec.{eqb}
-use lib.ListN.{length, drop}
+use lib.ListN.{length, getD, drop}
 use Rattle.laws.specs.Pick.{pick}
-use Rattle.laws.specs.Decimal.{Parsed, good, bad, numberAt}
+use Rattle.laws.specs.Decimal.{Parsed, good, bad, isDigit, numberAt}
 use Rattle.text.specs.declared.Num.{Num}
 use Rattle.text.specs.declared.Num.the-variants.{Good, Bad}
 
@@ -43,3 +44,16 @@ placeAfter Bad = 0
 pub record Scans (s : List ℕ) (rule : Parsed ℕ) (r : Num) : Type 0 where
   pub reads : rule ≡ leads s r
   pub inside : placeAfter r ≤ length s
+
+-- what each call's result has to meet
+abbrev pub StandsAt : List ℕ → ℕ → ℕ → Type 0
+StandsAt s at r = r ≡ getD s at 0
+
+abbrev pub TellsDigit : ℕ → Bool → Type 0
+TellsDigit b r = r ≡ isDigit b
+
+abbrev pub ReadsNumber : List ℕ → ℕ → ℕ → Num → Type 0
+ReadsNumber s at most r = Scans s (numberAt most (drop at s)) r
+
+abbrev pub ReadsField : List ℕ → ℕ → ℕ → Num → Type 0
+ReadsField s at most r = Scans s (fieldAt most (drop at s)) r

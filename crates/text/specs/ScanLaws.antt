@@ -10,9 +10,9 @@ use lib.ListN.{length, getD, drop, length-drop, drop-of-length-le, List·getD-eq
 use lib.Seq.{drop-cons}
 use borrow.Author.Tests.{eq-eqb, ne-eqb}
 use Rattle.laws.specs.Pick.{pick-t, pick-f}
-use Rattle.laws.specs.Decimal.{Parsed, good, bad, isDigit}
+use Rattle.laws.specs.Decimal.{Parsed, good, bad}
 use Rattle.paper.specs.Answer.{same}
-use Rattle.text.specs.Scan.{expect, leads, placeAfter, Scans}
+use Rattle.text.specs.Scan.{expect, leads, placeAfter, Scans, StandsAt, TellsDigit, ReadsNumber, ReadsField}
 use Rattle.text.specs.declared.Num.{Num}
 use Rattle.text.specs.declared.Num.the-variants.{Good, Bad}
 
@@ -47,10 +47,10 @@ pub bad-good : {X Y : Type 0} {x : X} {rest : List ℕ} → bad ≡ good x rest 
 bad-good e = let z : _≡_ {A = ℕ} 0 1 = cc in let f : ⊥ = omega arith in absurd f
 
 -- two results that both meet a call's contract are equal
-pub byte-determined : (s : List ℕ) (at : ℕ) (a b : ℕ) → a ≡ getD s at 0 → b ≡ getD s at 0 → a ≡ b
+pub byte-determined : (s : List ℕ) (at : ℕ) (a b : ℕ) → StandsAt s at a → StandsAt s at b → a ≡ b
 byte-determined s at a b p q = same p q
 
-pub digit-determined : (n : ℕ) (a b : Bool) → a ≡ isDigit n → b ≡ isDigit n → a ≡ b
+pub digit-determined : (n : ℕ) (a b : Bool) → TellsDigit n a → TellsDigit n b → a ≡ b
 digit-determined n a b p q = same p q
 
 pub scans-determined : {s : List ℕ} {rule : Parsed ℕ} {a b : Num} → Scans s rule a → Scans s rule b → a ≡ b
@@ -65,3 +65,9 @@ scans-determined {s} {rule} {a} {b} p q = go a b (sym (p .reads) ∙ q .reads) (
     go (Good v m) Bad e h k = bad-good (sym e)
     go Bad (Good w n) e h k = bad-good e
     go Bad Bad e h k = refl
+
+pub number-determined : (s : List ℕ) (at most : ℕ) {a b : Num} → ReadsNumber s at most a → ReadsNumber s at most b → a ≡ b
+number-determined s at most p q = scans-determined p q
+
+pub field-determined : (s : List ℕ) (at most : ℕ) {a b : Num} → ReadsField s at most a → ReadsField s at most b → a ≡ b
+field-determined s at most p q = scans-determined p q

@@ -1,13 +1,12 @@
 // Numbers as text: written into a lent buffer, and read at a place.
 ghost use mathlib.Core.Path.{_≡_};
-ghost use mathlib.Core.List.{[], _∷_};
 ghost use Prim.Native.Nat.{_+_, _≤_, _<_};
 ghost use lib.Dec.{leb};
-ghost use lib.ListN.{length, drop, getD};
+ghost use lib.ListN.{length};
 ghost use lib.Seq.{sets};
-ghost use Rattle.laws.specs.Decimal.{glyph, decimal, hexOf, isDigit, numberAt};
-ghost use Rattle.text.specs.Put.{Puts};
-ghost use Rattle.text.specs.Scan.{fieldAt, Scans};
+ghost use Rattle.laws.specs.Decimal.{glyph, decimal, hexOf};
+ghost use Rattle.text.specs.Put.{CountsDigits, PutsDecimal, PutsHex, PutsByte};
+ghost use Rattle.text.specs.Scan.{StandsAt, TellsDigit, ReadsNumber, ReadsField};
 
 // A number read at a place: its value and the place after it, or none.
 pub enum Num {
@@ -29,7 +28,7 @@ fn has_room(len: usize, at: usize, k: usize) -> bool
 
 // How many decimal digits n has.
 pub fn decimal_len(n: u64) -> usize
-    ensures { λ r. ⌜ r ≡ length (decimal n) ⌝ }
+    ensures { λ r. ⌜ CountsDigits n r ⌝ }
 {
     let mut v = n;
     let mut k: usize = 1;
@@ -58,7 +57,7 @@ fn store_decimal(out: &mut [u8], at: usize, k: usize, n: u64)
 
 // The decimal digits of n put at `at`, if they have room.
 pub fn put_decimal(out: &mut [u8], at: usize, n: u64) -> usize
-    ensures { λ r. ⌜ Puts (now (out .entry)) at (decimal n) (now (out .exit)) r ⌝ }
+    ensures { λ r. ⌜ PutsDecimal (now (out .entry)) at n (now (out .exit)) r ⌝ }
 {
     let k = decimal_len(n);
     if has_room(out.len(), at, k) {
@@ -92,7 +91,7 @@ fn store_hex(out: &mut [u8], at: usize, digits: usize, n: u64)
 
 // The last hexadecimal digits of n put at `at`, if they have room.
 pub fn put_hex(out: &mut [u8], at: usize, digits: usize, n: u64) -> usize
-    ensures { λ r. ⌜ Puts (now (out .entry)) at (hexOf digits n) (now (out .exit)) r ⌝ }
+    ensures { λ r. ⌜ PutsHex (now (out .entry)) at digits n (now (out .exit)) r ⌝ }
 {
     if has_room(out.len(), at, digits) {
         store_hex(out, at, digits, n);
@@ -103,7 +102,7 @@ pub fn put_hex(out: &mut [u8], at: usize, digits: usize, n: u64) -> usize
 
 // One byte put at `at`, if it has room.
 pub fn put_byte(out: &mut [u8], at: usize, b: u8) -> usize
-    ensures { λ r. ⌜ Puts (now (out .entry)) at (b ∷ []) (now (out .exit)) r ⌝ }
+    ensures { λ r. ⌜ PutsByte (now (out .entry)) at b (now (out .exit)) r ⌝ }
 {
     if at < out.len() {
         out[at] = b;
@@ -114,21 +113,21 @@ pub fn put_byte(out: &mut [u8], at: usize, b: u8) -> usize
 
 // The byte at a place, 0 past the end.
 pub fn byte_at(s: &[u8], at: usize) -> u8
-    ensures { λ r. ⌜ r ≡ getD (now (s .entry)) at 0 ⌝ }
+    ensures { λ r. ⌜ StandsAt (now (s .entry)) at r ⌝ }
 {
     if at < s.len() { s[at] } else { 0 }
 }
 
 // Whether a byte is a digit.
 pub fn is_digit(b: u8) -> bool
-    ensures { λ r. ⌜ r ≡ isDigit b ⌝ }
+    ensures { λ r. ⌜ TellsDigit b r ⌝ }
 {
     if b < 48 { false } else { b <= 57 }
 }
 
 // The number at a place, each byte looked at once; it is refused as soon as it is above `most`.
 pub fn number_at(s: &[u8], at: usize, most: u32) -> Num
-    ensures { λ r. ⌜ Scans (now (s .entry)) (numberAt most (drop at (now (s .entry)))) r ⌝ }
+    ensures { λ r. ⌜ ReadsNumber (now (s .entry)) at most r ⌝ }
 {
     let first = byte_at(s, at);
     if !is_digit(first) {
@@ -152,7 +151,7 @@ pub fn number_at(s: &[u8], at: usize, most: u32) -> Num
 
 // A tab and a number at a place.
 pub fn field_at(s: &[u8], at: usize, most: u32) -> Num
-    ensures { λ r. ⌜ Scans (now (s .entry)) (fieldAt most (drop at (now (s .entry)))) r ⌝ }
+    ensures { λ r. ⌜ ReadsField (now (s .entry)) at most r ⌝ }
 {
     if byte_at(s, at) != TAB {
         return Num::Bad;

@@ -1,4 +1,4 @@
--- What follows from the definitions: the samples held after a push, the sizes of means, and that each call's contract fits one result. Assumes nothing.
+-- What follows from the definitions: the samples held after a push, and the sizes of means. Assumes nothing.
 use mathlib.Core.Path.{_≡_, refl, sym, ap, _∙_}
 use mathlib.Core.Bool.{Bool, true, false, cond}
 use mathlib.Core.List.{List, [], _∷_, _++_}
@@ -15,45 +15,44 @@ use lib.Seq.{take-take, take-all}
 use mir.Syntax.{w32}
 use mir.Val.{SFits}
 use Rattle.laws.specs.Pick.{pick, pick-t, pick-f}
-use Rattle.paper.specs.Answer.{same}
 use Rattle.window.specs.declared.Window.{Window}
 use Rattle.window.specs.Mean.{sumOf, halfUp, roundAway, meanOf}
-use Rattle.window.specs.Window.{samplesOf, emptyWindow, pushOf}
+use Rattle.window.specs.Window.{places, samplesOf, emptyWindow, pushOf}
 use Rattle.window.specs.Range.{Between, Each, Within, AllI32}
 
 pub samples-empty : samplesOf emptyWindow ≡ []
 unfolding samplesOf emptyWindow
 samples-empty = refl
 
-pub empty-length : length (emptyWindow .samples) ≡ 128
+pub empty-length : length (emptyWindow .samples) ≡ places
 unfolding emptyWindow
 empty-length = refl
 
-pub push-length : (w : Window) (x : ℤ) → length (w .samples) ≡ 128 → length (pushOf w x .samples) ≡ 128
+pub push-length : (w : Window) (x : ℤ) → length (w .samples) ≡ places → length (pushOf w x .samples) ≡ places
 unfolding pushOf
-push-length w x e = omega (arith, length-take 128 (x ∷ w .samples))
+push-length w x e = omega (arith, length-take places (x ∷ w .samples))
 
-pub samples-most : (w : Window) → length (w .samples) ≡ 128 → length (samplesOf w) ≤ 128
+pub samples-most : (w : Window) → length (w .samples) ≡ places → length (samplesOf w) ≤ places
 unfolding samplesOf
 samples-most w e = omega (arith, length-take (w .held) (w .samples))
 
-room : (x : ℤ) (l : List ℤ) (h : ℕ) → h < 128 → take (h + 1) (take 128 (x ∷ l)) ≡ take 128 (x ∷ take h l)
+room : (x : ℤ) (l : List ℤ) (h : ℕ) → h < places → take (h + 1) (take places (x ∷ l)) ≡ take places (x ∷ take h l)
 room x l h k =
-    take-take (h + 1) 128 (x ∷ l) (omega arith)
+    take-take (h + 1) places (x ∷ l) (omega arith)
     ∙ ap (λ (n : ℕ). take n (x ∷ l)) (add-one h)
-    ∙ ap (λ (t : List ℤ). x ∷ t) (sym (take-all 127 (take h l) (omega (arith, length-take h l))))
+    ∙ ap (λ (t : List ℤ). x ∷ t) (sym (take-all (places - 1) (take h l) (omega (arith, length-take h l))))
 
-full : (x : ℤ) (l : List ℤ) (h : ℕ) → length l ≡ 128 → 128 ≤ h → take 128 (take 128 (x ∷ l)) ≡ take 128 (x ∷ take h l)
+full : (x : ℤ) (l : List ℤ) (h : ℕ) → length l ≡ places → places ≤ h → take places (take places (x ∷ l)) ≡ take places (x ∷ take h l)
 full x l h e k =
-    take-take 128 128 (x ∷ l) (omega arith) ∙ ap (λ (t : List ℤ). take 128 (x ∷ t)) (sym (take-all h l (omega arith)))
+    take-take places places (x ∷ l) (omega arith) ∙ ap (λ (t : List ℤ). take places (x ∷ t)) (sym (take-all h l (omega arith)))
 
 -- a push puts the sample before those held, and keeps 128 of them
-pub samples-push : (w : Window) (x : ℤ) → length (w .samples) ≡ 128 → samplesOf (pushOf w x) ≡ take 128 (x ∷ samplesOf w)
+pub samples-push : (w : Window) (x : ℤ) → length (w .samples) ≡ places → samplesOf (pushOf w x) ≡ take places (x ∷ samplesOf w)
 unfolding samplesOf pushOf
 samples-push w x e =
-    elim (decLt (w .held) 128) [
-      | yes l ↦ rw (pick-t _ _ _ (lt-ltb (w .held) 128 l)) (room x (w .samples) (w .held) l)
-      | no l ↦ rw (pick-f _ _ _ (le-ltb (w .held) 128 (omega arith))) (full x (w .samples) (w .held) e (omega arith))
+    elim (decLt (w .held) places) [
+      | yes l ↦ rw (pick-t _ _ _ (lt-ltb (w .held) places l)) (room x (w .samples) (w .held) l)
+      | no l ↦ rw (pick-f _ _ _ (le-ltb (w .held) places (omega arith))) (full x (w .samples) (w .held) e (omega arith))
     ]
 
 -- a full window loses its oldest sample; an empty one takes the samples newest first
@@ -146,13 +145,3 @@ between-fits (negsuc m) h = record { sfits = omega arith }
 -- the mean of i32s is an i32
 pub mean-fits : (xs : List ℤ) → AllI32 xs → SFits w32 (meanOf xs)
 mean-fits xs e = between-fits (meanOf xs) (mean-between _ _ xs e)
-
--- two results that meet a call's contract are equal
-pub new-determined : {r s : Window} → r ≡ emptyWindow → s ≡ emptyWindow → r ≡ s
-new-determined p q = same p q
-
-pub push-determined : (w : Window) (x : ℤ) {r s : Window} → r ≡ pushOf w x → s ≡ pushOf w x → r ≡ s
-push-determined w x p q = same p q
-
-pub mean-determined : (w : Window) (n : ℕ) {r s : ℤ} → r ≡ meanOf (take n (samplesOf w)) → s ≡ meanOf (take n (samplesOf w)) → r ≡ s
-mean-determined w n p q = same p q

@@ -1,4 +1,5 @@
 pub mod Mean
 pub mod Window
+pub mod Calls
 pub mod Range
 pub mod Laws

@@ -5,35 +5,39 @@ ghost use lib.Dec.{ltb};
 ghost use lib.IntN.{natAbs};
 ghost use lib.ListN.{take};
 ghost use Rattle.laws.specs.Pick.{pick};
-ghost use Rattle.window.specs.Mean.{meanOf, roundAway};
+ghost use Rattle.window.specs.Mean.{roundAway};
 ghost use Rattle.window.specs.Range.{Total};
-ghost use Rattle.window.specs.Window.{emptyWindow, pushOf, samplesOf};
+ghost use Rattle.window.specs.Window.{places};
+ghost use Rattle.window.specs.Calls.{IsEmpty, Pushes, Means};
 
 // The newest sample stands first; `held` of the places are in use.
 pub struct Window {
-    pub samples: [i32; 128],
+    pub samples: [i32; Window::PLACES],
     pub held: usize,
 }
 
 impl Window {
+    // How many samples a window holds at most.
+    pub const PLACES: usize = 128;
+
     // A window that holds no sample.
     pub fn new() -> Window
-        ensures { λ r. ⌜ r ≡ emptyWindow ⌝ }
+        ensures { λ r. ⌜ IsEmpty r ⌝ }
     {
         Window {
-            samples: [0; 128],
+            samples: [0; Window::PLACES],
             held: 0,
         }
     }
 
     // The sample stands first, the others move one place on, the last of 128 falls out.
     pub fn push(self, x: i32) -> Window
-        ensures { λ r. ⌜ r ≡ pushOf self x ⌝ }
+        ensures { λ r. ⌜ Pushes self x r ⌝ }
     {
         let old = self.samples;
-        let mut samples = [x; 128];
+        let mut samples = [x; Window::PLACES];
         let mut i: usize = 0;
-        while i < 127 {
+        while i < Window::PLACES - 1 {
             samples[i + 1] = old[i];
             i += 1;
         }
@@ -45,7 +49,7 @@ impl Window {
 
     // The mean of the last n samples, or of those held where they are fewer; of none it is 0.
     pub fn mean(self, n: usize) -> i32
-        ensures { λ r. ⌜ r ≡ meanOf (take n (samplesOf self)) ⌝ }
+        ensures { λ r. ⌜ Means self n r ⌝ }
     {
         let held = self.held;
         let count = fewest(n, held);
@@ -59,25 +63,37 @@ impl Window {
 
 // One more than held, at most 128.
 fn grown(held: usize) -> usize
-    ensures { λ r. ⌜ r ≡ pick (ltb held 128) (held + 1) 128 ⌝ }
+    ensures { λ r. ⌜ r ≡ pick (ltb held places) (held + 1) places ⌝ }
 {
-    if held < 128 { held + 1 } else { 128 }
+    if held < Window::PLACES {
+        held + 1
+    } else {
+        Window::PLACES
+    }
 }
 
 // The least of n, held and 128.
 fn fewest(n: usize, held: usize) -> usize
-    ensures { λ r. ⌜ r ≡ min n (min held 128) ⌝ }
+    ensures { λ r. ⌜ r ≡ min n (min held places) ⌝ }
 {
     if n < held {
-        if n < 128 { n } else { 128 }
+        if n < Window::PLACES {
+            n
+        } else {
+            Window::PLACES
+        }
     } else {
-        if held < 128 { held } else { 128 }
+        if held < Window::PLACES {
+            held
+        } else {
+            Window::PLACES
+        }
     }
 }
 
 // The sum of the first n samples.
 fn total(w: Window, n: usize) -> i64
-    requires { ⌜ n ≤ 128 ⌝ }
+    requires { ⌜ n ≤ places ⌝ }
     ensures { λ r. ⌜ Total (take n (w .samples)) r ⌝ }
 {
     let mut s: i64 = 0;
@@ -92,7 +108,7 @@ fn total(w: Window, n: usize) -> i64
 
 // s / n to the nearest, a half away from zero: the signed division and its correction.
 fn rounded(s: i64, n: usize) -> i64
-    requires { ⌜ (0 < n) × (n ≤ 128) × (natAbs s ≤ 128 * 2147483648) ⌝ }
+    requires { ⌜ (0 < n) × (n ≤ places) × (natAbs s ≤ places * 2147483648) ⌝ }
     ensures { λ r. ⌜ r ≡ roundAway s n ⌝ }
 {
     let d = n as i64;

@@ -1,5 +1,5 @@
 use borrow.Author.Needs.{needs}
-use Rattle.controller.specs.Calls.{isReady, readyIn, atReady}
+use Rattle.controller.specs.Calls.{readyIn, atReady}
 use Rattle.controller.proofs.Contracts.{not-ready}
 use Rattle.controller.proofs.is_ready.Statement.{statement}
 use Rattle.controller.proofs.is_ready.Tie as tie
@@ -11,19 +11,19 @@ enum-told-2 : tie.Need-enum-told-2
 enum-told-2 c = search needs
 
 returns : tie.Need-returns
-unfolding isReady readyIn
+unfolding readyIn
 returns c = rw (c .enum-told2 .given .1)
 
 enum-told-3 : tie.Need-enum-told-3
 enum-told-3 c = search needs
 
 returns-2 : tie.Need-returns-2
-unfolding isReady readyIn atReady
+unfolding readyIn atReady
 returns-2 c = rw (c .before .before .enum-told .given .1, c .enum-told3 .given .1)
 
 returns-3 : tie.Need-returns-3
-unfolding isReady readyIn
-returns-3 c = rw (c .before .enum-told .given .1) (not-ready (c .before .before .before .args .c .phase) (c .match2 .keys2))
+unfolding readyIn
+returns-3 c = rw (c .before .enum-told .given .1) (not-ready (c .before .before .before .args .phase) (c .match2 .keys2))
 
 pub is-ready-spec : {M : Type 1} → statement M
 is-ready-spec = tie.close (tie.spec enum-told enum-told-2 returns enum-told-3 returns-2 returns-3)

@@ -20,11 +20,11 @@ rests-requires c κs = search needs
 reached-wc-requires : tie.Need-reached-wc-requires
 reached-wc-requires c κs = search needs
 
-fine-filling-requires : tie.Need-fine-filling-requires
-fine-filling-requires c κs = search needs
+opens-requires : tie.Need-opens-requires
+opens-requires c κs = search needs
 
-coarse-filling-requires : tie.Need-coarse-filling-requires
-coarse-filling-requires c κs = search needs
+opens-requires-2 : tie.Need-opens-requires-2
+opens-requires-2 c κs = search needs
 
 at-wf : (c : tie.After-reached-wf) → c .reached-wf .result ≡ reachedWf (c .before .before .args .set) (c .before .before .args .t .w .v)
 at-wf c = simp (c .reached-wf .ensures, c .before .widened .ensures)
@@ -38,13 +38,15 @@ returns c = simp (c .rests .ensures, c .before .full .ensures, so (at-wf (c .bef
 
 returns-2 : tie.Need-returns-2
 unfolding coarseStage
-returns-2 c = simp (c .fine-filling .ensures, so (at-wf (c .before .before .before .before)) (c .before .before .before .if1 .left), so (at-wc (c .before .before)) (c .before .if2 .taken), pick-true, pick-false)
+returns-2 c = simp (c .opens .ensures, so (at-wf (c .before .before .before .before)) (c .before .before .before .if1 .left), so (at-wc (c .before .before)) (c .before .if2 .taken), pick-true, pick-false)
 
 returns-3 : tie.Need-returns-3
 unfolding coarseStage
-returns-3 c = simp (c .coarse-filling .ensures, so (at-wf (c .before .before .before .before)) (c .before .before .before .if1 .left), so (at-wc (c .before .before)) (c .before .if2 .left), pick-false)
+returns-3 c =
+    let d = c .before .before in
+    simp (c .opens2 .ensures, so (at-wf (d .before .before .before)) (d .before .before .if1 .left), so (at-wc (d .before)) (d .if2 .left), pick-false)
 
 pub coarse-stage-spec : {M : Type 1} → statement M
 coarse-stage-spec =
     tie.close
-    (tie.spec widened-requires reached-wf-requires full-requires rests-requires returns reached-wc-requires fine-filling-requires returns-2 coarse-filling-requires returns-3)
+    (tie.spec widened-requires reached-wf-requires full-requires rests-requires returns reached-wc-requires opens-requires returns-2 opens-requires-2 returns-3)

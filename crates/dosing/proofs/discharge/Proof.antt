@@ -19,11 +19,8 @@ amount-of-requires c κs = search needs
 completes-requires : tie.Need-completes-requires
 completes-requires c κs = search needs
 
-outputs-requires : tie.Need-outputs-requires
-outputs-requires c κs = search needs
-
-to-requires : tie.Need-to-requires
-to-requires c κs = search needs
+opens-requires : tie.Need-opens-requires
+opens-requires c κs = search needs
 
 below-m : (c : tie.After-below) → c .below .result ≡ ltZ (c .before .before .args .t .w .v) (pos (c .before .before .args .set .level))
 below-m c = simp (c .below .ensures, c .before .widened .ensures)
@@ -34,9 +31,9 @@ returns c = simp (c .completes .ensures, c .before .amount-of .ensures, so (belo
 
 returns-2 : tie.Need-returns-2
 unfolding discharge
-returns-2 c = simp (c .to .ensures, c .before .outputs .ensures, so (below-m (c .before .before .before)) (c .before .before .if1 .left), pick-false)
+returns-2 c = simp (c .opens .ensures, so (below-m (c .before .before)) (c .before .if1 .left), pick-false)
 
 pub discharge-spec : {M : Type 1} → statement M
 discharge-spec =
     tie.close
-    (tie.spec widened-requires below-requires amount-of-requires completes-requires returns outputs-requires to-requires returns-2)
+    (tie.spec widened-requires below-requires amount-of-requires completes-requires returns opens-requires returns-2)

@@ -18,11 +18,11 @@ rests-requires c κs = search needs
 reached-wc-requires : tie.Need-reached-wc-requires
 reached-wc-requires c κs = search needs
 
-fine-dosing-requires : tie.Need-fine-dosing-requires
-fine-dosing-requires c κs = search needs
+opens-requires : tie.Need-opens-requires
+opens-requires c κs = search needs
 
-coarse-dosing-requires : tie.Need-coarse-dosing-requires
-coarse-dosing-requires c κs = search needs
+opens-requires-2 : tie.Need-opens-requires-2
+opens-requires-2 c κs = search needs
 
 at-wf : (c : tie.After-reached-wf) → c .reached-wf .result ≡ reachedWf (c .before .before .args .set) (c .before .before .args .wh .v -ℤ c .before .before .args .t .w .v)
 at-wf c = simp (c .reached-wf .ensures, c .before .difference .ensures)
@@ -36,13 +36,13 @@ returns c = simp (c .rests .ensures, so (at-wf (c .before .before)) (c .before .
 
 returns-2 : tie.Need-returns-2
 unfolding doseCoarse
-returns-2 c = simp (c .fine-dosing .ensures, so (at-wf (c .before .before .before .before)) (c .before .before .before .if1 .left), so (at-wc (c .before .before)) (c .before .if2 .taken), pick-true, pick-false)
+returns-2 c = simp (c .opens .ensures, so (at-wf (c .before .before .before .before)) (c .before .before .before .if1 .left), so (at-wc (c .before .before)) (c .before .if2 .taken), pick-true, pick-false)
 
 returns-3 : tie.Need-returns-3
 unfolding doseCoarse
-returns-3 c = simp (c .coarse-dosing .ensures, so (at-wf (c .before .before .before .before)) (c .before .before .before .if1 .left), so (at-wc (c .before .before)) (c .before .if2 .left), pick-false)
+returns-3 c = simp (c .opens2 .ensures, so (at-wf (c .before .before .before .before)) (c .before .before .before .if1 .left), so (at-wc (c .before .before)) (c .before .if2 .left), pick-false)
 
 pub dose-coarse-spec : {M : Type 1} → statement M
 dose-coarse-spec =
     tie.close
-    (tie.spec difference-requires reached-wf-requires rests-requires returns reached-wc-requires fine-dosing-requires returns-2 coarse-dosing-requires returns-3)
+    (tie.spec difference-requires reached-wf-requires rests-requires returns reached-wc-requires opens-requires returns-2 opens-requires-2 returns-3)

@@ -15,8 +15,8 @@ reached-wf-requires c κs = search needs
 rests-requires : tie.Need-rests-requires
 rests-requires c κs = search needs
 
-fine-dosing-requires : tie.Need-fine-dosing-requires
-fine-dosing-requires c κs = search needs
+opens-requires : tie.Need-opens-requires
+opens-requires c κs = search needs
 
 at-wf : (c : tie.After-reached-wf) → c .reached-wf .result ≡ reachedWf (c .before .before .args .set) (c .before .before .args .wh .v -ℤ c .before .before .args .t .w .v)
 at-wf c = simp (c .reached-wf .ensures, c .before .difference .ensures)
@@ -27,9 +27,9 @@ returns c = simp (c .rests .ensures, so (at-wf (c .before .before)) (c .before .
 
 returns-2 : tie.Need-returns-2
 unfolding doseFine
-returns-2 c = simp (c .fine-dosing .ensures, so (at-wf (c .before .before)) (c .before .if1 .left), pick-false)
+returns-2 c = simp (c .opens .ensures, so (at-wf (c .before .before)) (c .before .if1 .left), pick-false)
 
 pub dose-fine-spec : {M : Type 1} → statement M
 dose-fine-spec =
     tie.close
-    (tie.spec difference-requires reached-wf-requires rests-requires returns fine-dosing-requires returns-2)
+    (tie.spec difference-requires reached-wf-requires rests-requires returns opens-requires returns-2)

@@ -17,8 +17,8 @@ full-requires c κs = search needs
 rests-requires : tie.Need-rests-requires
 rests-requires c κs = search needs
 
-fine-filling-requires : tie.Need-fine-filling-requires
-fine-filling-requires c κs = search needs
+opens-requires : tie.Need-opens-requires
+opens-requires c κs = search needs
 
 at-wf : (c : tie.After-reached-wf) → c .reached-wf .result ≡ reachedWf (c .before .before .args .set) (c .before .before .args .t .w .v)
 at-wf c = simp (c .reached-wf .ensures, c .before .widened .ensures)
@@ -29,9 +29,9 @@ returns c = simp (c .rests .ensures, c .before .full .ensures, so (at-wf (c .bef
 
 returns-2 : tie.Need-returns-2
 unfolding fineStage
-returns-2 c = simp (c .fine-filling .ensures, so (at-wf (c .before .before)) (c .before .if1 .left), pick-false)
+returns-2 c = simp (c .opens .ensures, so (at-wf (c .before .before)) (c .before .if1 .left), pick-false)
 
 pub fine-stage-spec : {M : Type 1} → statement M
 fine-stage-spec =
     tie.close
-    (tie.spec widened-requires reached-wf-requires full-requires rests-requires returns fine-filling-requires returns-2)
+    (tie.spec widened-requires reached-wf-requires full-requires rests-requires returns opens-requires returns-2)

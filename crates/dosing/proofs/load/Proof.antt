@@ -16,8 +16,8 @@ at-least-requires c κs = search needs
 rests-requires : tie.Need-rests-requires
 rests-requires c κs = search needs
 
-loading-requires : tie.Need-loading-requires
-loading-requires c κs = search needs
+opens-requires : tie.Need-opens-requires
+opens-requires c κs = search needs
 
 from-m : (c : tie.After-at-least) → c .at-least .result ≡ leZ (pos (c .before .before .args .set .level)) (c .before .before .args .t .w .v)
 from-m c = simp (c .at-least .ensures, c .before .widened .ensures)
@@ -28,9 +28,9 @@ returns c = simp (c .rests .ensures, so (from-m (c .before .before)) (c .before 
 
 returns-2 : tie.Need-returns-2
 unfolding load
-returns-2 c = simp (c .loading .ensures, so (from-m (c .before .before)) (c .before .if1 .left), pick-false)
+returns-2 c = simp (c .opens .ensures, so (from-m (c .before .before)) (c .before .if1 .left), pick-false)
 
 pub load-spec : {M : Type 1} → statement M
 load-spec =
     tie.close
-    (tie.spec widened-requires at-least-requires rests-requires returns loading-requires returns-2)
+    (tie.spec widened-requires at-least-requires rests-requires returns opens-requires returns-2)

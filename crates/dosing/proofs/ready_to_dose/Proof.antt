@@ -13,8 +13,8 @@ widened-requires c κs = search needs
 below-requires : tie.Need-below-requires
 below-requires c κs = search needs
 
-loading-requires : tie.Need-loading-requires
-loading-requires c κs = search needs
+opens-requires : tie.Need-opens-requires
+opens-requires c κs = search needs
 
 dose-coarse-requires : tie.Need-dose-coarse-requires
 dose-coarse-requires c κs = search needs
@@ -27,7 +27,7 @@ below-d c = simp (c .below .ensures, c .before .widened .ensures)
 
 returns : tie.Need-returns
 unfolding readyToDose
-returns c = simp (c .loading .ensures, so (below-d (c .before .before)) (c .before .if1 .taken), pick-true)
+returns c = simp (c .opens .ensures, so (below-d (c .before .before)) (c .before .if1 .taken), pick-true)
 
 returns-2 : tie.Need-returns-2
 unfolding readyToDose
@@ -40,4 +40,4 @@ returns-3 c = simp (c .rests .ensures, so (below-d (c .before .before .before)) 
 pub ready-to-dose-spec : {M : Type 1} → statement M
 ready-to-dose-spec =
     tie.close
-    (tie.spec widened-requires below-requires loading-requires returns dose-coarse-requires returns-2 rests-requires returns-3)
+    (tie.spec widened-requires below-requires opens-requires returns dose-coarse-requires returns-2 rests-requires returns-3)

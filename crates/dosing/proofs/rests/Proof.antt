@@ -2,14 +2,11 @@ use borrow.Author.Needs.{needs}
 use Rattle.dosing.proofs.rests.Tie as tie
 use Rattle.dosing.proofs.rests.Statement.{statement}
 
-outputs-requires : tie.Need-outputs-requires
-outputs-requires c κs = search needs
-
-to-requires : tie.Need-to-requires
-to-requires c κs = search needs
+opens-requires : tie.Need-opens-requires
+opens-requires c κs = search needs
 
 returns : tie.Need-returns
-returns c = simp (c .to .ensures, c .before .outputs .ensures)
+returns c = c .opens .ensures
 
 pub rests-spec : {M : Type 1} → statement M
-rests-spec = tie.close (tie.spec outputs-requires to-requires returns)
+rests-spec = tie.close (tie.spec opens-requires returns)

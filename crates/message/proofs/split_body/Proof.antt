@@ -1,5 +1,4 @@
 use mathlib.Core.Path.{sym}
-use native.Mathlib.Omega.{arith}
 use borrow.Author.Needs.{needs}
 use borrow.Author.Tests.{lt-ltb, le-ltb, eq-eqb, ne-eqb}
 use Rattle.laws.specs.Pick.{pick-t, pick-true, pick-false}
@@ -35,46 +34,30 @@ returns-3 : tie.Need-returns-3
 unfolding splitOf tooShort extended
 returns-3 c = simp (eq-eqb _ _ (c .before .if2 .left), pick-true, lt-ltb _ _ (c .if3 .taken))
 
-shared-slice-read-serial : tie.Need-shared-slice-read-serial
-shared-slice-read-serial c = search needs
+shared-slice-read-serial-of : tie.Need-shared-slice-read-serial-of
+shared-slice-read-serial-of c = search needs
 
-cast-serial : tie.Need-cast-serial
-cast-serial c = omega (arith, c .shared-slice-known4 .given 1)
+shared-slice-read-serial-of-2 : tie.Need-shared-slice-read-serial-of-2
+shared-slice-read-serial-of-2 c = search needs
 
-shared-slice-read-serial-2 : tie.Need-shared-slice-read-serial-2
-shared-slice-read-serial-2 c = search needs
+shared-slice-read-serial-of-3 : tie.Need-shared-slice-read-serial-of-3
+shared-slice-read-serial-of-3 c = search needs
 
-cast-serial-2 : tie.Need-cast-serial-2
-cast-serial-2 c = omega (arith, c .shared-slice-known5 .given 2)
-
-mul-serial : tie.Need-mul-serial
-mul-serial c = omega (arith, c .shared-slice-known5 .given 2)
-
-add-serial : tie.Need-add-serial
-add-serial c = omega (arith, c .shared-slice-known5 .given 1, c .shared-slice-known5 .given 2)
-
-shared-slice-read-serial-3 : tie.Need-shared-slice-read-serial-3
-shared-slice-read-serial-3 c = search needs
-
-cast-serial-3 : tie.Need-cast-serial-3
-cast-serial-3 c = omega (arith, c .shared-slice-known6 .given 3)
-
-mul-serial-2 : tie.Need-mul-serial-2
-mul-serial-2 c = omega (arith, c .shared-slice-known6 .given 3)
-
-add-serial-2 : tie.Need-add-serial-2
-add-serial-2 c = omega (arith, c .shared-slice-known6 .given 1, c .shared-slice-known6 .given 2, c .shared-slice-known6 .given 3)
+serial-of-requires : tie.Need-serial-of-requires
+serial-of-requires c κs = search needs
 
 shared-slice-read-t6 : tie.Need-shared-slice-read-t6
 shared-slice-read-t6 c = search needs
 
-sub-t28 : tie.Need-sub-t28
-sub-t28 c = search needs
+sub-t22 : tie.Need-sub-t22
+sub-t22 c = search needs
 
 -- a serial
 returns-4 : tie.Need-returns-4
 unfolding splitOf partsOf formOf addressLength tooShort extended
-returns-4 c = simp (eq-eqb _ _ (c .before .before .before .before .before .if2 .left), pick-true, le-ltb _ _ (c .before .before .before .before .if3 .left), pick-false)
+returns-4 c =
+    let d = c .before .before .before .before .before in
+    simp (eq-eqb _ _ (d .before .if2 .left), pick-true, le-ltb _ _ (d .if3 .left), pick-false, c .before .serial-of .ensures)
 
 pub split-body-spec : {M : Type 1} → statement M
 split-body-spec =
@@ -87,16 +70,10 @@ split-body-spec =
     sub-t13
     returns-2
     returns-3
-    shared-slice-read-serial
-    cast-serial
-    shared-slice-read-serial-2
-    cast-serial-2
-    mul-serial
-    add-serial
-    shared-slice-read-serial-3
-    cast-serial-3
-    mul-serial-2
-    add-serial-2
+    shared-slice-read-serial-of
+    shared-slice-read-serial-of-2
+    shared-slice-read-serial-of-3
+    serial-of-requires
     shared-slice-read-t6
-    sub-t28
+    sub-t22
     returns-4)

@@ -1,6 +1,4 @@
 use mathlib.Core.Path.{_≡_, sym, _∙_}
-use Prim.Native.Nat.{_≤_}
-use native.Mathlib.Omega.{arith}
 use lib.ListN.{length}
 use Rattle.recorder.specs.Recording.{Carries}
 use borrow.Author.Needs.{needs}
@@ -8,11 +6,10 @@ use Rattle.record.proofs.main.Statement.{statement}
 use Rattle.record.proofs.main.Tie as tie
 
 abbrev Inv-loop : tie.InvT-loop
-Inv-loop input₀ output₀ now₀ held₀ turns₀ input output now held turns =
-    Carries (now .recorder) × (held ≤ 4095) × (65536 ≡ length input) × (65536 ≡ length output)
+Inv-loop input₀ output₀ state₀ intake₀ turns₀ input output state intake turns = Carries state × (65536 ≡ length input) × (65536 ≡ length output)
 
 abbrev μ-loop : tie.MeasureT-loop
-μ-loop input₀ output₀ now₀ held₀ turns₀ input output now held turns = turns
+μ-loop input₀ output₀ state₀ intake₀ turns₀ input output state intake turns = turns
 
 large-buffer-requires : tie.Need-large-buffer-requires Inv-loop μ-loop
 large-buffer-requires c κs = search needs
@@ -23,8 +20,11 @@ large-buffer-requires-2 c κs = search needs
 start-requires : tie.Need-start-requires Inv-loop μ-loop
 start-requires c κs = search needs
 
+start-requires-2 : tie.Need-start-requires-2 Inv-loop μ-loop
+start-requires-2 c κs = search needs
+
 loop-holds : tie.Need-loop-holds Inv-loop μ-loop
-loop-holds c = (c .start .ensures .carries, omega arith, c .before .before .large-buffer .ensures, c .before .large-buffer2 .ensures)
+loop-holds c = (c .before .start .ensures .carries, c .before .before .before .large-buffer .ensures, c .before .before .large-buffer2 .ensures)
 
 slice-aggregate-turn : tie.Need-slice-aggregate-turn Inv-loop μ-loop
 slice-aggregate-turn c = search needs
@@ -46,8 +46,9 @@ loop-less c = search needs
 
 loop-again : tie.Need-loop-again Inv-loop μ-loop
 loop-again c =
-    let k = c .before .before .before .before .before .turn .ensures in
-    (k .carries, k .few, c .before .before .before .before .before .before .before .before .before .loop .inv .2 ∙ sym (c .before .before .before .before .before .turn .kept .1 .1 .0), c .before .before .before .before .before .before .before .before .before .loop .inv .3 ∙ sym (c .before .before .before .before .before .turn .kept .1 .1 .1 .0))
+    let t = c .before .before .before .before .before .before .turn in
+    let l = c .before .before .before .before .before .before .before .before .before .before .loop .inv in
+    (t .ensures, l .1 ∙ sym (t .kept .1 .1 .0), l .2 ∙ sym (t .kept .1 .1 .1 .0))
 
 returns-2 : tie.Need-returns-2 Inv-loop μ-loop
 returns-2 c = search needs
@@ -61,6 +62,7 @@ main-spec =
     large-buffer-requires
     large-buffer-requires-2
     start-requires
+    start-requires-2
     loop-holds
     slice-aggregate-turn
     slice-aggregate-turn-2

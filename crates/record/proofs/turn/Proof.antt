@@ -1,86 +1,59 @@
 use mathlib.Core.Path.{sym}
 use native.Mathlib.Omega.{arith}
 use lib.Seq.{length-take-le}
-use Rattle.lines.specs.Places.{carry-inside}
 use borrow.Author.Needs.{needs}
 use Rattle.record.proofs.turn.Statement.{statement}
 use Rattle.record.proofs.turn.Tie as tie
 
-sub-read : tie.Need-sub-read
-sub-read c = search needs
+feed-requires : tie.Need-feed-requires
+feed-requires c κs = search needs
 
-part-read-start : tie.Need-part-read-start
-part-read-start c = search needs
+slice-reshare-prefix-write-all : tie.Need-slice-reshare-prefix-write-all
+slice-reshare-prefix-write-all c = search needs
 
-part-read-end : tie.Need-part-read-end
-part-read-end c = search needs
+slice-aggregate-write-all : tie.Need-slice-aggregate-write-all
+slice-aggregate-write-all c = let f = c .before .before .before .before .before .feed in sym (length-take-le _ _ (omega (arith, f .ensures .within, f .kept .1 .1 .1 .0)))
 
-read-requires : tie.Need-read-requires
-read-requires c κs = search needs
+write-all-requires : tie.Need-write-all-requires
+write-all-requires c κs = search needs
 
-sub-count : tie.Need-sub-count
-sub-count c = search needs
-
-part-count-start : tie.Need-part-count-start
-part-count-start c = search needs
-
-part-count-end : tie.Need-part-count-end
-part-count-end c = search needs
-
-count-requires : tie.Need-count-requires
-count-requires c κs = search needs
+sub-if1 : tie.Need-sub-if1
+sub-if1 c = search needs
 
 same-length : tie.Need-same-length
 same-length c = search needs
 
+same-length-2 : tie.Need-same-length-2
+same-length-2 c = search needs
+
 returns : tie.Need-returns
 returns c = search needs
 
-add-have : tie.Need-add-have
-add-have c = search needs
-
-slice-reshare-prefix-note-block : tie.Need-slice-reshare-prefix-note-block
-slice-reshare-prefix-note-block c = search needs
-
-slice-aggregate-note-block : tie.Need-slice-aggregate-note-block
-slice-aggregate-note-block c = sym (length-take-le _ _ (slice-reshare-prefix-note-block (c .before)))
-
-note-block-requires : tie.Need-note-block-requires
-note-block-requires c κs = search needs
-
-carry-requires : tie.Need-carry-requires
-carry-requires c κs = search needs
-
-same-length-2 : tie.Need-same-length-2
-same-length-2 c = search needs
+refill-requires : tie.Need-refill-requires
+refill-requires c κs = search needs
 
 same-length-3 : tie.Need-same-length-3
 same-length-3 c = search needs
 
+same-length-4 : tie.Need-same-length-4
+same-length-4 c = search needs
+
 returns-2 : tie.Need-returns-2
-returns-2 c =
-    let d = c .before .before .before .before .before .before .before .note-block .ensures in
-    record { carries = d .carries; few = omega (arith, carry-inside (c .before .before .carry .ensures), d .few, slice-aggregate-note-block (c .before .before .before .before .before .before .before .before .before)) }
+returns-2 c = search needs
 
 pub turn-spec : {M : Type 1} → statement M
 turn-spec =
     tie.close
     (tie.spec
-    sub-read
-    part-read-start
-    part-read-end
-    read-requires
-    sub-count
-    part-count-start
-    part-count-end
-    count-requires
+    feed-requires
+    slice-reshare-prefix-write-all
+    slice-aggregate-write-all
+    write-all-requires
+    sub-if1
     same-length
-    returns
-    add-have
-    slice-reshare-prefix-note-block
-    slice-aggregate-note-block
-    note-block-requires
-    carry-requires
     same-length-2
+    returns
+    refill-requires
     same-length-3
+    same-length-4
     returns-2)

@@ -1,12 +1,10 @@
-use mathlib.Core.Path.{sym, ap, _∙_}
+use mathlib.Core.Path.{sym, ap, subst}
 use denote.Ref.{now}
-use mathlib.Core.Path.{subst}
-use Rattle.controller.specs.declared.Controller.{Controller}
-use Rattle.controller.specs.Sound.{Sound}
-use Rattle.script.specs.Answer.{answerTo}
-use Rattle.recorder.specs.Recording.{withBox, heardBy, recorded}
-use Rattle.recorder.specs.Noting.{Writable, writes-as}
-use Rattle.recorder.specs.Keeps.{answer-sound, heard-writable, box-carries}
+use Rattle.calls.specs.Call.{callOf}
+use Rattle.clock.specs.Clock.{heardBy}
+use Rattle.recorder.specs.Keeps.{heard-writable}
+use Rattle.clock.specs.Marking.{Writable, writes-as}
+use Rattle.clock.specs.Keeps.{marks-writes}
 use borrow.Author.Needs.{needs}
 use Rattle.recorder.proofs.recorded.Statement.{statement}
 use Rattle.recorder.proofs.recorded.Tie as tie
@@ -14,30 +12,27 @@ use Rattle.recorder.proofs.recorded.Tie as tie
 hear-requires : tie.Need-hear-requires
 hear-requires c κs = search needs
 
-by-heard-requires : tie.Need-by-heard-requires
-unfolding withBox
-by-heard-requires c κs =
-    let a = c .before .before .before .before .before .args in
-    let h = c .before .before .hear .ensures in
-    let s = c .before .before .before .before .before .pre .0 .sound in (
-      box-carries (c .before .before .hear .result .next) (a .r) (subst Sound (sym (h .next)) (answer-sound (a .r .controller) (now (a .line)) s)) (c .before .before .before .before .before .pre .0),
-      subst Writable (sym (h .heard)) (heard-writable (a .r .controller) (now (a .line)) s),
-      c .before .before .before .before .before .pre .1,
-    )
+heard-requires : tie.Need-heard-requires
+heard-requires c κs = c .before .before .before .before .before .before .before .before .before .before .before .before .before .pre .0 .runs
 
 same-length : tie.Need-same-length
 same-length c = search needs
 
+same-length-2 : tie.Need-same-length-2
+same-length-2 c = search needs
+
+same-length-3 : tie.Need-same-length-3
+same-length-3 c = search needs
+
 returns : tie.Need-returns
-unfolding recorded withBox
 returns c =
-    let a = c .before .before .before .before .before .before .before .before .args in
-    let h = c .before .before .before .before .before .hear .ensures in
-    writes-as
-    (sym
-    (ap (λ (d : Controller). heardBy (withBox d (a .r)) (c .before .before .before .before .before .hear .result .heard)) (h .next)
-    ∙ ap (heardBy (withBox (answerTo (a .r .controller) (now (a .line)) .next) (a .r))) (h .heard)))
-    (c .before .before .by-heard .ensures)
+    let a = c .before .before .before .before .before .before .before .before .before .before .before .before .before .before .before .before .before .args in
+    let p = c .before .before .before .before .before .before .before .before .before .before .before .before .before .before .before .before .before .pre in
+    let h = c .before .before .before .before .before .before .before .before .before .before .hear .ensures in
+    let writable = subst Writable (sym (h .heard)) (heard-writable (a .r .controller) (callOf (now (a .line))) (p .0 .sound)) in
+    record { box = h .next; writes = writes-as (ap (heardBy (a .r .clock)) (sym (h .heard))) (marks-writes (p .1 .1 .2) writable (c .before .before .before .heard .ensures)) }
 
 pub recorded-spec : {M : Type 1} → statement M
-recorded-spec = tie.close (tie.spec hear-requires by-heard-requires same-length returns)
+recorded-spec =
+    tie.close
+    (tie.spec hear-requires heard-requires same-length same-length-2 same-length-3 returns)

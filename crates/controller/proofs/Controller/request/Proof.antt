@@ -3,302 +3,274 @@ use mathlib.Core.Path.{_≡_, refl, sym, ap, _∙_}
 use mathlib.Core.List.{List}
 use Prim.Native.Nat.{ℕ}
 use borrow.Author.Needs.{needs}
-use lib.Seq.{length-take-le}
 use Rattle.paper.specs.Answer.{done}
 use Rattle.message.specs.declared.Parts.{Parts}
-use Rattle.controller.specs.Line.{Asked, askedOf, replyFrame}
+use Rattle.asking.specs.Asking.{askedBy, heardOf, addressOf, codeOf}
+use Rattle.asking.specs.Says.{saysHeard, saysAddressed, saysCoded}
+use Rattle.controller.specs.Calls.{isReady}
+use Rattle.controller.specs.Line.{timely, timeOf, mayZero, askedOf}
 use Rattle.controller.specs.Says.{saysReply}
-use Rattle.controller.specs.Stages.{addressedBy, codedBy, timedBy, zeroingBy, stagesOf}
+use Rattle.controller.specs.Stages.{saysTimed, saysZeroing, Times, Zeroes}
 use Rattle.controller.specs.declared.Controller.{Controller}
-use Rattle.controller.specs.declared.line.Addressed.the-variants as A
-use Rattle.controller.specs.declared.line.Coded.the-variants as C
-use Rattle.controller.specs.declared.line.Timed.the-variants as T
-use Rattle.controller.proofs.Lines.{Finds, found-body, not-unsplit, split-parts, askedBy, by-stages, ours-true, refuses, unread-refuses, no-room, sends}
+use Rattle.controller.proofs.Lines.{not-ours, not-known, not-timed, not-zeroable, is-asked, framed, refuses, unheard-refuses, no-room, sends}
 use Rattle.controller.proofs.Controller.request.Statement.{statement}
 use Rattle.controller.proofs.Controller.request.Tie as tie
 
 -- ---- what each place knows
 
-abbrev start : tie.After-found → tie.Start
+abbrev start : tie.After-heard → tie.Start
 start c = c .before .before .before .before .before
 
-abbrev place : tie.After-found → ℕ
-place c = c .found .given .0 .0
+abbrev self : tie.After-heard → Controller
+self c = start c .args .self
 
-found : (c : tie.After-found) → Finds (start c .args .bytes .now) (c .before .before .read-frame .result .body) (place c) (c .found .given .0 .1 .0)
-found c = let r = c .before .before .read-frame in found-body _ (r .result) (r .ensures) (c .found .given .1)
+abbrev bytes : tie.After-heard → List ℕ
+bytes c = start c .args .bytes .now
 
-abbrev finds : tie.After-parts → tie.After-found
-finds c = c .before .before .before .before .before .before
+abbrev place : tie.After-heard → ℕ
+place c = c .heard .given .0 .0
 
-abbrev self : tie.After-parts → Controller
-self c = start (finds c) .args .self
+abbrev parts : tie.After-heard → Parts
+parts c = c .heard .given .0 .1 .0
 
-abbrev bytes : tie.After-parts → List ℕ
-bytes c = start (finds c) .args .bytes .now
+heard : (c : tie.After-heard) → done (place c, parts c) ≡ heardOf (bytes c)
+heard c = sym (ap saysHeard (c .heard .given .1)) ∙ c .before .before .hear .ensures
 
-abbrev parts : tie.After-parts → Parts
-parts c = c .parts .given .0 .0
+abbrev at-ours : tie.After-enum-told → tie.After-heard
+at-ours c = c .before .before .before .before
 
-abbrev asked : tie.After-parts → Asked
-asked c = askedBy (place (finds c)) (parts c)
+ours : (c : tie.After-enum-told) → let h = at-ours c in done tt ≡ addressOf (place h) (parts h .form) (self h .set .address) (self h .set .serial)
+ours c = sym (ap saysAddressed (c .enum-told .given .1)) ∙ c .before .before .address-stage .ensures
 
-staged : (c : tie.After-parts)
-    → askedOf (self c) (bytes c)
-    ≡ stagesOf (asked c) (addressedBy (self c .set) (parts c)) (codedBy (parts c)) (timedBy (self c) (parts c .operation)) (zeroingBy (self c) (parts c .operation))
-staged c = by-stages (self c) (found (finds c)) (split-parts (found (finds c)) (c .before .before .split-body .ensures) (c .parts .given .1))
+abbrev at-known : tie.After-enum-told3 → tie.After-enum-told
+at-known c = c .before .before .before
 
-abbrev at-addressed : tie.After-enum-told2 → tie.After-parts
-at-addressed c = c .before .before .before .before
+known : (c : tie.After-enum-told3) → let h = at-ours (at-known c) in done tt ≡ codeOf (place h) (parts h)
+known c = sym (ap saysCoded (c .enum-told3 .given .1)) ∙ c .before .before .code-stage .ensures
 
-is-ours : (c : tie.After-enum-told2) → addressedBy (self (at-addressed c) .set) (parts (at-addressed c)) ≡ A.Ours
-is-ours c = sym (c .before .before .address-stage .ensures) ∙ c .enum-told2 .given .1
+-- what the stage of R3 says of the controller
+times : (c : tie.After-ready-stage) → let h = at-ours (at-known (c .before .before .before)) in Times (place h) (timely (parts h .operation) (isReady (self h))) (c .ready-stage .result)
+times c = rw (c .before .before .is-timely .ensures) at (c .ready-stage .ensures)
 
-abbrev at-coded : tie.After-enum-told4 → tie.After-parts
-at-coded c = at-addressed (c .before .before .before)
+-- what the stage of R4 says of the samples
+zeroes : (c : tie.After-zero-stage) → let r = c .before .before .before in let h = at-ours (at-known (r .before .before .before)) in Zeroes (place h) (mayZero (parts h .operation) (self h .set) (self h .window)) (c .zero-stage .result)
+zeroes c = rw (c .before .before .before .before .may-zero .ensures) at (c .zero-stage .ensures)
 
-is-known : (c : tie.After-enum-told4) → codedBy (parts (at-coded c)) ≡ C.Known
-is-known c = sym (c .before .before .code-stage .ensures) ∙ c .enum-told4 .given .1
+abbrev at-timed : tie.After-enum-told5 → tie.After-enum-told3
+at-timed c = c .before .before .before .before .before
 
-abbrev at-timed : tie.After-enum-told6 → tie.After-parts
-at-timed c = at-coded (c .before .before .before)
+timed : (c : tie.After-enum-told5) → let h = at-ours (at-known (at-timed c)) in done tt ≡ timeOf (place h) (timely (parts h .operation) (isReady (self h)))
+timed c = sym (ap saysTimed (c .enum-told5 .given .1)) ∙ times (c .before .before)
 
-in-time : (c : tie.After-enum-told6) → timedBy (self (at-timed c)) (parts (at-timed c) .operation) ≡ T.Allowed
-in-time c = sym (c .before .before .ready-stage .ensures) ∙ c .enum-told6 .given .1
+abbrev at-zeroing : tie.After-enum-told7 → tie.After-enum-told5
+at-zeroing c = c .before .before .before
 
-abbrev at-zeroing : tie.After-enum-told8 → tie.After-parts
-at-zeroing c = at-timed (c .before .before .before)
+abbrev at-ends : tie.After-enum-told7 → tie.After-enum-told
+at-ends c = at-known (at-timed (at-zeroing c))
+
+abbrev ends : tie.After-enum-told7 → tie.After-heard
+ends c = at-ours (at-ends c)
 
 -- no stage refuses
-is-asked : (c : tie.After-enum-told8) → askedOf (self (at-zeroing c)) (bytes (at-zeroing c)) ≡ done (asked (at-zeroing c))
-unfolding stagesOf
-is-asked c =
-    let t = c .before .before .before in
-    let k = t .before .before .before in
-    staged (at-zeroing c)
-    ∙ rw (is-ours (k .before .before .before), is-known k, in-time t, sym (c .before .before .zero-stage .ensures) ∙ c .enum-told8 .given .1)
+asked : (c : tie.After-enum-told7) → askedOf (self (ends c)) (bytes (ends c)) ≡ done (askedBy (place (ends c)) (parts (ends c)))
+asked c =
+    let t = at-zeroing c in
+    let k = at-timed t in
+    is-asked _ _ (heard (ends c)) (ours (at-known k)) (known k) (timed t)
+    (sym (ap saysZeroing (c .enum-told7 .given .1)) ∙ zeroes (c .before .before))
+
+abbrev at-written : tie.After-write-reply → tie.After-enum-told7
+at-written c = c .before .before .before .before
 
 -- ---- the needs
 
-read-frame-requires : tie.Need-read-frame-requires
-read-frame-requires c κs = search needs
+hear-requires : tie.Need-hear-requires
+hear-requires c κs = tt
 
-enum-known-found : tie.Need-enum-known-found
-enum-known-found c = search needs
+enum-known-heard : tie.Need-enum-known-heard
+enum-known-heard c = search needs
 
 unread-requires : tie.Need-unread-requires
-unread-requires c κs = search needs
+unread-requires c κs = tt
 
 refused-requires : tie.Need-refused-requires
-refused-requires c κs = search needs
+refused-requires c κs = tt
 
 -- R9, R6
 returns : tie.Need-returns
 returns c =
-    let r = c .before .before .before in
-    let p = r .before .before .before in
-    unread-refuses _ _ _ (p .pre) (r .read-frame .result .found) (c .before .before .match .keys2) (r .read-frame .ensures .says)
+    let h = c .before .before .before in
+    unheard-refuses _ _ _ (h .before .before .before .pre) (h .hear .result) (c .before .before .match .keys2) (h .hear .ensures)
     (c .refused .ensures .0) (c .refused .ensures .1 ∙ c .before .unread .ensures)
 
-array-share-prefix-body : tie.Need-array-share-prefix-body
-array-share-prefix-body c = found (c .before .before) .fits
-
-slice-aggregate-split-body : tie.Need-slice-aggregate-split-body
-slice-aggregate-split-body c = sym (length-take-le _ _ (found (c .before .before .before) .fits))
-
-split-body-requires : tie.Need-split-body-requires
-split-body-requires c κs = search needs
-
-enum-known-parts : tie.Need-enum-known-parts
-enum-known-parts c = search needs
+address-stage-requires : tie.Need-address-stage-requires
+address-stage-requires c κs = tt
 
 enum-told : tie.Need-enum-told
 enum-told c = search needs
 
-refused-requires-2 : tie.Need-refused-requires-2
-refused-requires-2 c κs = search needs
-
--- a body that the reader found is never too short
-returns-2 : tie.Need-returns-2
-returns-2 c =
-    let b = c .before .before .before in
-    not-unsplit (found (b .before .before .before .before)) (b .split-body .ensures) (c .before .enum-told .given .1)
-
-address-stage-requires : tie.Need-address-stage-requires
-address-stage-requires c κs = search needs
-
 enum-told-2 : tie.Need-enum-told-2
 enum-told-2 c = search needs
+
+refused-requires-2 : tie.Need-refused-requires-2
+refused-requires-2 c κs = tt
+
+-- R5
+returns-2 : tie.Need-returns-2
+returns-2 c =
+    let a = c .before .before .before in
+    let h = a .before .before in
+    refuses _ _ _ (start h .pre)
+    (not-ours _ _ (heard h) (a .address-stage .result) (c .before .before .match2 .keys2) (a .address-stage .ensures))
+    (c .refused2 .ensures .0) (ap saysReply (c .refused2 .ensures .1))
+
+code-stage-requires : tie.Need-code-stage-requires
+code-stage-requires c κs = tt
 
 enum-told-3 : tie.Need-enum-told-3
 enum-told-3 c = search needs
 
-refused-requires-3 : tie.Need-refused-requires-3
-refused-requires-3 c κs = search needs
-
--- R5
-returns-3 : tie.Need-returns-3
-unfolding stagesOf
-returns-3 c =
-    let a = c .before .before .before in
-    let p = a .before .before in
-    refuses _ _ _ (start (finds p) .pre)
-    (staged p ∙ rw (sym (a .address-stage .ensures) ∙ c .before .enum-told3 .given .1))
-    (c .refused3 .ensures .0) (ap saysReply (c .refused3 .ensures .1))
-
-code-stage-requires : tie.Need-code-stage-requires
-code-stage-requires c κs = search needs
-
 enum-told-4 : tie.Need-enum-told-4
 enum-told-4 c = search needs
+
+refused-requires-3 : tie.Need-refused-requires-3
+refused-requires-3 c κs = tt
+
+-- R7
+returns-3 : tie.Need-returns-3
+returns-3 c =
+    let a = c .before .before .before in
+    let h = at-ours (a .before) in
+    refuses _ _ _ (start h .pre)
+    (not-known _ _ (heard h) (ours (a .before)) (a .code-stage .result) (c .before .before .match3 .keys2) (a .code-stage .ensures))
+    (c .refused3 .ensures .0) (ap saysReply (c .refused3 .ensures .1))
+
+is-timely-requires : tie.Need-is-timely-requires
+is-timely-requires c κs = tt
+
+may-zero-requires : tie.Need-may-zero-requires
+may-zero-requires c κs = tt
+
+ready-stage-requires : tie.Need-ready-stage-requires
+ready-stage-requires c κs = tt
 
 enum-told-5 : tie.Need-enum-told-5
 enum-told-5 c = search needs
 
-refused-requires-4 : tie.Need-refused-requires-4
-refused-requires-4 c κs = search needs
-
--- R7
-returns-4 : tie.Need-returns-4
-unfolding stagesOf
-returns-4 c =
-    let a = c .before .before .before in
-    let p = at-addressed (a .before) in
-    refuses _ _ _ (start (finds p) .pre)
-    (staged p ∙ rw (is-ours (a .before), sym (a .code-stage .ensures) ∙ c .before .enum-told5 .given .1))
-    (c .refused4 .ensures .0) (ap saysReply (c .refused4 .ensures .1))
-
-ready-stage-requires : tie.Need-ready-stage-requires
-ready-stage-requires c κs = search needs
-
 enum-told-6 : tie.Need-enum-told-6
 enum-told-6 c = search needs
+
+refused-requires-4 : tie.Need-refused-requires-4
+refused-requires-4 c κs = tt
+
+-- R3
+returns-4 : tie.Need-returns-4
+returns-4 c =
+    let a = c .before .before .before in
+    let k = a .before .before .before in
+    let h = at-ours (at-known k) in
+    refuses _ _ _ (start h .pre)
+    (not-timed _ _ (heard h) (ours (at-known k)) (known k) (a .ready-stage .result) (c .before .before .match4 .keys2) (times a))
+    (c .refused4 .ensures .0) (ap saysReply (c .refused4 .ensures .1))
+
+zero-stage-requires : tie.Need-zero-stage-requires
+zero-stage-requires c κs = tt
 
 enum-told-7 : tie.Need-enum-told-7
 enum-told-7 c = search needs
 
-refused-requires-5 : tie.Need-refused-requires-5
-refused-requires-5 c κs = search needs
-
--- R3
-returns-5 : tie.Need-returns-5
-unfolding stagesOf
-returns-5 c =
-    let a = c .before .before .before in
-    let k = a .before in
-    let p = at-coded k in
-    refuses _ _ _ (start (finds p) .pre)
-    (staged p ∙ rw (is-ours (k .before .before .before), is-known k, sym (a .ready-stage .ensures) ∙ c .before .enum-told7 .given .1))
-    (c .refused5 .ensures .0) (ap saysReply (c .refused5 .ensures .1))
-
-zero-stage-requires : tie.Need-zero-stage-requires
-zero-stage-requires c κs = search needs
-
 enum-told-8 : tie.Need-enum-told-8
 enum-told-8 c = search needs
 
-enum-told-9 : tie.Need-enum-told-9
-enum-told-9 c = search needs
-
-refused-requires-6 : tie.Need-refused-requires-6
-refused-requires-6 c κs = search needs
+refused-requires-5 : tie.Need-refused-requires-5
+refused-requires-5 c κs = tt
 
 -- R4
-returns-6 : tie.Need-returns-6
-unfolding stagesOf
-returns-6 c =
+returns-5 : tie.Need-returns-5
+returns-5 c =
     let a = c .before .before .before in
     let t = a .before in
-    let k = t .before .before .before in
-    let p = at-timed t in
-    refuses _ _ _ (start (finds p) .pre)
-    (staged p ∙ rw (is-ours (k .before .before .before), is-known k, in-time t, sym (a .zero-stage .ensures) ∙ c .before .enum-told9 .given .1))
-    (c .refused6 .ensures .0) (ap saysReply (c .refused6 .ensures .1))
+    let k = at-timed t in
+    let h = at-ours (at-known k) in
+    refuses _ _ _ (start h .pre)
+    (not-zeroable _ _ (heard h) (ours (at-known k)) (known k) (timed t) (a .zero-stage .result) (c .before .before .match5 .keys2) (zeroes a))
+    (c .refused5 .ensures .0) (ap saysReply (c .refused5 .ensures .1))
 
 zeroed-by-requires : tie.Need-zeroed-by-requires
-zeroed-by-requires c κs = search needs
+zeroed-by-requires c κs = tt
+
+reply-of-requires : tie.Need-reply-of-requires
+reply-of-requires c κs = start (ends (c .before)) .pre
 
 write-reply-requires : tie.Need-write-reply-requires
-write-reply-requires c κs =
-    let z = c .before .before in
-    let p = at-zeroing z in
-    record {
-      sound = start (finds p) .pre;
-      addressed = ours-true _ (parts p) (is-ours (z .before .before .before .before .before .before .before .before .before));
-    }
+write-reply-requires c κs = tt
 
-enum-known-sent : tie.Need-enum-known-sent
-enum-known-sent c = search needs
+enum-known-len : tie.Need-enum-known-len
+enum-known-len c = search needs
 
-refused-requires-7 : tie.Need-refused-requires-7
-refused-requires-7 c κs = search needs
+refused-requires-6 : tie.Need-refused-requires-6
+refused-requires-6 c κs = tt
 
 same-length : tie.Need-same-length
 same-length c = search needs
 
 -- R8
-returns-7 : tie.Need-returns-7
-unfolding replyFrame
-returns-7 c =
+returns-6 : tie.Need-returns-6
+returns-6 c =
     let w = c .before .before .before .before in
-    let z = w .before .before .before in
-    no-room _ _ _ (start (finds (at-zeroing z)) .pre) (w .write-reply .result) (is-asked z) (w .write-reply .ensures)
-    (c .before .match7 .keys2) (c .refused7 .ensures .0) (ap saysReply (c .refused7 .ensures .1))
+    let z = at-written w in
+    no-room _ _ _ (start (ends z) .pre) (w .write-reply .result) (asked z)
+    (framed _ _ _ _ (w .before .before .reply-of .result) (w .write-reply .result) (start (ends z) .pre) (ours (at-ends z)) (w .before .before .reply-of .ensures) (w .write-reply .ensures))
+    (c .before .match6 .keys2) (c .refused6 .ensures .0) (ap saysReply (c .refused6 .ensures .1))
 
 same-length-2 : tie.Need-same-length-2
 same-length-2 c = search needs
 
-returns-8 : tie.Need-returns-8
-unfolding replyFrame
-returns-8 c =
-    let s = c .before in
-    let w = s .before .before .before .before in
-    let d = w .before .before in
-    let z = d .before in
-    sends _ _ _ (start (finds (at-zeroing z)) .pre) (w .write-reply .result) (is-asked z) (w .write-reply .ensures)
-    (s .sent .given .1) (d .zeroed-by .ensures) refl
+returns-7 : tie.Need-returns-7
+returns-7 c =
+    let w = c .before .before .before .before .before in
+    let z = at-written w in
+    sends _ _ _ (start (ends z) .pre) (w .write-reply .result) (asked z)
+    (framed _ _ _ _ (w .before .before .reply-of .result) (w .write-reply .result) (start (ends z) .pre) (ours (at-ends z)) (w .before .before .reply-of .ensures) (w .write-reply .ensures))
+    (c .before .len .given .1) (w .before .before .before .zeroed-by .ensures) refl
 
 pub request-spec : {M : Type 1} → statement M
 request-spec =
     tie.close
     (tie.spec
-    read-frame-requires
-    enum-known-found
+    hear-requires
+    enum-known-heard
     unread-requires
     refused-requires
     returns
-    array-share-prefix-body
-    slice-aggregate-split-body
-    split-body-requires
-    enum-known-parts
+    address-stage-requires
     enum-told
+    enum-told-2
     refused-requires-2
     returns-2
-    address-stage-requires
-    enum-told-2
+    code-stage-requires
     enum-told-3
+    enum-told-4
     refused-requires-3
     returns-3
-    code-stage-requires
-    enum-told-4
+    is-timely-requires
+    may-zero-requires
+    ready-stage-requires
     enum-told-5
+    enum-told-6
     refused-requires-4
     returns-4
-    ready-stage-requires
-    enum-told-6
+    zero-stage-requires
     enum-told-7
+    enum-told-8
     refused-requires-5
     returns-5
-    zero-stage-requires
-    enum-told-8
-    enum-told-9
-    refused-requires-6
-    returns-6
     zeroed-by-requires
+    reply-of-requires
     write-reply-requires
-    enum-known-sent
-    refused-requires-7
+    enum-known-len
+    refused-requires-6
     same-length
-    returns-7
+    returns-6
     same-length-2
-    returns-8)
+    returns-7)

@@ -1,7 +1,6 @@
 use mathlib.Core.Path.{_≡_}
 use mathlib.Core.Bool.{true, false}
 use borrow.Author.Tests.{not-true, not-false}
-use borrow.Author.Needs.{needs}
 use Rattle.laws.specs.Pick.{pick, so}
 use Rattle.controller.specs.Calls.{isReady, resetOf, resetAnswer, after}
 use Rattle.controller.proofs.Contracts.{resets}
@@ -9,17 +8,17 @@ use Rattle.controller.proofs.Controller.reset.Statement.{statement}
 use Rattle.controller.proofs.Controller.reset.Tie as tie
 
 is-ready-requires : tie.Need-is-ready-requires
-is-ready-requires c κs = search needs
+is-ready-requires c κs = tt
 
 returns : tie.Need-returns
-unfolding resetOf resetAnswer after pick
+unfolding isReady resetOf resetAnswer after pick
 returns c =
     let p = c .before .before in
     let e : isReady (p .args .self) ≡ false = so (c .before .is-ready .ensures) (not-true _ (c .if1 .taken)) in
     resets (p .args .self) (p .pre) (rw e) (rw e)
 
 returns-2 : tie.Need-returns-2
-unfolding resetOf resetAnswer after pick
+unfolding isReady resetOf resetAnswer after pick
 returns-2 c =
     let p = c .before .before in
     let e : isReady (p .args .self) ≡ true = so (c .before .is-ready .ensures) (not-false _ (c .if1 .left)) in

@@ -1,67 +1,55 @@
-use mathlib.Core.Path.{sym, ap, _∙_}
+use mathlib.Core.Path.{_≡_, sym, ap, _∙_}
 use borrow.Author.Needs.{needs}
-use Rattle.laws.specs.Pick.{pick}
-use Rattle.paper.specs.Answer.{onDone, told}
-use Rattle.settings.specs.Says.{says}
-use Rattle.controller.specs.Calls.{storedBad, restartOf, controllerIn}
-use Rattle.controller.proofs.Contracts.{restarts}
+use Rattle.paper.specs.Answer.{told}
+use Rattle.controller.specs.Calls.{restartOf}
+use Rattle.controller.specs.Says.{saysRestart, noValue}
+use Rattle.controller.proofs.Contracts.{restarts, restart-says, restart-made, not-made}
 use Rattle.controller.proofs.Controller.restart.Statement.{statement}
 use Rattle.controller.proofs.Controller.restart.Tie as tie
 
 check-requires : tie.Need-check-requires
-check-requires c κs = search needs
+check-requires c κs = tt
 
-enum-known-checked : tie.Need-enum-known-checked
-enum-known-checked c = search needs
-
-no-controller-requires : tie.Need-no-controller-requires
-no-controller-requires c κs = search needs
-
-returns : tie.Need-returns
-unfolding restartOf onDone told controllerIn
-returns c =
-    let k = c .before .before .before .before in
-    let a = k .before .args in
-    let bad = sym (k .check .ensures) ∙ ap says (c .before .before .checked .given .1) in
-    restarts (a .set) (a .count) (a .total) (rw bad (c .no-controller .ensures)) (rw bad)
+restart-answer-requires : tie.Need-restart-answer-requires
+restart-answer-requires c κs = tt
 
 enum-told : tie.Need-enum-told
 enum-told c = search needs
 
-no-controller-requires-2 : tie.Need-no-controller-requires-2
-no-controller-requires-2 c κs = search needs
+restarted-requires : tie.Need-restarted-requires
+restarted-requires c κs = tt
+
+-- what the answer says
+says : (c : tie.After-restart-answer) → let a = c .before .before .args in saysRestart (c .restart-answer .result) ≡ told noValue (restartOf (a .set) (a .count) (a .total))
+says c = restart-says _ _ _ (c .before .check .ensures) (c .restart-answer .result) (c .restart-answer .ensures)
+
+returns : tie.Need-returns
+returns c =
+    let k = c .before .before .before in
+    let a = k .before .before .args in
+    restarts (a .set) (a .count) (a .total)
+    (c .restarted .ensures ∙ restart-made _ _ _ (k .before .check .ensures) (k .restart-answer .result) (k .restart-answer .ensures) (c .before .enum-told .given .1))
+    (says k)
+
+no-controller-requires : tie.Need-no-controller-requires
+no-controller-requires c κs = tt
 
 returns-2 : tie.Need-returns-2
-unfolding restartOf storedBad onDone told controllerIn pick
 returns-2 c =
-    let k = c .before .before .before .before in
-    let a = k .before .args in
-    let good = sym (k .check .ensures) ∙ ap says (c .before .before .enum-told .given .1) in
-    let bad = c .before .if1 .taken in
-    restarts (a .set) (a .count) (a .total) (rw (good, bad) (c .no-controller2 .ensures)) (rw (good, bad))
-
-restarted-requires : tie.Need-restarted-requires
-restarted-requires c κs = search needs
-
-returns-3 : tie.Need-returns-3
-unfolding restartOf storedBad onDone told controllerIn pick
-returns-3 c =
-    let k = c .before .before .before .before in
-    let a = k .before .args in
-    let good = sym (k .check .ensures) ∙ ap says (c .before .before .enum-told .given .1) in
-    let kept = c .before .if1 .left in
-    restarts (a .set) (a .count) (a .total) (rw (good, kept) (c .restarted .ensures)) (rw (good, kept))
+    let k = c .before .before in
+    let a = k .before .before .args in
+    restarts (a .set) (a .count) (a .total)
+    (c .no-controller .ensures ∙ not-made _ _ _ (k .restart-answer .result) (c .before .match .keys2) (says k))
+    (says k)
 
 pub restart-spec : {M : Type 1} → statement M
 restart-spec =
     tie.close
     (tie.spec
     check-requires
-    enum-known-checked
-    no-controller-requires
-    returns
+    restart-answer-requires
     enum-told
-    no-controller-requires-2
-    returns-2
     restarted-requires
-    returns-3)
+    returns
+    no-controller-requires
+    returns-2)

@@ -1,30 +1,30 @@
 use borrow.Author.Needs.{needs}
-use Rattle.controller.specs.Stages.{unreadOf}
+use Rattle.controller.specs.Stages.{unheard}
 use Rattle.controller.proofs.line.unread.Statement.{statement}
 use Rattle.controller.proofs.line.unread.Tie as tie
 
-enum-known-found : tie.Need-enum-known-found
-enum-known-found c = search needs
+enum-known-heard : tie.Need-enum-known-heard
+enum-known-heard c = search needs
 
-enum-known-found-2 : tie.Need-enum-known-found-2
-enum-known-found-2 c = search needs
+enum-known-heard-2 : tie.Need-enum-known-heard-2
+enum-known-heard-2 c = search needs
 
-enum-known-found-3 : tie.Need-enum-known-found-3
-enum-known-found-3 c = search needs
+enum-known-heard-3 : tie.Need-enum-known-heard-3
+enum-known-heard-3 c = search needs
 
 returns : tie.Need-returns
-unfolding unreadOf
-returns c = rw (c .before .found .given .1)
+unfolding unheard
+returns c = rw (c .before .heard .given .1)
 
 returns-2 : tie.Need-returns-2
-unfolding unreadOf
-returns-2 c = rw (c .before .found2 .given .1)
+unfolding unheard
+returns-2 c = rw (c .before .heard2 .given .1)
 
 returns-3 : tie.Need-returns-3
-unfolding unreadOf
-returns-3 c = rw (c .before .found3 .given .1)
+unfolding unheard
+returns-3 c = rw (c .before .heard3 .given .1)
 
 pub unread-spec : {M : Type 1} → statement M
 unread-spec =
     tie.close
-    (tie.spec enum-known-found enum-known-found-2 enum-known-found-3 returns returns-2 returns-3)
+    (tie.spec enum-known-heard enum-known-heard-2 enum-known-heard-3 returns returns-2 returns-3)

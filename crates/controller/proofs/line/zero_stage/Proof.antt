@@ -1,43 +1,15 @@
-use mathlib.Core.Path.{_≡_, _∙_}
-use mathlib.Core.Bool.{not, _&&_}
-use lib.Dec.{leb, eqb}
-use borrow.Author.Needs.{needs}
-use borrow.Author.Tests.{eq-eqb, ne-eqb}
 use Rattle.laws.specs.Pick.{pick-true, pick-false}
-use Rattle.controller.specs.Line.{zeroable}
-use Rattle.controller.specs.Stages.{zeroingBy}
-use Rattle.controller.specs.declared.Controller.{Controller}
-use Rattle.controller.proofs.Lines.{zeroable-by}
+use Rattle.controller.specs.Line.{zeroOf}
 use Rattle.controller.proofs.line.zero_stage.Statement.{statement}
 use Rattle.controller.proofs.line.zero_stage.Tie as tie
 
 returns : tie.Need-returns
-unfolding zeroingBy
-returns c = simp (ne-eqb _ _ (c .if1 .taken), pick-false)
-
-mean-of-requires : tie.Need-mean-of-requires
-mean-of-requires c κs = search needs
-
-near-zero-requires : tie.Need-near-zero-requires
-near-zero-requires c κs = search needs
-
-abbrev of : tie.After-near-zero → Controller
-of c = c .before .before .before .args .c
-
-zeroable-is : (c : tie.After-near-zero) → zeroable (of c) ≡ (leb (of c .set .algorithm) 1 && not (eqb (of c .window .held) 0) && c .near-zero .result)
-zeroable-is c = zeroable-by (of c) (c .before .before .before .pre .places) (c .before .mean-of .ensures) (c .near-zero .ensures)
+unfolding zeroOf
+returns c = simp (c .if1 .taken, pick-true)
 
 returns-2 : tie.Need-returns-2
-unfolding zeroingBy
-returns-2 c =
-    let n = c .before .before .before in
-    simp (eq-eqb _ _ (n .before .before .if1 .left), zeroable-is n ∙ c .if2 .taken, pick-true)
-
-returns-3 : tie.Need-returns-3
-unfolding zeroingBy
-returns-3 c =
-    let n = c .before .before .before in
-    simp (eq-eqb _ _ (n .before .before .if1 .left), zeroable-is n ∙ c .if2 .left, pick-true, pick-false)
+unfolding zeroOf
+returns-2 c = simp (c .if1 .left, pick-false)
 
 pub zero-stage-spec : {M : Type 1} → statement M
-zero-stage-spec = tie.close (tie.spec returns mean-of-requires near-zero-requires returns-2 returns-3)
+zero-stage-spec = tie.close (tie.spec returns returns-2)

@@ -5,7 +5,7 @@ use mir.Val.{SFits}
 use mir.Facts.{toZ-ofZ}
 use borrow.Author.Needs.{needs}
 use Rattle.window.specs.Window.{pushOf}
-use Rattle.controller.proofs.Steps.{kept-first, runs-short, mean-weighs}
+use Rattle.controller.proofs.Steps.{kept-first, mean-small}
 use Rattle.controller.proofs.tick.steps4and5.Statement.{statement}
 use Rattle.controller.proofs.tick.steps4and5.Tie as tie
 
@@ -13,32 +13,30 @@ told : (c : tie.After-struct-told) → SFits w32 (c .before .args .x .v)
 told c = search needs
 
 push-requires : tie.Need-push-requires
-push-requires c κs = search needs
+push-requires c κs = tt
 
 -- the sample is kept
 kept : (c : tie.After-push) → c .push .result ≡ pushOf (c .before .before .args .c .window) (c .before .before .args .x .v)
 kept c = c .push .ensures ∙ ap (λ (z : ℤ). pushOf (c .before .before .args .c .window) z) (toZ-ofZ (told (c .before)))
 
 filter-of-requires : tie.Need-filter-of-requires
-filter-of-requires c κs = search needs
+filter-of-requires c κs = tt
 
 mean-of-requires : tie.Need-mean-of-requires
-mean-of-requires c κs = search needs
+mean-of-requires c κs = tt
 
 calm-run-requires : tie.Need-calm-run-requires
-calm-run-requires c κs = search needs
+calm-run-requires c κs = tt
 
 start-of-requires : tie.Need-start-of-requires
-start-of-requires c κs = search needs
+start-of-requires c κs = tt
 
 steps6to8-requires : tie.Need-steps6to8-requires
 steps6to8-requires c κs =
     let m = c .before .before .before in
     let k = m .before .before in
-    let d = k .before .before in (
-      runs-short _ (d .pre .sound) (d .pre .clear),
-      mean-weighs (d .args .c) _ _ (m .before .filter-of .result) (d .pre .sound) (d .pre .inside) (kept k) (m .mean-of .ensures),
-    )
+    let d = k .before .before in
+    mean-small (d .args .c) _ (m .before .filter-of .result) (d .pre .sound) (d .pre .inside) (kept k) (m .mean-of .ensures)
 
 returns : tie.Need-returns
 returns c =

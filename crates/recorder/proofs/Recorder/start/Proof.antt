@@ -1,11 +1,9 @@
-use mathlib.Core.Path.{_≡_, sym, ap}
-use mathlib.Core.Path.{subst}
-use mathlib.Core.Bool.{true}
+use mathlib.Core.Path.{sym, ap₂, subst}
 use Rattle.controller.specs.declared.Controller.{Controller}
+use Rattle.clock.specs.declared.Clock.{Clock}
 use Rattle.recorder.specs.Recording.{startOf, Carries}
 use Rattle.recorder.specs.Keeps.{start-carries}
 use Rattle.recorder.specs.declared.Recorder.{Recorder}
-use Rattle.recorder.specs.declared.Stage.the-variants.{First}
 use borrow.Author.Needs.{needs}
 use Rattle.recorder.proofs.Recorder.start.Statement.{statement}
 use Rattle.recorder.proofs.Recorder.start.Tie as tie
@@ -13,15 +11,14 @@ use Rattle.recorder.proofs.Recorder.start.Tie as tie
 fresh-requires : tie.Need-fresh-requires
 fresh-requires c κs = search needs
 
-is : (c : tie.After-fresh) → record { controller = c .fresh .result; stage = First; hour = 0; ticks = 0; whole = true } ≡ startOf
-unfolding startOf
-is c = ap with-fresh (c .fresh .ensures .is)
-  where
-    with-fresh : Controller → Recorder
-    with-fresh d = record { controller = d; stage = First; hour = 0; ticks = 0; whole = true }
+start-requires : tie.Need-start-requires
+start-requires c κs = search needs
 
 returns : tie.Need-returns
-returns c = record { is = is c; carries = subst Carries (sym (is c)) start-carries }
+unfolding startOf
+returns c =
+    let is = ap₂ {C = Recorder} (λ (b : Controller) (k : Clock). record { controller = b; clock = k }) (c .before .fresh .ensures .is) (c .start .ensures .is) in
+    record { is = is; carries = subst Carries (sym is) start-carries }
 
 pub start-spec : {M : Type 1} → statement M
-start-spec = tie.close (tie.spec fresh-requires returns)
+start-spec = tie.close (tie.spec fresh-requires start-requires returns)

@@ -11,7 +11,7 @@ use mir.Val.{toZ, ofZ, SFits}
 use mir.Facts.{toZ-ofZ}
 use Rattle.window.specs.declared.Window.{Window}
 use Rattle.window.specs.Mean.{meanOf, roundAway}
-use Rattle.window.specs.Window.{samplesOf}
+use Rattle.window.specs.Window.{places, samplesOf}
 use Rattle.window.specs.Range.{Total}
 use Rattle.window.specs.Laws.{mean-fits}
 use Rattle.window.proofs.Sum.{total-size, take-least, mean-none, mean-some}
@@ -19,7 +19,7 @@ use Rattle.window.proofs.Window.mean.Statement.{statement}
 use Rattle.window.proofs.Window.mean.Tie as tie
 
 -- the mean asked for is that of the array's first k samples
-module _ (w : Window) (n k : ℕ) (e : length (w .samples) ≡ 128) (m : k ≡ min n (min (w .held) 128)) where
+module _ (w : Window) (n k : ℕ) (e : length (w .samples) ≡ places) (m : k ≡ min n (min (w .held) places)) where
   first : take n (samplesOf w) ≡ take k (w .samples)
   unfolding samplesOf
   first = take-least n (w .held) (w .samples) ∙ rw (e, m) refl
@@ -31,7 +31,7 @@ module _ (w : Window) (n k : ℕ) (e : length (w .samples) ≡ 128) (m : k ≡ m
   none z = sym (mean-none (take n (samplesOf w)) (ap length first ∙ sized ∙ z))
 
   module _ {s : ℤ} (t : Total (take k (w .samples)) s) where
-    small : natAbs s ≤ 128 * 2147483648
+    small : natAbs s ≤ places * 2147483648
     small = omega (arith, sized, total-size (take k (w .samples)) s t)
 
     fits : SFits w32 (meanOf (take n (samplesOf w)))
@@ -40,7 +40,7 @@ module _ (w : Window) (n k : ℕ) (e : length (w .samples) ≡ 128) (m : k ≡ m
     some : {r : ℤ} → 0 < k → r ≡ roundAway s k → r ≡ meanOf (take n (samplesOf w))
     some h q = q ∙ rw (t .adds, first, mean-some (take k (w .samples)) (omega (arith, sized)), sized) refl
 
-long : (c : tie.Start) → length (c .args .self .samples) ≡ 128
+long : (c : tie.Start) → length (c .args .self .samples) ≡ places
 long c = search needs
 
 fewest-requires : tie.Need-fewest-requires

@@ -12,18 +12,18 @@ use mir.Val.{toZ, ofZ}
 use mir.Facts.{toZ-ofZ}
 use borrow.Author.Needs.{needs}
 use Rattle.window.specs.declared.Window.{Window}
-use Rattle.window.specs.Window.{pushOf}
+use Rattle.window.specs.Window.{places, pushOf}
 use Rattle.window.proofs.Shift.{laid, laid-step, laid-all}
 use Rattle.window.proofs.Window.push.Statement.{statement}
 use Rattle.window.proofs.Window.push.Tie as tie
 
 abbrev Inv-loop : tie.InvT-loop
-Inv-loop self x old samples₀ i₀ samples i = (i ≤ 127) × (samples ≡ laid (toZ w32 x ∷ old) (toZ w32 x) 128 (suc i))
+Inv-loop self x old samples₀ i₀ samples i = (i ≤ places - 1) × (samples ≡ laid (toZ w32 x ∷ old) (toZ w32 x) places (suc i))
 
 abbrev μ-loop : tie.MeasureT-loop
-μ-loop self x old samples₀ i₀ samples i = 127 - i
+μ-loop self x old samples₀ i₀ samples i = places - 1 - i
 
-long : (c : tie.Start Inv-loop μ-loop) → length (c .args .self .samples) ≡ 128
+long : (c : tie.Start Inv-loop μ-loop) → length (c .args .self .samples) ≡ places
 long c = search needs
 
 -- an i32 is read back from its bits
@@ -31,16 +31,19 @@ back : (z : ℤ) → mag z < 2 ^ 31 → toZ w32 (ofZ w32 z) ≡ z
 back z h = toZ-ofZ (record { sfits = h })
 
 -- one turn
-again : (l a : List ℤ) (x : ℤ) (i : ℕ) → length l ≡ 128 → i < 127 → a ≡ laid (x ∷ l) x 128 (suc i) → set a (i + 1) (getD l i (pos 0)) ≡ laid (x ∷ l) x 128 (suc (i + 1))
-again l a x i e h m = rw (m, add-one) (laid-step (x ∷ l) x 128 (suc i) (omega arith) (omega arith))
+again : (l a : List ℤ) (x : ℤ) (i : ℕ) → length l ≡ places → i < places - 1 → a ≡ laid (x ∷ l) x places (suc i) → set a (i + 1) (getD l i (pos 0)) ≡ laid (x ∷ l) x places (suc (i + 1))
+again l a x i e h m = rw (m, add-one) (laid-step (x ∷ l) x places (suc i) (omega arith) (omega arith))
 
 -- after the last turn
-pushed : (w : Window) (x v : ℤ) (a : List ℤ) (i h : ℕ) → a ≡ laid (v ∷ w .samples) v 128 (suc i) → i ≡ 127 → v ≡ x → h ≡ pushOf w x .held → record { samples = a; held = h } ≡ pushOf w x
+pushed : (w : Window) (x v : ℤ) (a : List ℤ) (i h : ℕ) → a ≡ laid (v ∷ w .samples) v places (suc i) → i ≡ places - 1 → v ≡ x → h ≡ pushOf w x .held → record { samples = a; held = h } ≡ pushOf w x
 unfolding pushOf
-pushed w x v a i h m z s g = rw (m, z, s, g, laid-all (x ∷ w .samples) x 128) refl
+pushed w x v a i h m z s g = rw (m, z, s, g, laid-all (x ∷ w .samples) x places) refl
 
 loop-holds : tie.Need-loop-holds Inv-loop μ-loop
 loop-holds c = (omega arith, refl)
+
+sub-loop : tie.Need-sub-loop Inv-loop μ-loop
+sub-loop c = search needs
 
 mul-samples : tie.Need-mul-samples Inv-loop μ-loop
 mul-samples c = search needs
@@ -87,6 +90,7 @@ push-spec =
     Inv-loop
     μ-loop
     loop-holds
+    sub-loop
     mul-samples
     array-copy-out-samples
     add-samples

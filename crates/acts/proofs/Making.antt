@@ -1,0 +1,141 @@
+-- What each part gives from the contract of the box's call that it makes. Assumes nothing.
+use mathlib.Core.Path.{_≡_, refl, sym, ap, _∙_, subst}
+use mathlib.Core.List.{List, [], _∷_, _++_}
+use Prim.Native.Nat.{ℕ, _≤_, min}
+use native.Mathlib.Nat.{min-le-left, min-comm}
+use types.Run.{OneOf, miss}
+use denote.Enum.Declared.{tagOf}
+use lib.IntN.{ℤ}
+use mathlib.Core.Bool.{Bool}
+use lib.ListN.{length, take, drop, replicate, length-take, length-replicate}
+use lib.Seq.{length-take-le}
+use Rattle.paper.specs.Answer.{done, told, leaves}
+use Rattle.settings.specs.declared.Settings.{Settings}
+use Rattle.controller.specs.declared.Controller.{Controller}
+use Rattle.controller.specs.declared.Ticked.{Ticked}
+use Rattle.controller.specs.declared.SetTo.{SetTo}
+use Rattle.controller.specs.declared.ResetTo.{ResetTo}
+use Rattle.controller.specs.declared.RestartAnswer.{RestartAnswer}
+use Rattle.controller.specs.declared.RestartAnswer.the-variants as N
+use Rattle.controller.specs.declared.Restarted.{Restarted}
+use Rattle.controller.specs.declared.Requested.{Requested}
+use Rattle.controller.specs.Calls.{linkOf, restartOf}
+use Rattle.controller.specs.Line.{requestOf}
+use Rattle.controller.specs.Made.{Made}
+use Rattle.controller.specs.Says.{saysRestart, placeAndLength, bytesOf, Ticks, Sets, Resets, Restarts, Replies}
+use Rattle.controller.specs.Sound.{Sound}
+use Rattle.series.specs.Events.{tick, link, settings, reset, restart, request, eventOf, run}
+use Rattle.lines.specs.Places.{take-least}
+use Rattle.calls.specs.declared.Call as read
+use Rattle.calls.specs.declared.Call.the-variants as C
+use Rattle.calls.proofs.Call.{the-type as call-type}
+use Rattle.calls.specs.Reads.{asCall}
+use Rattle.acts.specs.Acts.{Ask, event, nothing, blank, askOf, askBy, eventsIn, ticked, taken, cleared, restarted, replied, saidAt, saidTo, leftAt, leftBy, lent}
+use Rattle.acts.specs.Makes.{saysAct, Makes, Acts, inUse, restart-kept}
+use Rattle.acts.specs.declared.Answer.the-variants as A
+use Rattle.acts.specs.declared.Acted.{Acted}
+
+pub makes-tick : {c : Controller} {x : ℤ} {i : ℕ} {r : Ticked} → Ticks c x i r → Makes c (event (tick x i)) (record { next = r .next; answer = A.Tick (r .answer) })
+unfolding eventsIn run eventOf saidTo saidAt saysAct
+makes-tick h = record { next = h .next; says = ap ticked (h .says); sound = h .sound }
+
+pub makes-link : {c d : Controller} {on : Bool} → Made (linkOf c on) d → Makes c (event (link on)) (record { next = d; answer = A.Link })
+unfolding eventsIn run eventOf saidTo saidAt saysAct
+makes-link h = record { next = h .is; says = refl; sound = h .sound }
+
+pub makes-settings : {c : Controller} {set : Settings} {r : SetTo} → Sets c set r → Makes c (event (settings set)) (record { next = r .next; answer = A.Set (r .answer) })
+unfolding eventsIn run eventOf saidTo saidAt saysAct
+makes-settings h = record { next = h .next; says = ap taken (h .says); sound = h .sound }
+
+pub makes-reset : {c : Controller} {r : ResetTo} → Resets c r → Makes c (event reset) (record { next = r .next; answer = A.Reset (r .answer) })
+unfolding eventsIn run eventOf saidTo saidAt saysAct
+makes-reset h = record { next = h .next; says = ap cleared (h .says); sound = h .sound }
+
+-- the controller in use after a restart is sound
+in-use-sound : (a : RestartAnswer) (old new : Controller) → Sound old → (saysRestart a ≡ done tt → Sound new) → Sound (inUse a old new)
+unfolding inUse
+in-use-sound N.Done old new s h = h refl
+in-use-sound (N.R2 row) old new s h = s
+in-use-sound N.R15 old new s h = s
+
+pub makes-restart : {c d : Controller} {set : Settings} {count total : ℕ} (r : Restarted) → Sound c → Restarts set count total r → d ≡ inUse (r .answer) c (r .next)
+    → Makes c (event (restart set count total)) (record { next = d; answer = A.Restart (r .answer) })
+unfolding eventsIn run eventOf saidTo saidAt saysAct
+makes-restart {c} {d} {set} {count} {total} r s h e =
+    record {
+      next = e ∙ ap (inUse (r .answer) c) (h .next) ∙ restart-kept c (restartOf set count total) (r .answer) (h .says);
+      says = ap restarted (h .says);
+      sound = subst Sound (sym e) (in-use-sound (r .answer) c (r .next) s (h .sound));
+    }
+
+-- ---- the line request
+
+pub least-left : {k : ℕ} (a b : ℕ) → k ≡ min a b → k ≤ a
+least-left a b e = subst (λ (n : ℕ). n ≤ a) (sym e) (min-le-left a b)
+
+pub least-right : {k : ℕ} (a b : ℕ) → k ≡ min a b → k ≤ b
+least-right a b e = least-left b a (e ∙ min-comm a b)
+
+acts-part : {c : Controller} (t reply old part : List ℕ) (r : Requested) → length reply ≤ length old → Replies c t (take (length reply) old) part r
+    → Acts c (event (request t reply)) old (part ++ drop (length reply) old) (record { next = r .next; answer = A.Request (r .answer) })
+unfolding eventsIn run eventOf saidTo saidAt saysAct leftBy leftAt
+acts-part {c} t reply old part r k h =
+    let room : length (take (length reply) old) ≡ length reply = length-take-le (length reply) old k in
+    record {
+      makes = record {
+        next = h .next ∙ ap (λ (n : ℕ). requestOf c t n .next) room;
+        says = ap replied (h .says ∙ ap (λ (n : ℕ). told placeAndLength (requestOf c t n .answer)) room);
+        sound = h .sound;
+      };
+      left = ap (λ (l : List ℕ). l ++ drop (length reply) old) (h .left ∙ ap (λ (n : ℕ). leaves (told bytesOf (requestOf c t n .answer)) (take (length reply) old)) room);
+    }
+
+pub acts-request : {c : Controller} (s old part : List ℕ) (n room size most : ℕ) (r : Requested) → size ≡ min n (length s) → most ≡ min (length old) room → Replies c (take size s) (take most old) part r
+    → Acts c (event (request (take n s) (take (length old) (blank room)))) old (part ++ drop most old) (record { next = r .next; answer = A.Request (r .answer) })
+unfolding blank
+acts-request {c} s old part n room size most r e f h =
+    let reply : List ℕ = take (length old) (replicate room 0xA5) in
+    let k : length reply ≡ min (length old) room = length-take {A = ℕ} (length old) (replicate room 0xA5) ∙ ap (min (length old)) (length-replicate {A = ℕ} room 0xA5) in
+    let t : take size s ≡ take n s = ap (λ (m : ℕ). take m s) e ∙ take-least n s in
+    let m : most ≡ length reply = f ∙ sym k in
+    let few : length reply ≤ length old = subst (λ (x : ℕ). x ≤ length old) (sym k) (min-le-left (length old) room) in
+    subst (λ (x : ℕ). Acts c (event (request (take n s) reply)) old (part ++ drop x old) (record { next = r .next; answer = A.Request (r .answer) })) (sym m)
+    (acts-part (take n s) reply old part r few
+    (subst (λ (u : List ℕ). Replies c u (take (length reply) old) part r) t
+    (subst (λ (x : ℕ). Replies c (take size s) (take x old) part r) m h)))
+
+-- ---- a call, by what it asks
+
+-- what lends nothing to the call leaves the buffer as it was
+pub acts-made : {c : Controller} {ask : Ask} {old : List ℕ} {r : Acted} → leftBy c ask old ≡ old → Makes c ask r → Acts c ask old old r
+acts-made e m = record { makes = m; left = sym e }
+
+pub acts-as : {c : Controller} {a b : Ask} {old new : List ℕ} {r : Acted} → a ≡ b → Acts c b old new r → Acts c a old new r
+acts-as {c} {a} {b} {old} {new} {r} e h = subst (λ (x : Ask). Acts c x old new r) (sym e) h
+
+pub as-call : (most : ℕ) (bytes : List ℕ) {a b : read.Call} → a ≡ b → lent most (askBy (asCall bytes a)) ≡ lent most (askBy (asCall bytes b))
+as-call most bytes e = ap (λ (call : read.Call). lent most (askBy (asCall bytes call))) e
+
+pub acts-none : {c : Controller} {old : List ℕ} → Sound c → Acts c nothing old old (record { next = c; answer = A.Aside })
+unfolding eventsIn run saidTo saysAct leftBy
+acts-none s = record { makes = record { next = refl; says = refl; sound = s }; left = refl }
+
+-- the calls that need no box
+pub asks-nothing : (most : ℕ) (bytes : List ℕ) (call : read.Call) → OneOf (7 ∷ 8 ∷ 9 ∷ 10 ∷ 11 ∷ 12 ∷ 13 ∷ 14 ∷ 15 ∷ []) (tagOf call-type call) → lent most (askBy (asCall bytes call)) ≡ nothing
+unfolding lent askBy askOf asCall
+asks-nothing most bytes (C.Tick x i) h = absurd (miss (7 ∷ 8 ∷ 9 ∷ 10 ∷ 11 ∷ 12 ∷ 13 ∷ 14 ∷ 15 ∷ []) 0 tt h)
+asks-nothing most bytes (C.Link on) h = absurd (miss (7 ∷ 8 ∷ 9 ∷ 10 ∷ 11 ∷ 12 ∷ 13 ∷ 14 ∷ 15 ∷ []) 1 tt h)
+asks-nothing most bytes (C.Settings set) h = absurd (miss (7 ∷ 8 ∷ 9 ∷ 10 ∷ 11 ∷ 12 ∷ 13 ∷ 14 ∷ 15 ∷ []) 2 tt h)
+asks-nothing most bytes C.Reset h = absurd (miss (7 ∷ 8 ∷ 9 ∷ 10 ∷ 11 ∷ 12 ∷ 13 ∷ 14 ∷ 15 ∷ []) 3 tt h)
+asks-nothing most bytes C.Counters h = absurd (miss (7 ∷ 8 ∷ 9 ∷ 10 ∷ 11 ∷ 12 ∷ 13 ∷ 14 ∷ 15 ∷ []) 4 tt h)
+asks-nothing most bytes (C.Restart set count total) h = absurd (miss (7 ∷ 8 ∷ 9 ∷ 10 ∷ 11 ∷ 12 ∷ 13 ∷ 14 ∷ 15 ∷ []) 5 tt h)
+asks-nothing most bytes (C.Request n room) h = absurd (miss (7 ∷ 8 ∷ 9 ∷ 10 ∷ 11 ∷ 12 ∷ 13 ∷ 14 ∷ 15 ∷ []) 6 tt h)
+asks-nothing most bytes (C.WriteFrame n room) h = refl
+asks-nothing most bytes (C.ReadFrame n) h = refl
+asks-nothing most bytes (C.WriteField v) h = refl
+asks-nothing most bytes (C.ReadField f) h = refl
+asks-nothing most bytes (C.WriteLine l room) h = refl
+asks-nothing most bytes (C.ReadLine n) h = refl
+asks-nothing most bytes (C.Hour n k) h = refl
+asks-nothing most bytes (C.Hours n room) h = refl
+asks-nothing most bytes C.Unknown h = refl

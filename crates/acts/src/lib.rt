@@ -1,0 +1,171 @@
+// What a call makes of the controller, and what it answers.
+use calls::Call;
+use controller::Controller;
+use controller::RequestAnswer;
+use controller::ResetAnswer;
+use controller::RestartAnswer;
+use controller::SetAnswer;
+use controller::TickAnswer;
+use counters::Counters;
+use settings::Settings;
+ghost use mathlib.Core.Path.{_≡_};
+ghost use Prim.Native.Nat.{min};
+ghost use lib.ListN.{length, take};
+ghost use Rattle.controller.specs.Sound.{Sound};
+ghost use Rattle.series.specs.Events as events;
+ghost use Rattle.calls.specs.Reads.{asCall};
+ghost use Rattle.acts.specs.Acts.{event, counters, askBy, blank, lent};
+ghost use Rattle.acts.specs.Makes.{inUse, Makes, Acts};
+
+// What a call of the box answers; a call that needs no box has no answer here.
+pub enum Answer {
+    Tick(TickAnswer),
+    Link,
+    Set(SetAnswer),
+    Reset(ResetAnswer),
+    Counters(Counters),
+    Restart(RestartAnswer),
+    Request(RequestAnswer),
+    Aside,
+}
+
+// The controller in use after a call, and the answer.
+pub struct Acted {
+    pub next: Controller,
+    pub answer: Answer,
+}
+
+// The lesser of two numbers.
+fn lesser(a: usize, b: usize) -> usize
+    ensures { λ r. ⌜ r ≡ min a b ⌝ }
+{
+    if a <= b { a } else { b }
+}
+
+// A tick.
+fn tick(c: Controller, sample: i32, inputs: u8) -> Acted
+    requires { ⌜ Sound c ⌝ }
+    ensures { λ r. ⌜ Makes c (event (events.tick sample inputs)) r ⌝ }
+{
+    let ticked = c.tick(sample, inputs);
+    let next = ticked.next;
+    let answer = ticked.answer;
+    Acted {
+        next,
+        answer: Answer::Tick(answer),
+    }
+}
+
+// The link start, set or cleared.
+fn link(c: Controller, on: bool) -> Acted
+    requires { ⌜ Sound c ⌝ }
+    ensures { λ r. ⌜ Makes c (event (events.link on)) r ⌝ }
+{
+    let next = c.link(on);
+    Acted {
+        next,
+        answer: Answer::Link,
+    }
+}
+
+// New settings.
+fn settings(c: Controller, set: Settings) -> Acted
+    requires { ⌜ Sound c ⌝ }
+    ensures { λ r. ⌜ Makes c (event (events.settings set)) r ⌝ }
+{
+    let set_to = c.settings(set);
+    let next = set_to.next;
+    let answer = set_to.answer;
+    Acted {
+        next,
+        answer: Answer::Set(answer),
+    }
+}
+
+// A counter reset.
+fn reset(c: Controller) -> Acted
+    requires { ⌜ Sound c ⌝ }
+    ensures { λ r. ⌜ Makes c (event events.reset) r ⌝ }
+{
+    let reset_to = c.reset();
+    let next = reset_to.next;
+    let answer = reset_to.answer;
+    Acted {
+        next,
+        answer: Answer::Reset(answer),
+    }
+}
+
+// Count and total.
+fn counters(c: Controller) -> Acted
+    requires { ⌜ Sound c ⌝ }
+    ensures { λ r. ⌜ Makes c counters r ⌝ }
+{
+    let kept = c.counters();
+    Acted {
+        next: c,
+        answer: Answer::Counters(kept),
+    }
+}
+
+// A refused restart leaves the old controller in use.
+fn in_use(answer: RestartAnswer, old: Controller, new: Controller) -> Controller
+    ensures { λ r. ⌜ r ≡ inUse answer old new ⌝ }
+{
+    match answer {
+        RestartAnswer::Done => new,
+        RestartAnswer::R2(_) => old,
+        RestartAnswer::R15 => old,
+    }
+}
+
+// A restart.
+fn restart(c: Controller, set: Settings, count: u32, total: u32) -> Acted
+    requires { ⌜ Sound c ⌝ }
+    ensures { λ r. ⌜ Makes c (event (events.restart set count total)) r ⌝ }
+{
+    let restarted = Controller::restart(set, count, total);
+    let answer = restarted.answer;
+    let new = restarted.next;
+    let next = in_use(answer, c, new);
+    Acted {
+        next,
+        answer: Answer::Restart(answer),
+    }
+}
+
+// A line request on the first n bytes, with so much of the reply buffer as it asks for.
+fn request(c: Controller, n: usize, room: usize, bytes: &[u8], reply: &mut [u8]) -> Acted
+    requires { ⌜ Sound c ⌝ }
+    ensures { λ r. ⌜ Acts c (event (events.request (take n (now (bytes .entry))) (take (length (now (reply .entry))) (blank room)))) (now (reply .entry)) (now (reply .exit)) r ⌝ }
+{
+    let size = lesser(n, bytes.len());
+    let most = lesser(reply.len(), room);
+    let requested = c.request(&bytes[..size], &mut reply[..most]);
+    let next = requested.next;
+    let answer = requested.answer;
+    Acted {
+        next,
+        answer: Answer::Request(answer),
+    }
+}
+
+// What a call makes of the controller, and its answer; a request's bytes are the first of `bytes`, and its reply stands at the start of `reply`.
+pub fn act(c: Controller, call: Call, bytes: &[u8], reply: &mut [u8]) -> Acted
+    requires { ⌜ Sound c ⌝ }
+    ensures { λ r. ⌜ Acts c (lent (length (now (reply .entry))) (askBy (asCall (now (bytes .entry)) call))) (now (reply .entry)) (now (reply .exit)) r ⌝ }
+{
+    match call {
+        Call::Tick(sample, inputs) => tick(c, sample, inputs),
+        Call::Link(on) => link(c, on),
+        Call::Settings(set) => settings(c, set),
+        Call::Reset => reset(c),
+        Call::Counters => counters(c),
+        Call::Restart(set, count, total) => restart(c, set, count, total),
+        Call::Request(n, room) => request(c, n, room, bytes, reply),
+        _ => Acted {
+            next: c,
+            answer: Answer::Aside,
+        },
+    }
+}

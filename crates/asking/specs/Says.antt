@@ -1,0 +1,141 @@
+-- What the stages say in the paper's words, the contract of each call, and that two results that both meet it are equal. Assumes nothing.
+use mathlib.Core.Path.{_≡_, refl, sym, ap, _∙_}
+use mathlib.Core.List.{List, [], _∷_}
+use Prim.Native.Nat.{ℕ, _≤_}
+use lib.Dec.{eqb}
+use lib.ListN.{length, take}
+use Rattle.laws.specs.Pick.{pick}
+use Rattle.paper.specs.Answer.{Answer, done, refused, fault, Fills, same, fills-one}
+use Rattle.paper.specs.Numbers.{R5, R6, R7, R8, R9, R14}
+use Rattle.frame.specs.declared.Found.{Found}
+use Rattle.frame.specs.declared.Found.the-variants as F
+use Rattle.message.specs.declared.Form.{Form}
+use Rattle.message.specs.declared.Parts.{Parts}
+use Rattle.asking.specs.Asking.{heardOf, addressOf, codeOf, replyOf}
+use Rattle.asking.specs.declared.Heard.{Heard}
+use Rattle.asking.specs.declared.Heard.the-variants as H
+use Rattle.asking.specs.declared.Addressed.{Addressed}
+use Rattle.asking.specs.declared.Addressed.the-variants as A
+use Rattle.asking.specs.declared.Coded.{Coded}
+use Rattle.asking.specs.declared.Coded.the-variants as C
+use Rattle.asking.specs.declared.Reply.{Reply}
+use Rattle.asking.specs.declared.Data.{Data}
+use Rattle.asking.specs.declared.Sent.{Sent}
+use Rattle.asking.specs.declared.Sent.the-variants as S
+use Rattle.message.specs.Message.{improper}
+use Rattle.message.specs.declared.Built.{Built}
+use Rattle.message.specs.declared.Built.the-variants as B
+
+-- ---- the stages: what passes, or the refusal with its place
+
+abbrev pub saysHeard : Heard → Answer (ℕ × Parts)
+saysHeard (H.Request place parts) = done (place, parts)
+saysHeard (H.R9 place) = refused R9 (place ∷ [])
+saysHeard (H.R6 place) = refused R6 (place ∷ [])
+
+abbrev pub saysAddressed : Addressed → Answer (Unit {0})
+saysAddressed A.Ours = done tt
+saysAddressed (A.R5 place) = refused R5 (place ∷ [])
+
+abbrev pub saysCoded : Coded → Answer (Unit {0})
+saysCoded C.Known = done tt
+saysCoded (C.R7 place) = refused R7 (place ∷ [])
+
+abbrev pub saysSent : Sent → Answer ℕ
+saysSent (S.Frame n) = done n
+saysSent S.Improper = refused improper []
+saysSent S.R14 = refused R14 []
+saysSent S.R8 = refused R8 []
+
+-- what building's refusals are to a reply; a body is none
+unfoldable pub unbuiltOf : Built → Sent
+unbuiltOf (B.Body n) = S.Improper
+unbuiltOf B.Improper = S.Improper
+unbuiltOf B.R14 = S.R14
+
+-- what the reader's refusals are to a request; a body is none
+unfoldable pub unreadOf : Found → Heard
+unreadOf (F.Body place len) = H.R6 place
+unreadOf (F.R9 place) = H.R9 place
+unreadOf (F.R6 place) = H.R6 place
+
+-- the bytes are the first of the array of 4
+pub record Holds (bytes : List ℕ) (r : Data) : Type 0 where
+  pub full : length (r .bytes) ≡ 4
+  pub small : r .len ≤ 4
+  pub front : take (r .len) (r .bytes) ≡ bytes
+
+-- ---- the contracts
+
+abbrev pub Hears : List ℕ → Heard → Type 0
+Hears s r = saysHeard r ≡ heardOf s
+
+abbrev pub Addresses : ℕ → Form → ℕ → ℕ → Addressed → Type 0
+Addresses place form address serial r = saysAddressed r ≡ addressOf place form address serial
+
+abbrev pub Codes : ℕ → Parts → Coded → Type 0
+Codes place parts r = saysCoded r ≡ codeOf place parts
+
+abbrev pub Sends : Form → ℕ → Reply → List ℕ → List ℕ → Sent → Type 0
+Sends form operation holds old new r = Fills (saysSent r) (replyOf form operation holds (length old)) old new
+
+-- ---- each is met by one result
+
+back-one : {A B : Type 0} (says : A → B) (back : B → A) → ((a : A) → back (says a) ≡ a) → (a b : A) → says a ≡ says b → a ≡ b
+back-one says back law a b e = sym (law a) ∙ ap back e ∙ law b
+
+sentBack : Answer ℕ → Sent
+sentBack (done n) = S.Frame n
+sentBack (refused n vs) = pick (eqb n R14) S.R14 (pick (eqb n R8) S.R8 S.Improper)
+sentBack (fault n vs) = S.Improper
+
+sent-back : (a : Sent) → sentBack (saysSent a) ≡ a
+unfolding sentBack pick
+sent-back (S.Frame n) = refl
+sent-back S.Improper = refl
+sent-back S.R14 = refl
+sent-back S.R8 = refl
+
+pub heard-one : (a b : Heard) → saysHeard a ≡ saysHeard b → a ≡ b
+heard-one (H.Request p x) (H.Request q y) e =
+    let z : _≡_ {A = ℕ × Parts} (p, x) (q, y) = cc in
+    let a : p ≡ q = ap (λ (t : ℕ × Parts). t .0) z in
+    let b : x ≡ y = ap (λ (t : ℕ × Parts). t .1) z in
+    cc
+heard-one (H.Request p x) (H.R9 q) e = cc
+heard-one (H.Request p x) (H.R6 q) e = cc
+heard-one (H.R9 p) (H.Request q y) e = cc
+heard-one (H.R9 p) (H.R9 q) e = cc
+heard-one (H.R9 p) (H.R6 q) e = cc
+heard-one (H.R6 p) (H.Request q y) e = cc
+heard-one (H.R6 p) (H.R9 q) e = cc
+heard-one (H.R6 p) (H.R6 q) e = cc
+
+pub addressed-one : (a b : Addressed) → saysAddressed a ≡ saysAddressed b → a ≡ b
+addressed-one A.Ours A.Ours e = refl
+addressed-one A.Ours (A.R5 q) e = cc
+addressed-one (A.R5 p) A.Ours e = cc
+addressed-one (A.R5 p) (A.R5 q) e = cc
+
+pub coded-one : (a b : Coded) → saysCoded a ≡ saysCoded b → a ≡ b
+coded-one C.Known C.Known e = refl
+coded-one C.Known (C.R7 q) e = cc
+coded-one (C.R7 p) C.Known e = cc
+coded-one (C.R7 p) (C.R7 q) e = cc
+
+pub sent-one : (a b : Sent) → saysSent a ≡ saysSent b → a ≡ b
+sent-one = back-one saysSent sentBack sent-back
+
+pub hear-determined : (s : List ℕ) (a b : Heard) → Hears s a → Hears s b → a ≡ b
+hear-determined s a b p q = heard-one a b (same p q)
+
+pub address-determined : (place : ℕ) (form : Form) (address serial : ℕ) (a b : Addressed) → Addresses place form address serial a → Addresses place form address serial b → a ≡ b
+address-determined place form address serial a b p q = addressed-one a b (same p q)
+
+pub code-determined : (place : ℕ) (parts : Parts) (a b : Coded) → Codes place parts a → Codes place parts b → a ≡ b
+code-determined place parts a b p q = coded-one a b (same p q)
+
+-- with the lent memory after the call
+pub reply-determined : (form : Form) (operation : ℕ) (holds : Reply) (old new new' : List ℕ) (a b : Sent)
+    → Sends form operation holds old new a → Sends form operation holds old new' b → (a ≡ b) × (new ≡ new')
+reply-determined form operation holds old new new' a b p q = (sent-one a b (fills-one p q .0), fills-one p q .1)

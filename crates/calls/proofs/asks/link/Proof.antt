@@ -1,0 +1,18 @@
+use mathlib.Core.Path.{refl}
+use native.Mathlib.Omega.{arith}
+use Rattle.calls.specs.Call.{flagField, linkAt}
+use Rattle.calls.specs.Reads.{asCall, sizeOf, Within}
+use Rattle.calls.proofs.Steps.{on-good, on-bad, num, unasked, asked}
+use borrow.Author.Needs.{needs}
+use Rattle.calls.proofs.asks.link.Statement.{statement}
+use Rattle.calls.proofs.asks.link.Tie as tie
+
+pub link-spec : {M : Type 1} → statement M
+unfolding linkAt flagField asCall sizeOf Within
+link-spec =
+    tie.close
+    (tie.spec
+    (λ c κs. search needs) (λ c. search needs) (λ c. search needs)
+    (λ c. unasked (on-bad _ (on-bad _ (num (c .before .before .field-at .ensures) (c .enum-told .given .1)))))
+    (λ c κs. search needs)
+    (λ c. asked (c .ended .ensures) (on-good _ (on-good _ (num (c .before .before .before .before .field-at .ensures) (c .before .before .on .given .1)))) refl (omega arith) tt))

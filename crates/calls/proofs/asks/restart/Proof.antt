@@ -1,0 +1,32 @@
+use mathlib.Core.Path.{_≡_, sym, ap, _∙_}
+use native.Mathlib.Omega.{arith}
+use lib.ListN.{getD, take}
+use lib.Seq.{take-all}
+use borrow.Author.Tests.{not-true, not-false}
+use Rattle.laws.specs.Pick.{pick-t, pick-f}
+use Rattle.settings.specs.declared.Settings.{Settings}
+use Rattle.calls.specs.Call.{restart, restartAt}
+use Rattle.calls.specs.Reads.{asCall, sizeOf, Within}
+use Rattle.calls.proofs.Steps.{on-good, on-bad, good-as, unasked, asked}
+use borrow.Author.Needs.{needs}
+use Rattle.calls.proofs.asks.restart.Statement.{statement}
+use Rattle.calls.proofs.asks.restart.Tie as tie
+
+returns-2 : tie.Need-returns-2
+unfolding restartAt asCall sizeOf Within
+returns-2 c =
+    let v = c .before .before .before .before .before .numbers-at .result .values in
+    let all : take 19 v ≡ v = take-all 19 v (omega (arith, c .before .before .before .before .before .numbers-at .ensures .all)) in
+    asked (c .ended .ensures) (on-good _ (c .before .before .before .before .before .numbers-at .ensures .reads ∙ pick-t _ _ _ (not-false _ (c .before .before .before .if1 .left))))
+    (rw all (good-as (ap (λ (x : Settings). restart x (getD v 17 0) (getD v 18 0)) (sym (c .before .set-of .ensures)))))
+    (omega arith)
+    tt
+
+pub restart-spec : {M : Type 1} → statement M
+unfolding restartAt
+restart-spec =
+    tie.close
+    (tie.spec
+    (λ c κs. search needs)
+    (λ c. unasked (on-bad _ (c .before .before .numbers-at .ensures .reads ∙ pick-f _ _ _ (not-true _ (c .if1 .taken)))))
+    (λ c κs. search needs) (λ c. search needs) (λ c. search needs) (λ c κs. search needs) returns-2)

@@ -1,0 +1,201 @@
+// Each kind of line, read behind its letter.
+use crate::Call;
+use crate::GREATEST;
+use crate::Signed;
+use crate::fields;
+use field::Field;
+use field::Weight;
+use journal::Line;
+use text::Num;
+ghost use mathlib.Core.Path.{_≡_};
+ghost use Prim.Native.Nat.{_≤_};
+ghost use lib.ListN.{length, drop};
+ghost use Rattle.calls.specs.Call.{tickAt, linkAt, settingsAt, restartAt, roomAt, bytesCall, writeFieldAt, readFieldAt, doseAt, onAt};
+ghost use Rattle.calls.specs.Reads.{sizeOf};
+ghost use Rattle.calls.specs.Reading.{aloneCall, roomCall, roomMost, Ended, Asks, Carries};
+
+const TAB: u8 = 9;
+
+// The call, where nothing of the line follows it.
+pub(crate) fn ended(line: &[u8], end: usize, call: Call) -> Call
+    ensures { λ r. ⌜ Ended (now (line .entry)) end call r ⌝ }
+{
+    if end < line.len() {
+        return Call::Unknown;
+    }
+    call
+}
+
+// T sample inputs
+pub(crate) fn tick(line: &[u8]) -> Call
+    ensures { λ r. ⌜ Asks (now (line .entry)) (tickAt (drop 1 (now (line .entry)))) r × (sizeOf r ≡ 0) ⌝ }
+{
+    let Signed::Good(sample, after) = fields::signed_at(line, 1) else {
+        return Call::Unknown;
+    };
+    let Num::Good(inputs, end) = text::field_at(line, after, 255) else {
+        return Call::Unknown;
+    };
+    ended(line, end, Call::Tick(sample, inputs as u8))
+}
+
+// L 0 or 1
+pub(crate) fn link(line: &[u8]) -> Call
+    ensures { λ r. ⌜ Asks (now (line .entry)) (linkAt (drop 1 (now (line .entry)))) r ⌝ }
+{
+    let Num::Good(on, end) = text::field_at(line, 1, 1) else {
+        return Call::Unknown;
+    };
+    ended(line, end, Call::Link(on == 1))
+}
+
+// S SET
+pub(crate) fn set(line: &[u8]) -> Call
+    ensures { λ r. ⌜ Asks (now (line .entry)) (settingsAt (drop 1 (now (line .entry)))) r ⌝ }
+{
+    let numbers = fields::numbers_at(line, 1, 17);
+    if !numbers.good {
+        return Call::Unknown;
+    }
+    let v = numbers.values;
+    ended(line, numbers.next, Call::Settings(fields::set_of(v)))
+}
+
+// N SET count total
+pub(crate) fn restart(line: &[u8]) -> Call
+    ensures { λ r. ⌜ Asks (now (line .entry)) (restartAt (drop 1 (now (line .entry)))) r ⌝ }
+{
+    let numbers = fields::numbers_at(line, 1, 19);
+    if !numbers.good {
+        return Call::Unknown;
+    }
+    let v = numbers.values;
+    ended(
+        line,
+        numbers.next,
+        Call::Restart(fields::set_of(v), v[17], v[18]),
+    )
+}
+
+// The call of a letter that takes bytes and a number.
+fn room_call(letter: u8, n: usize, number: u32) -> Call
+    requires { ⌜ (n ≤ 2048) × (number ≤ roomMost letter) ⌝ }
+    ensures { λ r. ⌜ Carries (roomCall letter) n number r ⌝ }
+{
+    match letter {
+        b'B' => Call::Request(n, number as usize),
+        b'W' => Call::WriteFrame(n, number as usize),
+        b'j' => Call::Hours(n, number as usize),
+        _ => Call::Hour(n, number),
+    }
+}
+
+// B, W and j: bytes and the room of a buffer; u: bytes and an hour.
+pub(crate) fn room(line: &[u8], letter: u8, most: u32) -> Call
+    requires line { ⌜ length (now line) ≤ 4095 ⌝ }
+    requires most { ⌜ most ≡ roomMost letter ⌝ }
+    ensures { λ r. ⌜ Asks (now (line .entry)) (roomAt most (roomCall letter) (drop 1 (now (line .entry)))) r ⌝ }
+{
+    if text::byte_at(line, 1) != TAB {
+        return Call::Unknown;
+    }
+    let n = fields::count(line);
+    let Num::Good(number, end) = text::field_at(line, 2 + 2 * n, most) else {
+        return Call::Unknown;
+    };
+    ended(line, end, room_call(letter, n, number))
+}
+
+// X and l: bytes alone.
+pub(crate) fn alone(line: &[u8], letter: u8) -> Call
+    requires { ⌜ length (now line) ≤ 4095 ⌝ }
+    ensures { λ r. ⌜ Asks (now (line .entry)) (bytesCall (aloneCall letter) (drop 1 (now (line .entry)))) r ⌝ }
+{
+    if text::byte_at(line, 1) != TAB {
+        return Call::Unknown;
+    }
+    let n = fields::count(line);
+    if letter == b'X' {
+        return ended(line, 2 + 2 * n, Call::ReadFrame(n));
+    }
+    ended(line, 2 + 2 * n, Call::ReadLine(n))
+}
+
+// G weight stable over point
+pub(crate) fn weight(line: &[u8]) -> Call
+    ensures { λ r. ⌜ Asks (now (line .entry)) (writeFieldAt (drop 1 (now (line .entry)))) r ⌝ }
+{
+    let Signed::Good(value, after_value) = fields::signed_at(line, 1) else {
+        return Call::Unknown;
+    };
+    let Num::Good(stable, after_stable) = text::field_at(line, after_value, 1) else {
+        return Call::Unknown;
+    };
+    let Num::Good(over, after_over) = text::field_at(line, after_stable, 1) else {
+        return Call::Unknown;
+    };
+    let Num::Good(point, end) = text::field_at(line, after_over, 255) else {
+        return Call::Unknown;
+    };
+    let weight = Weight {
+        value,
+        stable: stable == 1,
+        over: over == 1,
+        point: point as u8,
+    };
+    ended(line, end, Call::WriteField(weight))
+}
+
+// K four bytes
+pub(crate) fn four(line: &[u8]) -> Call
+    requires { ⌜ length (now line) ≤ 4095 ⌝ }
+    ensures { λ r. ⌜ Asks (now (line .entry)) (readFieldAt (drop 1 (now (line .entry)))) r ⌝ }
+{
+    if text::byte_at(line, 1) != TAB {
+        return Call::Unknown;
+    }
+    if fields::count(line) != 4 {
+        return Call::Unknown;
+    }
+    let field = Field {
+        low: fields::byte_of(line, 0),
+        middle: fields::byte_of(line, 1),
+        high: fields::byte_of(line, 2),
+        con: fields::byte_of(line, 3),
+    };
+    ended(line, 10, Call::ReadField(field))
+}
+
+// D hour count amount settled room
+pub(crate) fn dose(line: &[u8]) -> Call
+    ensures { λ r. ⌜ Asks (now (line .entry)) (doseAt (drop 1 (now (line .entry)))) r ⌝ }
+{
+    let numbers = fields::numbers_at(line, 1, 4);
+    if !numbers.good {
+        return Call::Unknown;
+    }
+    let Num::Good(room, end) = text::field_at(line, numbers.next, 64) else {
+        return Call::Unknown;
+    };
+    let v = numbers.values;
+    let dose = Line::Dose {
+        hour: v[0],
+        count: v[1],
+        amount: v[2],
+        settled: v[3],
+    };
+    ended(line, end, Call::WriteLine(dose, room as usize))
+}
+
+// H hour room
+pub(crate) fn on(line: &[u8]) -> Call
+    ensures { λ r. ⌜ Asks (now (line .entry)) (onAt (drop 1 (now (line .entry)))) r ⌝ }
+{
+    let Num::Good(hour, after) = text::field_at(line, 1, GREATEST) else {
+        return Call::Unknown;
+    };
+    let Num::Good(room, end) = text::field_at(line, after, 64) else {
+        return Call::Unknown;
+    };
+    ended(line, end, Call::WriteLine(Line::On { hour }, room as usize))
+}

@@ -1,0 +1,104 @@
+// The channels: inputs and outputs as bits, start, the runs of mismatches and F14.
+use dosing::Gates;
+use settings::Settings;
+ghost use mathlib.Core.Path.{_≡_};
+ghost use Prim.Native.Nat.{_/_, _%_, _<_};
+ghost use lib.Dec.{eqb};
+ghost use Rattle.channels.specs.Channels.{worth, runAfter};
+ghost use Rattle.channels.specs.Says.{Starts, Shows, Moves, Watches};
+
+// The runs of mismatches of channels 1 to 3.
+pub struct Runs {
+    pub one: u32,
+    pub two: u32,
+    pub three: u32,
+}
+
+// No run has reached its limit, or F14 with the lowest channel whose run has.
+pub enum Watch {
+    Clear,
+    F14(u8),
+}
+
+impl Runs {
+    // A run of so many mismatches is F14, and it grows no further.
+    pub const MISMATCHES: u32 = 64;
+}
+
+// The byte's bit of that worth is on.
+fn bit(byte: u8, worth: u8) -> bool
+    requires { ⌜ 0 < worth ⌝ }
+    ensures { λ r. ⌜ r ≡ eqb (byte / worth % 2) 1 ⌝ }
+{
+    byte / worth % 2 == 1
+}
+
+// n where it is on, else 0.
+fn worth(on: bool, n: u8) -> u8
+    ensures { λ r. ⌜ r ≡ worth on n ⌝ }
+{
+    if on { n } else { 0 }
+}
+
+// Output i is bit i-1.
+pub fn outputs_of(g: Gates, four: bool) -> u8
+    ensures { λ r. ⌜ Shows g four r ⌝ }
+{
+    let one = worth(g.one, 1);
+    let two = worth(g.two, 2);
+    let three = worth(g.three, 4);
+    let alarm = worth(four, 8);
+    one + two + three + alarm
+}
+
+// Input 4 or the link start; in AL3 the link start alone.
+pub fn start_of(set: Settings, link: bool, inputs: u8) -> bool
+    ensures { λ r. ⌜ Starts set link inputs r ⌝ }
+{
+    link | (!(3 <= set.algorithm) & bit(inputs, 8))
+}
+
+// A mismatch adds 1 to the channel's run, a match puts it to 0; expected is the output at level 1, its opposite at level 0.
+fn run_after(level: u32, output: bool, on: bool, run: u32) -> u32
+    ensures { λ r. ⌜ r ≡ runAfter level output on run ⌝ }
+{
+    let expected = (level == 1) == output;
+    if on != expected {
+        if run < Runs::MISMATCHES {
+            run + 1
+        } else {
+            Runs::MISMATCHES
+        }
+    } else {
+        0
+    }
+}
+
+// The runs of channels 1 to 3, which move in AL1 to AL3.
+pub fn runs_after(set: Settings, g: Gates, inputs: u8, runs: Runs) -> Runs
+    ensures { λ r. ⌜ Moves set g inputs runs r ⌝ }
+{
+    if set.algorithm == 0 {
+        return runs;
+    }
+    let one = run_after(set.in1, g.one, bit(inputs, 1), runs.one);
+    let two = run_after(set.in2, g.two, bit(inputs, 2), runs.two);
+    let three = run_after(set.in3, g.three, bit(inputs, 4), runs.three);
+    Runs { one, two, three }
+}
+
+// The lowest channel whose run has reached its limit is F14.
+pub fn reached(runs: Runs) -> Watch
+    ensures { λ r. ⌜ Watches runs r ⌝ }
+{
+    if Runs::MISMATCHES <= runs.one {
+        return Watch::F14(1);
+    }
+    if Runs::MISMATCHES <= runs.two {
+        return Watch::F14(2);
+    }
+    if Runs::MISMATCHES <= runs.three {
+        return Watch::F14(3);
+    }
+    Watch::Clear
+}

@@ -1,0 +1,43 @@
+use mathlib.Core.Path.{sym, ap, _∙_}
+use Rattle.acts.specs.declared.Answer.{Answer}
+use Rattle.acts.specs.Makes.{saysAct}
+use Rattle.recorder.specs.Recording.{heardSaid}
+use Rattle.recorder.proofs.Listening.{other-answer}
+use borrow.Author.Needs.{needs}
+use Rattle.recorder.proofs.by_answer.Statement.{statement}
+use Rattle.recorder.proofs.by_answer.Tie as tie
+
+enum-known-answer : tie.Need-enum-known-answer
+enum-known-answer c = search needs
+
+heard-tick-requires : tie.Need-heard-tick-requires
+heard-tick-requires c κs = search needs
+
+enum-known-answer-2 : tie.Need-enum-known-answer-2
+enum-known-answer-2 c = search needs
+
+heard-restart-requires : tie.Need-heard-restart-requires
+heard-restart-requires c κs = search needs
+
+returns : tie.Need-returns
+unfolding heardSaid saysAct
+returns c = c .heard-tick .ensures ∙ sym (ap (λ (a : Answer). heardSaid (saysAct a)) (c .before .before .answer .given .1))
+
+returns-2 : tie.Need-returns-2
+unfolding heardSaid saysAct
+returns-2 c = c .heard-restart .ensures ∙ sym (ap (λ (a : Answer). heardSaid (saysAct a)) (c .before .before .answer2 .given .1))
+
+returns-3 : tie.Need-returns-3
+returns-3 c = other-answer (c .before .args .answer) (c .match .keys3)
+
+pub by-answer-spec : {M : Type 1} → statement M
+by-answer-spec =
+    tie.close
+    (tie.spec
+    enum-known-answer
+    heard-tick-requires
+    enum-known-answer-2
+    heard-restart-requires
+    returns
+    returns-2
+    returns-3)

@@ -1,0 +1,527 @@
+-- The hours of a recording: an hour is measured exactly if it was seen in full and a dose completed in it, and then by the doses of its ticks. Assumes nothing.
+use mathlib.Core.Path.{_≡_, refl, sym, ap, ap₂, _∙_}
+use mathlib.Core.Bool.{Bool, true, false, not, _&&_, _||_}
+use mathlib.Core.List.{List, [], _∷_, _++_, map, append-assoc, append-nil}
+use Prim.Native.Nat.{ℕ, zero, suc, _+_, _≤_, _<_}
+use native.Mathlib.Omega.{arith}
+use lib.Dec.{eqb, ltb}
+use lib.ListN.{length}
+use borrow.Author.Tests.{eq-eqb, ne-eqb, eqb-true, eqb-false, ltb-false}
+use Rattle.laws.specs.Pick.{pick, pick-t, pick-f, pick-all, pick-if}
+use Rattle.laws.specs.Decimal.{Parsed, good, numberAt}
+use Rattle.laws.specs.DecimalLaws.{number-only}
+use Rattle.paper.specs.Answer.{done}
+use Rattle.text.specs.ScanLaws.{bad-good}
+use Rattle.journal.specs.declared.Line.{Line}
+use Rattle.journal.specs.declared.Line.the-variants.{Dose, On}
+use Rattle.journal.specs.Line.{textOf, inRange, lineOf}
+use Rattle.journal.specs.LineLaws.{read-text}
+use Rattle.journal.specs.Journal.{journalOf, journalText}
+use Rattle.journal.specs.JournalLaws.{Each, journal-text, journal-range}
+use Rattle.hourly.specs.Hours.{measured, idle, missing, doseAt, amountsAt, isOn, hasOn, sumOf, largestOf, meanOf, measuredOrIdle, hourOf}
+use Rattle.controller.specs.declared.Controller.{Controller}
+use Rattle.counters.specs.declared.Record.{Record}
+use Rattle.controller.specs.Calls.{freshOf}
+use Rattle.controller.specs.Sound.{Sound}
+use Rattle.controller.specs.Keeps.{fresh-sound}
+use Rattle.series.specs.Lines.{amountsOf, hourWith}
+use Rattle.lines.specs.Lines.{linesOf}
+use Rattle.calls.specs.Call.{callOf}
+use Rattle.acts.specs.Acts.{madeBy}
+use Rattle.clock.specs.Clock.{ticksAnHour, greatestHour, Note, note, withStage, withHour, withTicks, withWhole, withKnown, refusalText, refuse, firstOf, doseIn, closing, nextHour, oneMore, counts, restartedBy, lostBy, heardBy, Runs}
+use Rattle.recorder.specs.Recording.{heardOf, noteBy, noteOf, boxBy, nextOf, startOf, notesOf, recordOf}
+use Rattle.clock.specs.Clock as clock
+use Rattle.clock.specs.Marking.{Writable}
+use Rattle.clock.specs.Keeps.{on-in-range, dose-in-range, ticks-runs, next-runs, restarted-runs, lost-runs}
+use Rattle.recorder.specs.Keeps.{made-sound, heard-writable}
+use Rattle.clock.specs.declared.Heard.{Heard}
+use Rattle.clock.specs.declared.Heard.the-variants.{Ticked, Dosed, Restarted, Lost, Other}
+use Rattle.clock.specs.declared.Stage.{Stage}
+use Rattle.clock.specs.declared.Stage.the-variants.{Recording}
+use Rattle.clock.specs.declared.Clock.{Clock}
+use Rattle.recorder.specs.declared.Recorder.{Recorder}
+
+-- ---- the lines of an hour
+
+-- what each line of a script was, from a controller on
+unfoldable pub heardAll : Controller → List (List ℕ) → List Heard
+heardAll c [] = []
+heardAll c (l ∷ ls) = heardOf c (callOf l) ∷ heardAll (madeBy c (callOf l)) ls
+
+-- how many ticks are left of n behind a line
+unfoldable pub less : Heard → ℕ → ℕ
+less Ticked n = n
+less (Dosed d) n = n
+less Restarted n = suc n
+less Lost n = suc n
+less Other n = suc n
+
+-- the lines up to the n-th counted tick, and those behind it
+unfoldable pub upTo : List Heard → ℕ → List Heard
+upTo [] n = []
+upTo (h ∷ hs) zero = []
+upTo (h ∷ hs) (suc n) = h ∷ upTo hs (less h n)
+
+unfoldable pub behind : List Heard → ℕ → List Heard
+behind [] n = []
+behind (h ∷ hs) zero = h ∷ hs
+behind (h ∷ hs) (suc n) = behind hs (less h n)
+
+-- 450,000 counted ticks are an hour, from the first tick on: the lines of the hour number k end with its last tick
+unfoldable pub hourLines : ℕ → List Heard → List Heard
+hourLines zero hs = upTo hs ticksAnHour
+hourLines (suc k) hs = hourLines k (behind hs ticksAnHour)
+
+-- and all that came before its last tick
+unfoldable pub soFar : ℕ → List Heard → List Heard
+soFar zero hs = upTo hs ticksAnHour
+soFar (suc k) hs = upTo hs ticksAnHour ++ soFar k (behind hs ticksAnHour)
+
+-- ---- seen in full
+
+unfoldable pub ticksIn : List Heard → ℕ
+ticksIn [] = 0
+ticksIn (Ticked ∷ hs) = suc (ticksIn hs)
+ticksIn (Dosed d ∷ hs) = suc (ticksIn hs)
+ticksIn (Restarted ∷ hs) = ticksIn hs
+ticksIn (Lost ∷ hs) = ticksIn hs
+ticksIn (Other ∷ hs) = ticksIn hs
+
+-- no line that is no call, and no accepted restart once a tick has come
+unfoldable pub unbroken : Bool → List Heard → Bool
+unbroken begun [] = true
+unbroken begun (Ticked ∷ hs) = unbroken true hs
+unbroken begun (Dosed d ∷ hs) = unbroken true hs
+unbroken begun (Restarted ∷ hs) = not begun && unbroken begun hs
+unbroken begun (Lost ∷ hs) = false
+unbroken begun (Other ∷ hs) = unbroken begun hs
+
+-- a restart was accepted since the last line that was no call
+unfoldable pub mended : Bool → List Heard → Bool
+mended b [] = b
+mended b (Ticked ∷ hs) = mended b hs
+mended b (Dosed d ∷ hs) = mended b hs
+mended b (Restarted ∷ hs) = mended true hs
+mended b (Lost ∷ hs) = mended false hs
+mended b (Other ∷ hs) = mended b hs
+
+-- all ticks of the hour number k were counted, no line that is no call stands among them or unmended before them, and no accepted restart after the first of them
+unfoldable pub seenInFull : ℕ → List Heard → Bool
+seenInFull k hs = eqb (ticksIn (hourLines k hs)) ticksAnHour && (unbroken false (hourLines k hs) && mended true (soFar k hs))
+
+-- the dose records that the ticks of some lines answered, in order
+unfoldable pub dosesIn : List Heard → List Record
+dosesIn [] = []
+dosesIn (Ticked ∷ hs) = dosesIn hs
+dosesIn (Dosed d ∷ hs) = d ∷ dosesIn hs
+dosesIn (Restarted ∷ hs) = dosesIn hs
+dosesIn (Lost ∷ hs) = dosesIn hs
+dosesIn (Other ∷ hs) = dosesIn hs
+
+-- ---- the journal's lines, where none is refused
+
+unfoldable tickLines : Clock → List Line → List Line
+tickLines k ds = pick (eqb (k .ticks + 1) ticksAnHour) (ds ++ closing k) ds
+
+unfoldable linesBy : Clock → List Heard → List Line
+linesBy k [] = []
+linesBy k (Ticked ∷ hs) = tickLines k [] ++ linesBy (oneMore k [] .next) hs
+linesBy k (Dosed d ∷ hs) = tickLines k (doseIn (k .hour) d ∷ []) ++ linesBy (oneMore k [] .next) hs
+linesBy k (Restarted ∷ hs) = linesBy (restartedBy k) hs
+linesBy k (Lost ∷ hs) = linesBy (lostBy k) hs
+linesBy k (Other ∷ hs) = linesBy k hs
+
+-- a clock at an hour's start
+abbrev opens : ℕ → Bool → Clock
+opens h n = record { stage = Recording; hour = h; ticks = 0; whole = true; known = n }
+
+-- ---- one hour
+
+-- the D lines of an hour, its H, and then the lines of those that follow
+hourly : ℕ → List Record → Bool → List Line → List Line
+hourly h ds on rest = map (doseIn h) ds ++ (pick on (On h ∷ []) [] ++ rest)
+
+and-false : (b : Bool) → (b && false) ≡ false
+and-false true = refl
+and-false false = refl
+
+and-assoc : (a b c : Bool) → ((a && b) && c) ≡ (a && (b && c))
+and-assoc true b c = refl
+and-assoc false b c = refl
+
+-- a tick that is not the hour's last, and one that is
+tick-more : (k : Clock) (ds : List Line) → (k .ticks + 1 ≡ ticksAnHour → ⊥) → (tickLines k ds ≡ ds) × (oneMore k [] .next ≡ withTicks (k .ticks + 1) k)
+unfolding tickLines oneMore
+tick-more k ds h =
+    let e = ne-eqb (k .ticks + 1) ticksAnHour h in
+    (pick-f _ _ _ e, ap (λ (n : Note). n .next) (pick-f _ _ _ e))
+
+tick-last : (k : Clock) (ds : List Line) → k .ticks + 1 ≡ ticksAnHour → (tickLines k ds ≡ ds ++ closing k) × (oneMore k [] .next ≡ nextHour k)
+unfolding tickLines oneMore
+tick-last k ds h =
+    let e = eq-eqb (k .ticks + 1) ticksAnHour h in
+    (pick-t _ _ _ e, ap (λ (n : Note). n .next) (pick-t _ _ _ e))
+
+and-true : (b : Bool) → (b && true) ≡ b
+and-true true = refl
+and-true false = refl
+
+eqb-suc : (a b : ℕ) → eqb (suc a) (suc b) ≡ eqb a b
+eqb-suc a b = go (eqb a b) refl
+  where
+    go : (t : Bool) → eqb a b ≡ t → eqb (suc a) (suc b) ≡ t
+    go true e = eq-eqb (suc a) (suc b) (ap suc (eqb-true a b e))
+    go false e = ne-eqb (suc a) (suc b) (λ z. eqb-false a b e (omega (arith, z)))
+
+-- what an hour's lines are, whose first ticks have come
+abbrev Hour-is : Clock → ℕ → Bool → List Heard → List Line → Type 0
+Hour-is k m begun hs ls =
+    ls
+    ≡ hourly (k .hour) (dosesIn (upTo hs m))
+    (eqb (ticksIn (upTo hs m)) m && ((k .whole && unbroken begun (upTo hs m)) && mended (k .known) (upTo hs m)))
+    (linesBy (opens (k .hour + 1) (mended (k .known) (upTo hs m))) (behind hs m))
+
+-- the next hour's start
+opens-next : (k : Clock) → k .stage ≡ Recording → nextHour k ≡ opens (k .hour + 1) (k .known)
+unfolding nextHour withWhole withTicks withHour
+opens-next k s = ap (λ (t : Stage). record { stage = t; hour = k .hour + 1; ticks = 0; whole = true; known = k .known }) s
+
+none-up : (hs : List Heard) → upTo hs zero ≡ []
+unfolding upTo
+none-up [] = refl
+none-up (h ∷ hs) = refl
+
+all-behind : (hs : List Heard) → behind hs zero ≡ hs
+unfolding behind
+all-behind [] = refl
+all-behind (h ∷ hs) = refl
+
+last-is : (k : Clock) (begun : Bool) (hs : List Heard) → k .stage ≡ Recording → k .ticks + 1 ≡ ticksAnHour → Hour-is k 1 begun (Ticked ∷ hs) (closing k ++ linesBy (nextHour k) hs)
+unfolding hourly closing upTo behind less ticksIn unbroken mended dosesIn
+last-is k begun hs s t =
+    rw (none-up hs, all-behind hs)
+    (ap₂ (λ (on : Bool) (next : Clock). pick on (On (k .hour) ∷ []) [] ++ linesBy next hs)
+    (sym (ap₂ (λ (a b : Bool). a && (b && k .known)) (eq-eqb 1 1 refl) (and-true (k .whole))))
+    (opens-next k s))
+
+one-tick : (k : Clock) (begun : Bool) (d : List Heard) (m : ℕ) (rest : List Line)
+    → hourly (k .hour) (dosesIn d) (eqb (ticksIn d) (suc m) && ((k .whole && unbroken begun d) && mended (k .known) d)) rest
+    ≡ hourly (k .hour) (dosesIn d) (eqb (suc (ticksIn d)) (suc (suc m)) && ((k .whole && unbroken begun d) && mended (k .known) d)) rest
+one-tick k begun d m rest = ap (λ (x : Bool). hourly (k .hour) (dosesIn d) (x && ((k .whole && unbroken begun d) && mended (k .known) d)) rest) (sym (eqb-suc (ticksIn d) (suc m)))
+
+first-hour : (hs : List Heard) (k : Clock) (m : ℕ) (begun : Bool) → k .stage ≡ Recording → k .ticks + suc m ≡ ticksAnHour → eqb (k .ticks) 0 ≡ not begun → Hour-is k (suc m) begun hs (linesBy k hs)
+unfolding hourly linesBy upTo behind less ticksIn unbroken mended dosesIn restartedBy lostBy withKnown withWhole withTicks
+first-hour [] k m begun s t b =
+    let none : (eqb 0 (suc m) && ((k .whole && true) && k .known)) ≡ false = ap (λ (x : Bool). x && ((k .whole && true) && k .known)) (ne-eqb 0 (suc m) (λ z. absurd (omega (arith, z)))) in
+    ap (λ (x : List Line). x ++ []) (sym (pick-f _ (On (k .hour) ∷ []) [] none))
+first-hour (Ticked ∷ hs) k zero begun s t b =
+    let l = tick-last k [] t in
+    ap₂ (λ (x : List Line) (next : Clock). x ++ linesBy next hs) (l .0) (l .1) ∙ last-is k begun hs s t
+first-hour (Dosed d ∷ hs) k zero begun s t b =
+    let l = tick-last k (doseIn (k .hour) d ∷ []) t in
+    ap₂ (λ (x : List Line) (next : Clock). x ++ linesBy next hs) (l .0) (l .1) ∙ ap (λ (x : List Line). doseIn (k .hour) d ∷ x) (last-is k begun hs s t)
+first-hour (Ticked ∷ hs) k (suc m) begun s t b =
+    let l = tick-more k [] (λ z. absurd (omega (arith, z, t))) in
+    ap₂ (λ (x : List Line) (next : Clock). x ++ linesBy next hs) (l .0) (l .1)
+    ∙ first-hour hs (withTicks (k .ticks + 1) k) m true s (omega (arith, t)) (ne-eqb (k .ticks + 1) 0 (λ z. absurd (omega (arith, z))))
+    ∙ one-tick k true (upTo hs (suc m)) m (linesBy (opens (k .hour + 1) (mended (k .known) (upTo hs (suc m)))) (behind hs (suc m)))
+first-hour (Dosed d ∷ hs) k (suc m) begun s t b =
+    let l = tick-more k (doseIn (k .hour) d ∷ []) (λ z. absurd (omega (arith, z, t))) in
+    ap₂ (λ (x : List Line) (next : Clock). x ++ linesBy next hs) (l .0) (l .1)
+    ∙ ap (λ (x : List Line). doseIn (k .hour) d ∷ x)
+    (first-hour hs (withTicks (k .ticks + 1) k) m true s (omega (arith, t)) (ne-eqb (k .ticks + 1) 0 (λ z. absurd (omega (arith, z)))) ∙ one-tick k true (upTo hs (suc m)) m (linesBy (opens (k .hour + 1) (mended (k .known) (upTo hs (suc m)))) (behind hs (suc m))))
+first-hour (Restarted ∷ hs) k m begun s t b =
+    let d = upTo hs (suc m) in
+    first-hour hs (restartedBy k) m begun s t b
+    ∙ ap (λ (x : Bool). hourly (k .hour) (dosesIn d) (eqb (ticksIn d) (suc m) && (x && mended true d)) (linesBy (opens (k .hour + 1) (mended true d)) (behind hs (suc m))))
+    (ap (λ (y : Bool). (k .whole && y) && unbroken begun d) b ∙ and-assoc (k .whole) (not begun) (unbroken begun d))
+first-hour (Lost ∷ hs) k m begun s t b =
+    let d = upTo hs (suc m) in
+    first-hour hs (lostBy k) m begun s t b
+    ∙ ap (λ (x : Bool). hourly (k .hour) (dosesIn d) (eqb (ticksIn d) (suc m) && (x && mended false d)) (linesBy (opens (k .hour + 1) (mended false d)) (behind hs (suc m))))
+    (sym (and-false (k .whole)))
+first-hour (Other ∷ hs) k m begun s t b = first-hour hs k m begun s t b
+
+-- ---- hour after hour
+
+-- a line of another hour says nothing of hour h
+Elsewhere : ℕ → Line → Type 0
+Elsewhere h (Dose x c a s) = x ≡ h → ⊥
+Elsewhere h (On x) = x ≡ h → ⊥
+
+elsewhere-skips : (h : ℕ) (ls more : List Line) → Each (Elsewhere h) ls → (hasOn h (ls ++ more) ≡ hasOn h more) × (amountsAt h (ls ++ more) ≡ amountsAt h more)
+unfolding Elsewhere hasOn isOn amountsAt doseAt
+elsewhere-skips h [] more e = (refl, refl)
+elsewhere-skips h (Dose x c a s ∷ ls) more e =
+    let r = elsewhere-skips h ls more (e .1) in
+    (r .0, ap (λ (l : List ℕ). l ++ amountsAt h (ls ++ more)) (pick-f _ _ _ (ne-eqb x h (e .0))) ∙ r .1)
+elsewhere-skips h (On x ∷ ls) more e =
+    let r = elsewhere-skips h ls more (e .1) in
+    (ap (λ (b : Bool). b || hasOn h (ls ++ more)) (ne-eqb x h (e .0)) ∙ r .0, r .1)
+
+each-append : (P : Line → Type 0) (a b : List Line) → Each P a → Each P b → Each P (a ++ b)
+each-append P [] b e f = f
+each-append P (l ∷ a) b e f = (e .0, each-append P a b (e .1) f)
+
+doses-elsewhere : (h x : ℕ) (ds : List Record) → (x ≡ h → ⊥) → Each (Elsewhere h) (map (doseIn x) ds)
+unfolding Elsewhere doseIn
+doses-elsewhere h x [] n = tt
+doses-elsewhere h x (d ∷ ds) n = (n, doses-elsewhere h x ds n)
+
+-- the D lines of hour h
+doses-here : (h : ℕ) (ds : List Record) (more : List Line) → (hasOn h (map (doseIn h) ds ++ more) ≡ hasOn h more) × (amountsAt h (map (doseIn h) ds ++ more) ≡ amountsOf ds ++ amountsAt h more)
+unfolding hasOn isOn amountsAt doseAt doseIn
+doses-here h [] more = (refl, refl)
+doses-here h (d ∷ ds) more =
+    let r = doses-here h ds more in
+    (r .0, ap₂ (λ (a b : List ℕ). a ++ b) (pick-t _ _ _ (eq-eqb h h refl)) (r .1))
+
+-- the lines from a clock on are of its hour or later
+closing-elsewhere : (h : ℕ) (k : Clock) → h < k .hour → Each (Elsewhere h) (closing k)
+unfolding closing Elsewhere
+closing-elsewhere h k n = pick-all (Each (Elsewhere h)) (k .whole && k .known) ((λ z. absurd (omega (arith, z))), tt) tt
+
+ticks-elsewhere : (h : ℕ) (k : Clock) (ds : List Record) → h < k .hour → Each (Elsewhere h) (tickLines k (map (doseIn (k .hour)) ds))
+unfolding tickLines
+ticks-elsewhere h k ds n =
+    let o = doses-elsewhere h (k .hour) ds (λ z. absurd (omega (arith, z))) in
+    pick-all (Each (Elsewhere h)) (eqb (k .ticks + 1) ticksAnHour) (each-append (Elsewhere h) (map (doseIn (k .hour)) ds) (closing k) o (closing-elsewhere h k n)) o
+
+more-hour : (k : Clock) → k .hour ≤ oneMore k [] .next .hour
+unfolding oneMore nextHour withWhole withTicks withHour
+more-hour k = pick-all (λ (n : Note). k .hour ≤ n .next .hour) (eqb (k .ticks + 1) ticksAnHour) (omega arith) (omega arith)
+
+later-none : (hs : List Heard) (k : Clock) (h : ℕ) → h < k .hour → (hasOn h (linesBy k hs) ≡ false) × (amountsAt h (linesBy k hs) ≡ [])
+unfolding linesBy hasOn amountsAt restartedBy lostBy withKnown withWhole
+later-none [] k h n = (refl, refl)
+later-none (Ticked ∷ hs) k h n =
+    let r = later-none hs (oneMore k [] .next) h (omega (arith, more-hour k)) in
+    let e = elsewhere-skips h (tickLines k []) (linesBy (oneMore k [] .next) hs) (ticks-elsewhere h k [] n) in
+    (e .0 ∙ r .0, e .1 ∙ r .1)
+later-none (Dosed d ∷ hs) k h n =
+    let r = later-none hs (oneMore k [] .next) h (omega (arith, more-hour k)) in
+    let e = elsewhere-skips h (tickLines k (doseIn (k .hour) d ∷ [])) (linesBy (oneMore k [] .next) hs) (ticks-elsewhere h k (d ∷ []) n) in
+    (e .0 ∙ r .0, e .1 ∙ r .1)
+later-none (Restarted ∷ hs) k h n = later-none hs (restartedBy k) h n
+later-none (Lost ∷ hs) k h n = later-none hs (lostBy k) h n
+later-none (Other ∷ hs) k h n = later-none hs k h n
+
+mended-append : (a b : List Heard) (n : Bool) → mended n (a ++ b) ≡ mended (mended n a) b
+unfolding mended
+mended-append [] b n = refl
+mended-append (Ticked ∷ a) b n = mended-append a b n
+mended-append (Dosed d ∷ a) b n = mended-append a b n
+mended-append (Restarted ∷ a) b n = mended-append a b true
+mended-append (Lost ∷ a) b n = mended-append a b false
+mended-append (Other ∷ a) b n = mended-append a b n
+
+-- the H of an hour before the lines of later ones
+on-here : (h : ℕ) (on : Bool) (more : List Line) → hasOn h more ≡ false → amountsAt h more ≡ [] → (hasOn h (pick on (On h ∷ []) [] ++ more) ≡ on) × (amountsAt h (pick on (On h ∷ []) [] ++ more) ≡ [])
+unfolding pick hasOn isOn amountsAt doseAt
+on-here h true more a b = (ap (λ (x : Bool). x || hasOn h more) (eq-eqb h h refl), b)
+on-here h false more a b = (a, b)
+
+on-elsewhere : (h x : ℕ) (on : Bool) → (x ≡ h → ⊥) → Each (Elsewhere h) (pick on (On x ∷ []) [])
+unfolding Elsewhere
+on-elsewhere h x on n = pick-all (Each (Elsewhere h)) on (n, tt) tt
+
+-- an hour number k of what is heard from an hour's start on, the box known or not
+seenFrom : Bool → ℕ → List Heard → Bool
+seenFrom n k hs = eqb (ticksIn (hourLines k hs)) ticksAnHour && (unbroken false (hourLines k hs) && mended n (soFar k hs))
+
+record Tells (x : ℕ) (n : Bool) (k : ℕ) (hs : List Heard) : Type 0 where
+  on : hasOn (x + k) (linesBy (opens x n) hs) ≡ seenFrom n k hs
+  amounts : amountsAt (x + k) (linesBy (opens x n) hs) ≡ amountsOf (dosesIn (hourLines k hs))
+
+first-is : (x : ℕ) (n : Bool) (hs : List Heard) → Hour-is (opens x n) ticksAnHour false hs (linesBy (opens x n) hs)
+first-is x n hs = first-hour hs (opens x n) 449999 false refl (omega arith) (eq-eqb 0 0 refl)
+
+hour-tells : (k x : ℕ) (n : Bool) (hs : List Heard) → Tells x n k hs
+unfolding hourly hourLines soFar seenFrom
+hour-tells zero x n hs =
+    let h : x + 0 ≡ x = omega arith in
+    let d = upTo hs ticksAnHour in
+    let on = eqb (ticksIn d) ticksAnHour && ((true && unbroken false d) && mended n d) in
+    let rest = linesBy (opens (x + 1) (mended n d)) (behind hs ticksAnHour) in
+    let l = later-none (behind hs ticksAnHour) (opens (x + 1) (mended n d)) x (omega arith) in
+    let o = on-here x on rest (l .0) (l .1) in
+    let s = doses-here x (dosesIn d) (pick on (On x ∷ []) [] ++ rest) in
+    record {
+      on = ap₂ (λ (i : ℕ) (ls : List Line). hasOn i ls) h (first-is x n hs) ∙ s .0 ∙ o .0;
+      amounts = ap₂ (λ (i : ℕ) (ls : List Line). amountsAt i ls) h (first-is x n hs) ∙ s .1 ∙ ap (λ (l : List ℕ). amountsOf (dosesIn d) ++ l) (o .1) ∙ append-nil (amountsOf (dosesIn d));
+    }
+hour-tells (suc k) x n hs =
+    let h : x + suc k ≡ (x + 1) + k = omega arith in
+    let d = upTo hs ticksAnHour in
+    let on = eqb (ticksIn d) ticksAnHour && ((true && unbroken false d) && mended n d) in
+    let rest = linesBy (opens (x + 1) (mended n d)) (behind hs ticksAnHour) in
+    let t = hour-tells k (x + 1) (mended n d) (behind hs ticksAnHour) in
+    let a = elsewhere-skips (x + suc k) (map (doseIn x) (dosesIn d)) (pick on (On x ∷ []) [] ++ rest) (doses-elsewhere (x + suc k) x (dosesIn d) (λ z. absurd (omega (arith, z)))) in
+    let b = elsewhere-skips (x + suc k) (pick on (On x ∷ []) []) rest (on-elsewhere (x + suc k) x on (λ z. absurd (omega (arith, z)))) in
+    record {
+      on =
+          ap (hasOn (x + suc k)) (first-is x n hs) ∙ a .0 ∙ b .0
+          ∙ ap (λ (i : ℕ). hasOn i rest) h
+          ∙ t .on
+          ∙ ap (λ (m : Bool). eqb (ticksIn (hourLines k (behind hs ticksAnHour))) ticksAnHour && (unbroken false (hourLines k (behind hs ticksAnHour)) && m)) (sym (mended-append d (soFar k (behind hs ticksAnHour)) n));
+      amounts = ap (amountsAt (x + suc k)) (first-is x n hs) ∙ a .1 ∙ b .1 ∙ ap (λ (i : ℕ). amountsAt i rest) h ∙ t .amounts;
+    }
+
+-- ---- the text that is accepted has these lines
+
+abbrev Good : List Line → Type 0
+Good ls = Each (λ l. inRange l ≡ true) ls
+
+-- a text begins with some lines
+record Stripped (ls : List Line) (rest : List ℕ) (ms : List Line) : Type 0 where
+  more : List Line
+  is : ms ≡ ls ++ more
+  text : rest ≡ journalText more
+  range : Good more
+
+strip-one : (l : Line) (rest : List ℕ) (ms : List Line) → inRange l ≡ true → Good ms → textOf l ++ rest ≡ journalText ms → Stripped (l ∷ []) rest ms
+unfolding journalText lineOf
+strip-one l rest [] r g e = bad-good (ap lineOf (sym e) ∙ read-text l rest r)
+strip-one l rest (m ∷ ms) r g e =
+    let both : good l rest ≡ good m (journalText ms) = sym (read-text l rest r) ∙ ap lineOf e ∙ read-text m (journalText ms) (g .0) in
+    let p : l ≡ m = cc in
+    let q : rest ≡ journalText ms = cc in
+    record { more = ms; is = ap (λ (x : Line). x ∷ ms) (sym p); text = q; range = g .1 }
+
+strips : (ls : List Line) (rest : List ℕ) (ms : List Line) → Good ls → Good ms → journalText ls ++ rest ≡ journalText ms → Stripped ls rest ms
+unfolding journalText
+strips [] rest ms r g e = record { more = ms; is = refl; text = e; range = g }
+strips (l ∷ ls) rest ms r g e =
+    let s = strip-one l (journalText ls ++ rest) ms (r .0) g (sym (append-assoc (textOf l) (journalText ls) rest) ∙ e) in
+    let t = strips ls rest (s .more) (r .1) (s .range) (s .text) in
+    record { more = t .more; is = s .is ∙ ap (λ (x : List Line). l ∷ x) (t .is); text = t .text; range = t .range }
+
+no-more : (ms : List Line) → Good ms → [] ≡ journalText ms → ms ≡ []
+unfolding journalText lineOf
+no-more [] g e = refl
+no-more (m ∷ ms) g e = bad-good (ap lineOf e ∙ read-text m (journalText ms) (g .0))
+
+-- a refusal is no line
+refusal-none : {Q : Type 0} (rest : List ℕ) (ms : List Line) → Good ms → refusalText 0 ++ rest ≡ journalText ms → Q
+unfolding journalText refusalText lineOf pick
+refusal-none rest [] g e = let z : suc _ ≡ 0 = ap length e in absurd (omega (arith, z))
+refusal-none rest (m ∷ ms) g e = bad-good (ap lineOf e ∙ read-text m (journalText ms) (g .0))
+
+abbrev with : Controller → Clock → Recorder
+with c k = record { controller = c; clock = k }
+
+-- what the lines that follow give, from every clock that they can meet
+abbrev Following : Controller → List (List ℕ) → Type 0
+Following c script = (k : Clock) (ms : List Line) → k .stage ≡ Recording → Runs k → Good ms → notesOf (with c k) script ≡ journalText ms → ms ≡ linesBy k (heardAll c script)
+
+tick-good : (k : Clock) (ds : List Line) → k .hour ≤ greatestHour → Good ds → Good (tickLines k ds)
+unfolding tickLines closing
+tick-good k ds h g =
+    pick-all Good (eqb (k .ticks + 1) ticksAnHour)
+    (each-append (λ l. inRange l ≡ true) ds (pick (k .whole && k .known) (On (k .hour) ∷ []) []) g (pick-all Good (k .whole && k .known) (on-in-range (k .hour) h, tt) tt))
+    g
+
+tick-text : (k : Clock) (ds : List Line) → (oneMore k ds .text ≡ journalText (tickLines k ds)) × (oneMore k ds .next ≡ oneMore k [] .next)
+unfolding oneMore tickLines pick
+tick-text k ds = go (eqb (k .ticks + 1) ticksAnHour)
+  where
+    go : (b : Bool) → (pick b (note (nextHour k) (journalText (ds ++ closing k))) (note (withTicks (k .ticks + 1) k) (journalText ds)) .text ≡ journalText (pick b (ds ++ closing k) ds))
+        × (pick b (note (nextHour k) (journalText (ds ++ closing k))) (note (withTicks (k .ticks + 1) k) (journalText ds)) .next
+        ≡ pick b (note (nextHour k) (journalText ([] ++ closing k))) (note (withTicks (k .ticks + 1) k) (journalText [])) .next)
+    go true = (refl, refl)
+    go false = (refl, refl)
+
+more-runs : (k : Clock) → k .hour ≤ greatestHour → Runs k → Runs (oneMore k [] .next)
+unfolding oneMore
+more-runs k h r = pick-if (λ (n : Note). Runs (n .next)) (eqb (k .ticks + 1) ticksAnHour) (λ e. next-runs k h) (λ e. ticks-runs k r e)
+
+more-stage : (k : Clock) → oneMore k [] .next .stage ≡ k .stage
+unfolding oneMore nextHour withWhole withTicks withHour
+more-stage k = pick-all (λ (n : Note). n .next .stage ≡ k .stage) (eqb (k .ticks + 1) ticksAnHour) refl refl
+
+counted-lines : (c : Controller) (k : Clock) (ds : List Line) (script : List (List ℕ)) (ms : List Line) → k .stage ≡ Recording → Runs k → (k .hour ≤ greatestHour → Good ds) → Good ms
+    → counts k ds .text ++ notesOf (with c (counts k ds .next)) script ≡ journalText ms → Following c script → ms ≡ tickLines k ds ++ linesBy (oneMore k [] .next) (heardAll c script)
+unfolding counts refuse pick
+counted-lines c k ds script ms s r o g e rest = go (ltb greatestHour (k .hour)) refl e
+  where
+    go : (b : Bool) → ltb greatestHour (k .hour) ≡ b → pick b (refuse 0 k) (oneMore k ds) .text ++ notesOf (with c (pick b (refuse 0 k) (oneMore k ds) .next)) script ≡ journalText ms
+        → ms ≡ tickLines k ds ++ linesBy (oneMore k [] .next) (heardAll c script)
+    go true h t = refusal-none _ ms g t
+    go false h t =
+        let hour = ltb-false greatestHour (k .hour) h in
+        let x = tick-text k ds in
+        let is : journalText (tickLines k ds) ++ notesOf (with c (oneMore k [] .next)) script ≡ journalText ms =
+        ap₂ (λ (a : List ℕ) (n : Clock). a ++ notesOf (with c n) script) (sym (x .0)) (sym (x .1)) ∙ t in
+        let p = strips (tickLines k ds) _ ms (tick-good k ds hour (o hour)) g is in
+        p .is ∙ ap (λ (l : List Line). tickLines k ds ++ l) (rest (oneMore k [] .next) (p .more) (more-stage k ∙ s) (more-runs k hour r) (p .range) (p .text))
+
+heard-lines : (h : Heard) (c : Controller) (k : Clock) (script : List (List ℕ)) (ms : List Line) → k .stage ≡ Recording → Runs k → Writable h → Good ms
+    → heardBy k h .text ++ notesOf (with c (heardBy k h .next)) script ≡ journalText ms → Following c script → ms ≡ linesBy k (h ∷ heardAll c script)
+unfolding heardBy linesBy restartedBy lostBy withKnown withWhole
+heard-lines Ticked c k script ms s r w g e rest = counted-lines c k [] script ms s r (λ h. tt) g e rest
+heard-lines (Dosed d) c k script ms s r w g e rest = counted-lines c k (doseIn (k .hour) d ∷ []) script ms s r (λ h. (dose-in-range (k .hour) d h w, tt)) g e rest
+heard-lines Restarted c k script ms s r w g e rest = rest (restartedBy k) ms s (restarted-runs k r) g e
+heard-lines Lost c k script ms s r w g e rest = rest (lostBy k) ms s (lost-runs k r) g e
+heard-lines Other c k script ms s r w g e rest = rest k ms s r g e
+
+script-lines : (script : List (List ℕ)) (c : Controller) → Sound c → Following c script
+unfolding notesOf nextOf noteOf noteBy boxBy heardAll linesBy
+script-lines [] c a = λ k ms s r g e. no-more ms g e
+script-lines (l ∷ script) c a = λ k ms s r g e.
+    let d = madeBy c (callOf l) in
+    heard-lines (heardOf c (callOf l)) d k script ms s r (heard-writable c (callOf l) a) g
+    (sym (ap (λ (t : Stage). noteBy t (with c k) l .text ++ notesOf (with (boxBy t c l) (noteBy t (with c k) l .next)) script) s) ∙ e)
+    (script-lines script d (made-sound c (callOf l) a))
+
+-- ---- the statement
+
+-- an input: the hour of the first tick alone on the first line, and then a script
+pub record Script (input : List ℕ) : Type 0 where
+  pub line : List ℕ
+  pub first : ℕ
+  pub script : List (List ℕ)
+  pub lines : linesOf [] input ≡ line ∷ script
+  pub hour : numberAt greatestHour line ≡ good first []
+
+-- what its lines were, the controller being fresh at the start
+abbrev pub heardIn : {input : List ℕ} → Script input → List Heard
+heardIn s = heardAll freshOf (s .script)
+
+module _ (input : List ℕ) (s : Script input) (ls : List Line) (accepted : journalOf (recordOf input) ≡ done ls) where
+  lines-are : ls ≡ linesBy (opens (s .first) true) (heardIn s)
+  unfolding recordOf notesOf nextOf noteOf noteBy boxBy startOf clock.startOf firstOf withStage withHour
+  lines-are =
+      let most = number-only greatestHour (s .line) (s .first) [] (s .hour) .1 in
+      let begins : recordOf input ≡ notesOf (with freshOf (opens (s .first) true)) (s .script) =
+      ap (notesOf startOf) (s .lines) ∙ ap (λ (p : Parsed ℕ). firstOf (startOf .clock) p .text ++ notesOf (with freshOf (firstOf (startOf .clock) p .next)) (s .script)) (s .hour) in
+      script-lines (s .script) freshOf fresh-sound (opens (s .first) true) ls refl (record { ticks = omega arith; hour = omega (arith, most) }) (journal-range (recordOf input) ls accepted)
+      (sym begins ∙ journal-text (recordOf input) ls accepted)
+
+  -- the hour number k after the first: measured or idle exactly if it was seen in full, by the doses that its ticks completed; else missing
+  pub consumption : (k : ℕ) → hourOf ls (s .first + k) ≡ hourWith (seenInFull k (heardIn s)) (dosesIn (hourLines k (heardIn s)))
+  unfolding hourOf hourWith seenInFull seenFrom
+  consumption k =
+      let t = hour-tells k (s .first) true (heardIn s) in
+      ap (λ (m : List Line). hourOf m (s .first + k)) lines-are
+      ∙ ap₂ (λ (on : Bool) (amounts : List ℕ). pick on (measuredOrIdle amounts) missing) (t .on) (t .amounts)
+
+  -- no hour before the first is anything but missing
+  pub before-first : (h : ℕ) → h < s .first → hourOf ls h ≡ missing
+  unfolding hourOf
+  before-first h b =
+      ap (λ (m : List Line). hourOf m h) lines-are
+      ∙ pick-f _ _ _ (later-none (heardIn s) (opens (s .first) true) h b .0)
+
+  -- so it is measured if it was seen in full and a dose completed in it, idle if it was seen in full and none did, missing else
+  pub is-measured : (k : ℕ) (d : Record) (ds : List Record) → seenInFull k (heardIn s) ≡ true → dosesIn (hourLines k (heardIn s)) ≡ d ∷ ds
+      → hourOf ls (s .first + k) ≡ measured (sumOf (amountsOf (d ∷ ds))) (largestOf (amountsOf (d ∷ ds))) (meanOf (amountsOf (d ∷ ds)))
+  unfolding hourWith measuredOrIdle
+  is-measured k d ds e f = consumption k ∙ pick-t _ _ _ e ∙ ap (λ (rs : List Record). measuredOrIdle (amountsOf rs)) f
+
+  pub is-idle : (k : ℕ) → seenInFull k (heardIn s) ≡ true → dosesIn (hourLines k (heardIn s)) ≡ [] → hourOf ls (s .first + k) ≡ idle
+  unfolding hourWith measuredOrIdle
+  is-idle k e f = consumption k ∙ pick-t _ _ _ e ∙ ap (λ (rs : List Record). measuredOrIdle (amountsOf rs)) f
+
+  pub is-missing : (k : ℕ) → seenInFull k (heardIn s) ≡ false → hourOf ls (s .first + k) ≡ missing
+  unfolding hourWith
+  is-missing k e = consumption k ∙ pick-f _ _ _ e

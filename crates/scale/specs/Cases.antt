@@ -1,0 +1,93 @@
+-- The filter, S, stable, over capacity and weights on numbers. Assumes nothing.
+use mathlib.Core.Path.{_≡_, refl}
+use mathlib.Core.Bool.{true, false, xor}
+use mathlib.Core.List.{[], _∷_, _++_}
+use Prim.Native.Nat.{ℕ}
+use lib.IntN.{pos, negsuc}
+use lib.ListN.{replicate}
+use Rattle.laws.specs.Pick.{pick}
+use Rattle.paper.specs.Answer.{done, refused}
+use Rattle.paper.specs.Numbers.{R16}
+use Rattle.settings.specs.declared.Settings.{Settings}
+use Rattle.settings.specs.Cases.{setOf}
+use Rattle.window.specs.declared.Window.{Window}
+use Rattle.window.specs.Mean.{meanOf, roundAway, halfUp, sumOf}
+use Rattle.window.specs.Window.{samplesOf}
+use Rattle.field.specs.Field.{weight, writable}
+use Rattle.dosing.specs.Rules.{units, gates, shut}
+use Rattle.scale.specs.Scale.{outside, filtered, filterOf, equalZ, none, calmRun, stableOf, changed, calmAfter, overCapacity, weightFrom, weightBy, showable}
+
+-- C 10,000, p7 4, p8 8, and a settle time p9 and a decimal point
+abbrev set : ℕ → ℕ → Settings
+set p9 point = setOf (0 ∷ 10000 ∷ 0 ∷ 0 ∷ 0 ∷ 0 ∷ 4 ∷ 8 ∷ p9 ∷ 0 ∷ 0 ∷ 0 ∷ 0 ∷ 0 ∷ 0 ∷ 0 ∷ point ∷ [])
+
+-- twelve samples: four of 100 after eight of 0
+abbrev twelve : Window
+twelve = record { samples = replicate 4 (pos 100) ++ replicate 124 (pos 0); held = 12 }
+
+abbrev empty : Window
+empty = record { samples = replicate 128 (pos 5); held = 0 }
+
+-- -900,000 and 900,000 are samples, one beyond is not
+pub limits :
+    (outside (pos 900000) ≡ false) × (outside (pos 900001) ≡ true) × (outside (negsuc 899999) ≡ false) × (outside (negsuc 900000) ≡ true)
+unfolding outside
+limits = (refl, refl, refl, refl)
+
+-- p7 while output 1 is open, else p8; the mean of so many, or of those held
+pub filters :
+    (filterOf (set 1 0) (gates true false false) ≡ 4)
+    × (filterOf (set 1 0) (gates false true true) ≡ 8)
+    × (filtered twelve 4 ≡ pos 100)
+    × (filtered twelve 8 ≡ pos 50)
+    × (filtered twelve 128 ≡ pos 33)
+    × (filtered empty 4 ≡ pos 0)
+unfolding filterOf filtered samplesOf meanOf roundAway halfUp sumOf setOf pick
+filters = (refl, refl, refl, refl, refl, refl)
+
+-- S: 0 on the first tick, one more on the same F up to 4,032, 0 on another F and where output 1, 2 or 3 moves
+pub calm-runs :
+    (calmRun true (pos 0) (pos 0) 7 ≡ 0)
+    × (calmRun false (negsuc 4) (negsuc 4) 7 ≡ 8)
+    × (calmRun false (pos 5) (negsuc 4) 7 ≡ 0)
+    × (calmRun false (negsuc 4) (pos 5) 7 ≡ 0)
+    × (calmRun false (pos 5) (pos 5) 4031 ≡ 4032)
+    × (calmRun false (pos 5) (pos 5) 4032 ≡ 4032)
+    × (calmAfter shut shut 7 ≡ 7)
+    × (calmAfter shut (gates true false false) 7 ≡ 0)
+    × (calmAfter (gates false true false) shut 7 ≡ 0)
+    × (calmAfter (gates true false true) (gates true false false) 7 ≡ 0)
+unfolding calmRun equalZ calmAfter changed xor pick
+calm-runs = (refl, refl, refl, refl, refl, refl, refl, refl, refl, refl)
+
+-- stable means S >= 64*p9; w = C+9 is no alarm, C+10 is
+pub flags :
+    (stableOf (set 1 0) 63 ≡ false)
+    × (stableOf (set 1 0) 64 ≡ true)
+    × (stableOf (set 63 0) 4031 ≡ false)
+    × (stableOf (set 63 0) 4032 ≡ true)
+    × (overCapacity (set 1 0) (pos 10009) ≡ false)
+    × (overCapacity (set 1 0) (pos 10010) ≡ true)
+    × (overCapacity (set 1 0) (negsuc 10010) ≡ false)
+unfolding stableOf overCapacity setOf
+flags = (refl, refl, refl, refl, refl, refl, refl)
+
+-- with no sample held weight and flags are 0 and the point is sent; stable by S; over by the weight of this reply; below 0
+pub weights :
+    (weightBy (set 1 2) empty (units (pos 5)) 64 8 ≡ weight (pos 0) false false 2)
+    × (weightBy (set 1 2) twelve (units (pos 0)) 63 8 ≡ weight (pos 50) false false 2)
+    × (weightBy (set 1 0) twelve (units (pos 101)) 64 4 ≡ weight (negsuc 0) true false 0)
+    × (weightBy (set 1 0) twelve (units (negsuc 9909)) 0 4 ≡ weight (pos 10010) false true 0)
+    × (weightBy (set 1 0) twelve (units (negsuc 9909)) 0 8 ≡ weight (pos 9960) false false 0)
+unfolding weightBy weightFrom none filtered samplesOf meanOf roundAway halfUp sumOf stableOf overCapacity setOf pick
+weights = (refl, refl, refl, refl, refl)
+
+-- a weight of six digits and a point of at most 7 can be shown
+pub shows :
+    (showable (weight (pos 999999) true true 7) ≡ done (weight (pos 999999) true true 7))
+    × (showable (weight (negsuc 999998) true true 7) ≡ done (weight (negsuc 999998) true true 7))
+    × (showable (weight (pos 1000000) true true 7) ≡ refused R16 [])
+    × (showable (weight (negsuc 999999) true true 7) ≡ refused R16 [])
+    × (showable (weight (pos 0) true true 8) ≡ refused R16 [])
+unfolding showable writable pick
+shows = (refl, refl, refl, refl, refl)

@@ -1,0 +1,78 @@
+-- What a tick and a request read off the samples (document 01, "One tick", steps 3 to 5 and 8; "On the line"). Assumes nothing.
+use mathlib.Core.Bool.{Bool, true, false, xor, _&&_, _||_}
+use mathlib.Core.List.{List, [], _∷_}
+use Prim.Native.Nat.{ℕ, _+_, _*_}
+use lib.Dec.{leb, ltb}
+use lib.IntN.{ℤ, pos, negsuc, _-ℤ_}
+use lib.ListN.{take}
+use lib.Signed.{ltZ, leZ}
+use Rattle.laws.specs.Pick.{pick}
+use Rattle.paper.specs.Answer.{Answer, done, refused}
+use Rattle.paper.specs.Numbers.{R16}
+use Rattle.settings.specs.declared.Settings.{Settings}
+use Rattle.window.specs.Mean.{meanOf}
+use Rattle.window.specs.Window.{samplesOf}
+use Rattle.window.specs.declared.Window.{Window}
+use Rattle.field.specs.Field.{writable}
+use Rattle.field.specs.declared.Weight.{Weight}
+use Rattle.dosing.specs.declared.Units.{Units}
+use Rattle.dosing.specs.declared.Gates.{Gates}
+
+-- ---- a tick
+
+-- Sample outside -900,000..900,000
+unfoldable pub outside : ℤ → Bool
+outside x = ltZ x (negsuc 899999) || ltZ (pos 900000) x
+
+-- F by a filter: the mean of the last n samples (of those held, if fewer)
+unfoldable pub filtered : Window → ℕ → ℤ
+filtered window n = meanOf (take n (samplesOf window))
+
+-- n is p7 if output 1 was open before the tick, else p8
+unfoldable pub filterOf : Settings → Gates → ℕ
+filterOf set g = pick (g .one) (set .p7) (set .p8)
+
+-- two whole numbers are the same
+unfoldable pub equalZ : ℤ → ℤ → Bool
+equalZ a b = leZ a b && leZ b a
+
+-- no sample is held
+unfoldable pub none : List ℤ → Bool
+none [] = true
+none (x ∷ xs) = false
+
+-- S grows by 1 (cap 4,032) if F equals the previous tick's F, else becomes 0; on the first tick after the filter is emptied it is 0
+unfoldable pub calmRun : Bool → ℤ → ℤ → ℕ → ℕ
+calmRun first f previous s = pick first 0 (pick (equalZ f previous) (pick (ltb s 4032) (s + 1) 4032) 0)
+
+-- Stable means S >= 64*p9
+unfoldable pub stableOf : Settings → ℕ → Bool
+stableOf set s = leb (64 * set .p9) s
+
+-- an output 1 to 3 changed
+unfoldable pub changed : Gates → Gates → Bool
+changed a b = xor (a .one) (b .one) || xor (a .two) (b .two) || xor (a .three) (b .three)
+
+-- If an output 1 to 3 changed, S becomes 0
+unfoldable pub calmAfter : Gates → Gates → ℕ → ℕ
+calmAfter old new s = pick (changed old new) 0 s
+
+-- w > C+9
+unfoldable pub overCapacity : Settings → ℤ → Bool
+overCapacity set w = ltZ (pos (set .capacity + 9)) w
+
+-- ---- a request
+
+unfoldable pub weightFrom : Bool → Settings → ℕ → ℤ → Weight
+-- While no sample is held weight and both flags are 0
+weightFrom true set s w = record { value = pos 0; stable = false; over = false; point = set .point }
+-- stable by S as the last tick left it; over if the weight of this reply is over C+9
+weightFrom false set s w = record { value = w; stable = stableOf set s; over = overCapacity set w; point = set .point }
+
+-- weight and CON, filtered by n over the same samples, minus Z
+unfoldable pub weightBy : Settings → Window → Units → ℕ → ℕ → Weight
+weightBy set window z s n = weightFrom (none (samplesOf window)) set s (filtered window n -ℤ z .v)
+
+-- R16: to be written with a weight beyond six digits or a point above 7
+unfoldable pub showable : Weight → Answer Weight
+showable v = pick (writable v) (done v) (refused R16 [])

@@ -1,4 +1,0 @@
-pub mod Shown
-pub mod Telling
-pub mod Journals
-pub mod Letters
