@@ -260,7 +260,7 @@ MUTANTS = [
      '    if room < 4: raise Refused(8)\n    if not good(kind, values):\n'),
     ('missing printed idle', 'hours.py', "return 'X'", "return 'I'"),
     ('an hour with a D measured without its H', 'hours.py',
-     'if not has_h:', 'if not has_h and not amounts:'),
+     'if in_hole or not has_h:', 'if in_hole or not has_h and not amounts:'),
     ('the mean cut to a whole number', 'hours.py',
      'float(sum(amounts)) / float(len(amounts))',
      'float(sum(amounts) // len(amounts))'),
@@ -269,6 +269,88 @@ MUTANTS = [
      'float(sum(amounts)) * (1.0 / float(len(amounts)))'),
     ('the smallest amount for the largest', 'hours.py',
      'float(max(amounts))', 'float(min(amounts))'),
+
+    # Holes in the dose numbers.
+    ('no hole', 'hours.py', 'if in_hole or not has_h:', 'if not has_h:'),
+    ('only the later hour missing', 'hours.py',
+     'range(first, last + 1):', 'range(last, last + 1):'),
+    ('only the earlier hour missing', 'hours.py',
+     'range(first, last + 1):', 'range(first, first + 1):'),
+    ('only the two hours missing', 'hours.py',
+     'range(first, last + 1):', '(first, last):'),
+    ('hours strictly between missing', 'hours.py',
+     'range(first, last + 1):', 'range(first + 1, last):'),
+    ('the later hour not missing', 'hours.py',
+     'range(first, last + 1):', 'range(first, last):'),
+    ('the earlier hour not missing', 'hours.py',
+     'range(first, last + 1):', 'range(first + 1, last + 1):'),
+    ('the hour after a hole missing', 'hours.py',
+     'range(first, last + 1):', 'range(first, min(last + 2, lines[-1][1] + 1)):'),
+    ('no hole within an hour', 'hours.py',
+     'if not follows(earlier[2], later[2]):',
+     'if not follows(earlier[2], later[2]) and earlier[1] < later[1]:'),
+    ('a 1 does not follow', 'hours.py', ' or count == 1\n', '\n'),
+    ('a 1 follows only where it is no second 1', 'hours.py',
+     'or count == 1', 'or count == 1 != before'),
+    ('a 1 does not follow 999,999', 'hours.py',
+     'or count == 1', 'or count == 1 and before != 999999'),
+    ('0 does not follow 999,999', 'hours.py',
+     '(before + 1) % (journal.COUNT + 1)', 'before + 1'),
+    ('0 follows 999,998', 'hours.py',
+     '(before + 1) % (journal.COUNT + 1)', '(before + 1) % journal.COUNT'),
+    ('0 follows anything', 'hours.py', 'or count == 1', 'or count in (0, 1)'),
+    ('a 2 follows anything', 'hours.py', 'or count == 1', 'or count in (1, 2)'),
+    ('an equal count follows', 'hours.py',
+     'or count == 1', 'or count in (1, before)'),
+    ('a count that goes back follows', 'hours.py',
+     'or count == 1', 'or count == 1 or count < before'),
+    ('a greater count follows', 'hours.py',
+     'or count == 1', 'or count == 1 or count > before'),
+    ('a single lost line forgiven', 'hours.py',
+     'or count == 1', 'or count in (1, before + 2)'),
+    ('the first D line tested', 'hours.py',
+     'zip(doses, doses[1:])', "zip([('D', doses[0][1], 0)] + doses if doses else [], doses)"),
+    ('the second D line not tested', 'hours.py',
+     'zip(doses, doses[1:])', 'zip(doses[1:], doses[2:])'),
+    ('the last D line not tested', 'hours.py',
+     'zip(doses, doses[1:])', 'zip(doses, doses[1:-1])'),
+    ('a last line not tested', 'hours.py',
+     'zip(doses, doses[1:])', 'zip(doses, [later for later in doses[1:] '
+     'if later is not lines[-1]])'),
+    ('an H between mends a hole', 'hours.py',
+     "doses = [line for line in lines if line[0] == 'D']\n"
+     '    for earlier, later in zip(doses, doses[1:]):\n',
+     "for earlier, later in zip(lines, lines[1:]):\n"
+     "        if 'H' in (earlier[0], later[0]): continue\n"),
+    ('an H of its own mends an idle hour in a hole', 'hours.py',
+     'if in_hole or not has_h:', 'if in_hole and amounts or not has_h:'),
+    ('held against the last count that followed', 'hours.py',
+     '    for earlier, later in zip(doses, doses[1:]):\n'
+     '        if not follows(earlier[2], later[2]):\n'
+     '            yield earlier[1], later[1]\n',
+     '    good = doses[0][2] if doses else 0\n'
+     '    for earlier, later in zip(doses, doses[1:]):\n'
+     '        if follows(good, later[2]):\n'
+     '            good = later[2]\n'
+     '        else:\n'
+     '            yield earlier[1], later[1]\n'),
+    ('a hole from the last hour that followed', 'hours.py',
+     '    for earlier, later in zip(doses, doses[1:]):\n'
+     '        if not follows(earlier[2], later[2]):\n'
+     '            yield earlier[1], later[1]\n',
+     '    began = doses[0][1] if doses else 0\n'
+     '    for earlier, later in zip(doses, doses[1:]):\n'
+     '        if follows(earlier[2], later[2]):\n'
+     '            began = later[1]\n'
+     '        else:\n'
+     '            yield began, later[1]\n'),
+    ('only the first hole', 'hours.py',
+     '            yield earlier[1], later[1]\n',
+     '            yield earlier[1], later[1]\n            return\n'),
+    ('a hole to the end', 'hours.py',
+     'yield earlier[1], later[1]', 'yield earlier[1], lines[-1][1]'),
+    ('a hole refused', 'hours.py',
+     '            yield earlier[1], later[1]\n', '            raise Refused(10, 0)\n'),
 
     # The program.
     ('a line of 4,097 bytes taken', 'replay.py',
