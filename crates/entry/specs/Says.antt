@@ -28,7 +28,10 @@ wrote-one W.R8 (W.Line m) e = cc
 wrote-one W.R8 W.R10 e = cc
 wrote-one W.R8 W.R8 e = refl
 
+-- write: the line's text from the buffer's start, or R10, or R8
+abbrev pub WritesLine : Line → Wrote → List ℕ → List ℕ → Type 0
+WritesLine line r old new = Fills (saysWrote r) (writeOf line (length old)) old new
+
 -- two results that both meet the call's contract are equal
-pub write-determined : (l : Line) (old new new' : List ℕ) (a b : Wrote)
-    → Fills (saysWrote a) (writeOf l (length old)) old new → Fills (saysWrote b) (writeOf l (length old)) old new' → (a ≡ b) × (new ≡ new')
-write-determined l old new new' a b p q = (wrote-one a b (fills-one p q .0), fills-one p q .1)
+pub write-determined : (line : Line) (old new new' : List ℕ) (a b : Wrote) → WritesLine line a old new → WritesLine line b old new' → (a ≡ b) × (new ≡ new')
+write-determined line old new new' a b p q = (wrote-one a b (fills-one p q .0), fills-one p q .1)

@@ -5,11 +5,10 @@ ghost use mathlib.Core.List.{[], _∷_};
 ghost use Prim.Native.Nat.{_+_, _≤_};
 ghost use lib.ListN.{length};
 ghost use Rattle.laws.specs.Decimal.{decimal};
-ghost use Rattle.paper.specs.Answer.{Fills};
 ghost use Rattle.text.specs.Scan.{TAB};
-ghost use Rattle.journal.specs.Line.{textOf, inRange, writeOf};
+ghost use Rattle.journal.specs.Line.{textOf, inRange};
 ghost use Rattle.journal.specs.declared.Line.the-variants.{Dose, On};
-ghost use Rattle.entry.specs.Says.{saysWrote};
+ghost use Rattle.entry.specs.Says.{WritesLine};
 ghost use Rattle.entry.specs.Store.{FieldLength, Stores};
 
 // What the writer of a line answers: its length, or a refusal.
@@ -133,7 +132,7 @@ fn store_line(out: &mut [u8], line: Line) -> usize
 
 // A line written into a lent buffer: R10, then R8.
 pub fn write(line: Line, out: &mut [u8]) -> Wrote
-    ensures { λ r. ⌜ Fills (saysWrote r) (writeOf line (length (now (out .entry)))) (now (out .entry)) (now (out .exit)) ⌝ }
+    ensures { λ r. ⌜ WritesLine line r (now (out .entry)) (now (out .exit)) ⌝ }
 {
     if !in_range(line) {
         return Wrote::R10;

@@ -8,19 +8,21 @@ use lib.ListN.{length, getD, drop, set, length-append, length-drop, drop-of-leng
 use borrow.Author.Tests.{leb-false, ltb-false}
 use Rattle.laws.specs.Pick.{pick}
 use Rattle.laws.specs.Whole.{false-true}
+use Rattle.laws.specs.Decimal.{bad}
 use Rattle.paper.specs.Answer.{Answer, done, refused, fault, told}
 use Rattle.paper.specs.Numbers.{R10, R11, R12}
-use Rattle.journal.specs.Line.{textOf, lineOf, lineAt}
-use Rattle.journal.specs.LineLaws.{Stands, placed-bad, text-only, text-least}
-use Rattle.journal.specs.Journal.{hourIn, outOfOrder, tooFar, noPast, pastAfter, ordered, journalOf, firstHour, lastHour, summaryOf}
+use Rattle.journal.specs.Line.{textOf, lineOf}
+use Rattle.journal.specs.LineLaws.{Stands, text-only, text-least}
+use Rattle.journal.specs.Journal.{hourIn, outOfOrder, tooFar, noPast, pastAfter, ordered, journalOf, firstHour, lastHour}
 use Rattle.journal.specs.JournalLaws.{linesFrom, journal-lines, told-none, told-bad, told-good, order-broken, order-far, order-kept}
 use Rattle.journal.specs.declared.Line.{Line}
 use Rattle.journal.specs.declared.Past.{Past}
 use Rattle.journal.specs.declared.Refusal.{Refusal}
-use Rattle.journal.specs.declared.Judged.the-variants as J
-use Rattle.journal.specs.Says.{saysRefusal, saysJudged, refusal-done, refusal-told}
+use Rattle.journal.specs.Says.{saysRefusal, refusal-done, refusal-told}
 use Rattle.hourly.specs.Accepted.{InRange, Ranged}
-use Rattle.hourly.specs.Tally.{outside, noTally, counted, Tells, Counts, acceptedAfter}
+use Rattle.hourly.specs.Tally.{outside, noTally, counted, summaryOf, Tells, acceptedAfter, refusedBy}
+use Rattle.hourly.specs.Contracts.{Counts}
+use Rattle.hourly.specs.declared.Judged.the-variants as J
 use Rattle.hourly.specs.declared.Tally.{Tally}
 use Rattle.hourly.specs.declared.Tallied.{Tallied}
 use Rattle.hourly.proofs.Tallying.{tells-none, tells-start, tells-more, old-few}
@@ -115,12 +117,15 @@ tells-from table false first h (l ∷ ls) e t = false-true e
 -- ---- what the pass answers
 
 -- the journal's refusal
-pub counts-refused : (s : List ℕ) (t : Tallied) (r : Refusal) → t .judged ≡ J.Refused r → journalOf s ≡ saysRefusal r → Counts s t
+pub counts-refused : (s : List ℕ) (t : Tallied) (r : Refusal) → t ≡ refusedBy r → journalOf s ≡ saysRefusal r → Counts s t
+unfolding refusedBy
 counts-refused s t r e j =
-    record {
-      judged = ap saysJudged e ∙ refusal-told summaryOf r ∙ ap (told summaryOf) (sym j);
+    rw e
+    (record {
+      judged = refusal-told summaryOf r ∙ ap (told summaryOf) (sym j);
       tells = λ ls d. refusal-done r (sym j ∙ d);
-    }
+      none = λ q f. refl;
+    })
 
 module _ {s : List ℕ} {past : Past} {at n : ℕ} {table : List Tally} (p : Passed s past at n table) where
   -- the last line is taken
@@ -138,13 +143,12 @@ module _ {s : List ℕ} {past : Past} {at n : ℕ} {table : List Tally} (p : Pas
       record {
         judged = rw (sym (p .number), p .first, p .last) refl ∙ sym (ap (told summaryOf) e);
         tells = λ ls d. let q : p .lines ≡ ls = cc in subst (λ (ms : List Line). Tells table (firstHour ms) ms) q (subst (λ (f : ℕ). Tells table f (p .lines)) (p .first) (p .tells));
+        none = λ r f. let z : _≡_ {A = ℕ} 0 1 = cc in absurd (omega arith);
       }
 
   -- no line stands at `at`
-  pub malformed : at < length s → refused R10 [] ≡ lineAt s at → journalOf s ≡ refused R10 ((n + 1) ∷ [])
-  unfolding lineAt
-  malformed h e =
-      p .left ∙ told-bad (λ (ms : List Line). p .lines ++ ms) past (n + 1) (drop at s) (rw (length-drop at s) (omega arith)) (placed-bad (length s) (lineOf (drop at s)) e)
+  pub malformed : at < length s → lineOf (drop at s) ≡ bad → journalOf s ≡ refused R10 ((n + 1) ∷ [])
+  malformed h e = p .left ∙ told-bad (λ (ms : List Line). p .lines ++ ms) past (n + 1) (drop at s) (rw (length-drop at s) (omega arith)) e
 
   module _ (l : Line) (next : ℕ) (w : Stands s at l next) where
     -- the tests of its order

@@ -1,5 +1,5 @@
--- One line more, and what it does to the tally of each hour; the line at a place of an accepted journal. Assumes nothing.
-use mathlib.Core.Path.{_≡_, refl, sym, ap, _∙_, subst}
+-- One line more, and what it does to the tally of each hour. Assumes nothing.
+use mathlib.Core.Path.{_≡_, refl, sym, ap, _∙_}
 use mathlib.Core.Bool.{Bool, true, _||_, or-true, or-false, or-assoc}
 use mathlib.Core.List.{List, [], _∷_, _++_, append-assoc, append-nil}
 use Prim.Native.Nat.{ℕ, _+_, _-_, _^_, _≤_, _<_, max}
@@ -10,20 +10,16 @@ use lib.ListN.{length, getD, set, length-append, length-set, replicate, length-r
 use lib.Seq.{getD-set-same, getD-set-other}
 use borrow.Author.Tests.{eq-eqb, ne-eqb}
 use Rattle.laws.specs.Pick.{pick-t, pick-f}
-use Rattle.paper.specs.Answer.{done, told}
 use Rattle.journal.specs.Line.{inRange}
-use Rattle.journal.specs.Journal.{hourIn, journalOf, firstHour, lastHour, summaryOf}
+use Rattle.journal.specs.Journal.{hourIn}
 use Rattle.journal.specs.LineLaws.{dose-range}
-use Rattle.journal.specs.JournalLaws.{judged-lines}
 use Rattle.journal.specs.declared.Line.{Line}
 use Rattle.journal.specs.declared.Line.the-variants.{Dose, On}
-use Rattle.journal.specs.declared.Summary.{Summary}
 use Rattle.hourly.specs.Hours.{doseAt, amountsAt, isOn, hasOn, total, greatest, asF64}
-use Rattle.hourly.specs.Accepted.{Ranged, Accepted, accepted}
+use Rattle.hourly.specs.Accepted.{Ranged}
 use Rattle.hourly.specs.Bounds.{modest}
-use Rattle.hourly.specs.Tally.{outside, noTally, withDose, withOn, counted, tallyOf, Tells, Counts, linesIn, linesOf}
+use Rattle.hourly.specs.Tally.{outside, noTally, withDose, withOn, counted, tallyOf, Tells}
 use Rattle.hourly.specs.declared.Tally.{Tally}
-use Rattle.hourly.specs.declared.Tallied.{Tallied}
 use Rattle.hourly.specs.Floats.{add-whole}
 
 -- ---- one line more
@@ -131,34 +127,3 @@ module _ (ls : List Line) (first : ℕ) (table : List Tally) (l : Line) (tells :
           getD-set-other table spot k (counted (getD table spot outside) l) outside (λ p. e (omega arith))
           ∙ tells .at k b
           ∙ sym (tally-there ls l (first + k) e)
-
--- ---- an accepted journal
-
--- the lines of an accepted journal, and what the reader said of them
-pub record Found (s : List ℕ) (found : Summary) : Type 0 where
-  pub journal : journalOf s ≡ done (linesOf s)
-  pub summary : summaryOf (linesOf s) ≡ found
-  pub lines : length (linesOf s) ≡ found .lines
-  pub first : firstHour (linesOf s) ≡ found .first
-  pub last : lastHour (linesOf s) ≡ found .last
-
-pub found-of : (s : List ℕ) (found : Summary) → told summaryOf (journalOf s) ≡ done found → Found s found
-unfolding linesOf summaryOf
-found-of s found e =
-    let j = judged-lines s found (sym e) in
-    let q : linesIn (journalOf s) ≡ j .0 = ap linesIn (j .1) in
-    let f : summaryOf (j .0) ≡ found = sym (j .2) in
-    record {
-      journal = j .1 ∙ ap done (sym q);
-      summary = ap summaryOf q ∙ f;
-      lines = ap length q ∙ ap (λ (x : Summary). x .lines) f;
-      first = ap firstHour q ∙ ap (λ (x : Summary). x .first) f;
-      last = ap lastHour q ∙ ap (λ (x : Summary). x .last) f;
-    }
-
-pub found-accepted : {s : List ℕ} {found : Summary} → Found s found → Accepted s (linesOf s)
-found-accepted {s} f = accepted s (linesOf s) (f .journal)
-
--- the pass has counted those lines
-pub counts-tell : {s : List ℕ} {found : Summary} {t : Tallied} → Found s found → Counts s t → Tells (t .table) (found .first) (linesOf s)
-counts-tell {s} {t = t} f c = subst (λ (h : ℕ). Tells (t .table) h (linesOf s)) (f .first) (c .tells (linesOf s) (f .journal))

@@ -20,11 +20,9 @@ use Rattle.journal.specs.JournalLaws.{Each, hour-range}
 use Rattle.journal.specs.Order.{Within}
 use Rattle.journal.specs.declared.Line.{Line}
 use Rattle.journal.specs.declared.Line.the-variants.{Dose, On}
-use Rattle.hourly.specs.Hours.{doseAt, amountsAt, isOn, hasOn, total, greatest, measuredOrIdle, hourOf}
-use Rattle.hourly.specs.Text.{Row, measured, idle, missing, letterM, letterI, letterX, rowFrom, rowOf, rowText, rowsOf, rowsText, hoursFrom, spanOf, hoursText, printOf}
+use Rattle.hourly.specs.Hours.{HourAnswer, missing, doseAt, amountsAt, isOn, hasOn, total, greatest, measuredOrIdle, hourOf}
+use Rattle.hourly.specs.Text.{Row, rowM, rowI, rowX, letterM, letterI, letterX, rowFrom, rowOf, rowText, rowsOf, rowsText, hoursFrom, spanOf, hoursText, printOf}
 use Rattle.hourly.specs.Accepted.{Ranged, Accepted, accepted}
-use Rattle.hourly.specs.declared.Hour.{Hour}
-use Rattle.hourly.specs.declared.Hour.the-variants.{Missing}
 
 -- ---- outside first..last
 
@@ -40,12 +38,12 @@ outside-off whole (Dose x c a s ∷ ls) h o w = outside-off whole ls h o (w .1)
 outside-off whole (On x ∷ ls) h o w = rw (ne-eqb x h (apart (firstHour whole) (lastHour whole) h x o (w .0 .from) (w .0 .to))) (outside-off whole ls h o (w .1))
 
 -- an hour before the first line's or after the last line's is missing
-pub outside-missing : {s : List ℕ} (ls : List Line) (h : ℕ) → Accepted s ls → (h < firstHour ls) ⊎ (lastHour ls < h) → hourOf ls h ≡ Missing
+pub outside-missing : {s : List ℕ} (ls : List Line) (h : ℕ) → Accepted s ls → (h < firstHour ls) ⊎ (lastHour ls < h) → hourOf ls h ≡ missing
 unfolding hourOf
 outside-missing ls h a o = rw (outside-off ls ls h o (a .within)) (pick-false _ _)
 
 -- of an empty journal every hour is missing
-pub empty-missing : (h : ℕ) → hourOf [] h ≡ Missing
+pub empty-missing : (h : ℕ) → hourOf [] h ≡ missing
 unfolding hourOf hasOn
 empty-missing h = pick-false _ _
 
@@ -70,7 +68,7 @@ modest h (Dose x c a s ∷ ls) r = go (eqb x h) (modest h ls (r .1)) (dose-range
 -- ---- the length of the text
 
 -- how many bytes a row has
-pub measured-length : (h doses sum bits : ℕ) → length (rowText h (measured doses sum bits)) ≡ length (decimal h) + 22 + length (decimal doses) + length (decimal sum)
+pub measured-length : (h doses sum bits : ℕ) → length (rowText h (rowM doses sum bits)) ≡ length (decimal h) + 22 + length (decimal doses) + length (decimal sum)
 unfolding rowText
 measured-length h doses sum bits =
     omega (
@@ -82,29 +80,29 @@ measured-length h doses sum bits =
       length-append (hexOf 16 bits) (LF ∷ []),
     )
 
-pub idle-length : (h : ℕ) → length (rowText h idle) ≡ length (decimal h) + 3
+pub idle-length : (h : ℕ) → length (rowText h rowI) ≡ length (decimal h) + 3
 unfolding rowText
 idle-length h = length-append (decimal h) (TAB ∷ letterI ∷ LF ∷ [])
 
-pub missing-length : (h : ℕ) → length (rowText h missing) ≡ length (decimal h) + 3
+pub missing-length : (h : ℕ) → length (rowText h rowX) ≡ length (decimal h) + 3
 unfolding rowText
 missing-length h = length-append (decimal h) (TAB ∷ letterX ∷ LF ∷ [])
 
 abbrev RowShort : Row → Type 0
-RowShort (measured doses sum bits) = (doses < 100000) × (sum < 100000000000)
-RowShort idle = Unit
-RowShort missing = Unit
+RowShort (rowM doses sum bits) = (doses < 100000) × (sum < 100000000000)
+RowShort rowI = Unit
+RowShort rowX = Unit
 
 -- a row of an hour, doses and a sum of at most 7, 5 and 11 digits
 row-short : (h : ℕ) (r : Row) → h < 10000000 → RowShort r → length (rowText h r) ≤ 45
-row-short h (measured doses sum bits) a b =
+row-short h (rowM doses sum bits) a b =
     omega (arith, decimal-length 7 h a (omega arith), decimal-length 5 doses (b .0) (omega arith), decimal-length 11 sum (b .1) (omega arith), measured-length h doses sum bits)
-row-short h idle a b = omega (arith, decimal-length 7 h a (omega arith), idle-length h)
-row-short h missing a b = omega (arith, decimal-length 7 h a (omega arith), missing-length h)
+row-short h rowI a b = omega (arith, decimal-length 7 h a (omega arith), idle-length h)
+row-short h rowX a b = omega (arith, decimal-length 7 h a (omega arith), missing-length h)
 
 row-of-short : (h : ℕ) (ls : List Line) → length (amountsAt h ls) < 100000 → total (amountsAt h ls) < 100000000000 → RowShort (rowOf ls h)
 unfolding rowOf hourOf rowFrom measuredOrIdle
-row-of-short h ls d t = pick-all (λ (x : Hour). RowShort (rowFrom x (amountsAt h ls))) (hasOn h ls) (either (amountsAt h ls) d t) tt
+row-of-short h ls d t = pick-all (λ (x : HourAnswer). RowShort (rowFrom x (amountsAt h ls))) (hasOn h ls) (either (amountsAt h ls) d t) tt
   where
     either : (amounts : List ℕ) → length amounts < 100000 → total amounts < 100000000000 → RowShort (rowFrom (measuredOrIdle amounts) amounts)
     either [] d t = tt

@@ -1,97 +1,101 @@
 -- The figures of a measured hour: the sum and the largest amount are exact, the mean is one division, and each is a number. Assumes nothing.
-use mathlib.Core.Path.{_≡_, refl, subst}
+use mathlib.Core.Path.{_≡_, refl}
 use mathlib.Core.Bool.{Bool, true, false, not}
 use mathlib.Core.List.{List, [], _∷_}
 use Prim.Native.Nat.{ℕ, _^_, _≤_, _<_}
 use native.Mathlib.Omega.{arith}
 use lib.Dec.{T}
 use lib.ListN.{length}
-use lib.Ieee.{binary64, div, ofInt, isNan}
+use lib.Ieee.{Float, binary64, div, ofInt, isNan}
 use lib.Ieee.Exact.{HasValue}
 use lib.Ieee.Back.{round-whole}
 use Rattle.laws.specs.Pick.{pick}
 use Rattle.paper.specs.Answer.{Answer, done, refused, fault, told}
 use Rattle.journal.specs.Journal.{journalOf}
 use Rattle.journal.specs.declared.Line.{Line}
-use Rattle.hourly.specs.Hours.{amountsAt, hasOn, total, greatest, asF64, figuresOf, measuredOrIdle, hourOf, askOf}
+use Rattle.hourly.specs.Hours.{HourAnswer, measured, idle, missing, amountsAt, hasOn, total, greatest, asF64, sumOf, largestOf, meanOf, measuredOrIdle, hourOf, askOf}
 use Rattle.hourly.specs.Accepted.{Accepted, accepted}
 use Rattle.hourly.specs.Bounds.{modest}
 use Rattle.hourly.specs.Floats.{whole-no-nan, mean-no-nan}
-use Rattle.hourly.specs.declared.Figures.{Figures}
-use Rattle.hourly.specs.declared.Hour.{Hour}
-use Rattle.hourly.specs.declared.Hour.the-variants.{Measured, Idle, Missing}
 
 -- the first two exact, the mean one division of the sum by the number of doses
-pub record Exact (amounts : List ℕ) (f : Figures) : Type 0 where
-  pub sum : HasValue (f .sum) false (total amounts) 1
-  pub largest : HasValue (f .largest) false (greatest amounts) 1
-  pub mean : f .mean ≡ div binary64 (f .sum) (asF64 (length amounts))
+pub record Exact (amounts : List ℕ) (s l m : Float) : Type 0 where
+  pub sum : HasValue s false (total amounts) 1
+  pub largest : HasValue l false (greatest amounts) 1
+  pub mean : m ≡ div binary64 s (asF64 (length amounts))
 
 whole-exact : (n : ℕ) → n ≤ 2 ^ 53 → HasValue (asF64 n) false n 1
 unfolding ofInt asF64
 whole-exact n h = round-whole binary64 false n h
 
 -- a measured hour has the figures of its amounts, and a dose
-measured-figures : (ls : List Line) (h : ℕ) (f : Figures) → hourOf ls h ≡ Measured f → (figuresOf (amountsAt h ls) ≡ f) × (0 < length (amountsAt h ls))
+record Figured (amounts : List ℕ) (s l m : Float) : Type 0 where
+  sum : s ≡ sumOf amounts
+  largest : l ≡ largestOf amounts
+  mean : m ≡ meanOf amounts
+  some : 0 < length amounts
+
+measured-figures : (ls : List Line) (h : ℕ) (s l m : Float) → hourOf ls h ≡ measured s l m → Figured (amountsAt h ls) s l m
 unfolding hourOf measuredOrIdle pick
-measured-figures ls h f = go (hasOn h ls) (amountsAt h ls)
+measured-figures ls h s l m = go (hasOn h ls) (amountsAt h ls)
   where
-    go : (on : Bool) (amounts : List ℕ) → pick on (measuredOrIdle amounts) Missing ≡ Measured f → (figuresOf amounts ≡ f) × (0 < length amounts)
+    go : (on : Bool) (amounts : List ℕ) → pick on (measuredOrIdle amounts) missing ≡ measured s l m → Figured amounts s l m
     go true [] e = let z : _≡_ {A = ℕ} 0 1 = cc in absurd (omega arith)
-    go true (a ∷ as') e = (cc, omega arith)
+    go true (a ∷ as') e = record { sum = cc; largest = cc; mean = cc; some = omega arith }
     go false amounts e = let z : _≡_ {A = ℕ} 0 1 = cc in absurd (omega arith)
 
 -- so it is of every measured hour of an accepted journal
-pub figures-exact : {s : List ℕ} (ls : List Line) (h : ℕ) (f : Figures) → Accepted s ls → hourOf ls h ≡ Measured f → Exact (amountsAt h ls) f
-unfolding figuresOf
-figures-exact ls h f a e =
-    let m = modest h ls (a .ranged) in
+pub figures-exact : {b : List ℕ} (ls : List Line) (h : ℕ) (s l m : Float) → Accepted b ls → hourOf ls h ≡ measured s l m → Exact (amountsAt h ls) s l m
+unfolding sumOf largestOf meanOf
+figures-exact ls h s l m a e =
+    let b = modest h ls (a .ranged) in
     let lines = a .few in
-    subst (Exact (amountsAt h ls)) (measured-figures ls h f e .0)
+    let f = measured-figures ls h s l m e in
+    rw (f .sum, f .largest, f .mean)
     (record {
-      sum = whole-exact (total (amountsAt h ls)) (omega (arith, m .sum));
-      largest = whole-exact (greatest (amountsAt h ls)) (omega (arith, m .most));
+      sum = whole-exact (total (amountsAt h ls)) (omega (arith, b .sum));
+      largest = whole-exact (greatest (amountsAt h ls)) (omega (arith, b .most));
       mean = refl;
     })
 
 -- no figure is a NaN
-pub record Numbers (f : Figures) : Type 0 where
-  pub sum : T (not (isNan (f .sum)))
-  pub largest : T (not (isNan (f .largest)))
-  pub mean : T (not (isNan (f .mean)))
+pub record Numbers (s l m : Float) : Type 0 where
+  pub sum : T (not (isNan s))
+  pub largest : T (not (isNan l))
+  pub mean : T (not (isNan m))
 
 -- so it is of every measured hour of an accepted journal
-pub figures-numbers : {s : List ℕ} (ls : List Line) (h : ℕ) (f : Figures) → Accepted s ls → hourOf ls h ≡ Measured f → Numbers f
-unfolding figuresOf
-figures-numbers ls h f a e =
-    let m = modest h ls (a .ranged) in
+pub figures-numbers : {b : List ℕ} (ls : List Line) (h : ℕ) (s l m : Float) → Accepted b ls → hourOf ls h ≡ measured s l m → Numbers s l m
+unfolding sumOf largestOf meanOf
+figures-numbers ls h s l m a e =
+    let b = modest h ls (a .ranged) in
     let lines = a .few in
-    let is = measured-figures ls h f e in
-    subst Numbers (is .0)
+    let f = measured-figures ls h s l m e in
+    rw (f .sum, f .largest, f .mean)
     (record {
       sum = whole-no-nan (total (amountsAt h ls));
       largest = whole-no-nan (greatest (amountsAt h ls));
-      mean = mean-no-nan (total (amountsAt h ls)) (length (amountsAt h ls)) (omega (arith, m .sum)) (omega (arith, m .few)) (is .1);
+      mean = mean-no-nan (total (amountsAt h ls)) (length (amountsAt h ls)) (omega (arith, b .sum)) (omega (arith, b .few)) (f .some);
     })
 
 -- an hour that is answered with figures is answered with numbers
-abbrev pub Numbered : Answer Hour → Type 0
-Numbered (done (Measured f)) = Numbers f
-Numbered (done Idle) = Unit {0}
-Numbered (done Missing) = Unit {0}
+abbrev pub Numbered : Answer HourAnswer → Type 0
+Numbered (done (measured s l m)) = Numbers s l m
+Numbered (done idle) = Unit {0}
+Numbered (done missing) = Unit {0}
 Numbered (refused n vs) = Unit {0}
 Numbered (fault n vs) = Unit {0}
 
-pub ask-numbered : (s : List ℕ) (h : ℕ) → Numbered (askOf s h)
+pub ask-numbered : (b : List ℕ) (h : ℕ) → Numbered (askOf b h)
 unfolding askOf told
-ask-numbered s h = go (journalOf s) refl
+ask-numbered b h = go (journalOf b) refl
   where
-    kind : (ls : List Line) (x : Hour) → journalOf s ≡ done ls → hourOf ls h ≡ x → Numbered (done x)
-    kind ls (Measured f) a e = figures-numbers ls h f (accepted s ls a) e
-    kind ls Idle a e = tt
-    kind ls Missing a e = tt
+    kind : (ls : List Line) (x : HourAnswer) → journalOf b ≡ done ls → hourOf ls h ≡ x → Numbered (done x)
+    kind ls (measured s l m) a e = figures-numbers ls h s l m (accepted b ls a) e
+    kind ls idle a e = tt
+    kind ls missing a e = tt
 
-    go : (a : Answer (List Line)) → journalOf s ≡ a → Numbered (told (λ (ls : List Line). hourOf ls h) a)
+    go : (a : Answer (List Line)) → journalOf b ≡ a → Numbered (told (λ (ls : List Line). hourOf ls h) a)
     go (done ls) e = kind ls (hourOf ls h) e refl
     go (refused n vs) e = tt
     go (fault n vs) e = tt

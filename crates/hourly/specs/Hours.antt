@@ -11,9 +11,12 @@ use Rattle.paper.specs.Answer.{Answer, told}
 use Rattle.journal.specs.Journal.{journalOf}
 use Rattle.journal.specs.declared.Line.{Line}
 use Rattle.journal.specs.declared.Line.the-variants.{Dose, On}
-use Rattle.hourly.specs.declared.Figures.{Figures}
-use Rattle.hourly.specs.declared.Hour.{Hour}
-use Rattle.hourly.specs.declared.Hour.the-variants.{Measured, Idle, Missing}
+
+-- A measured hour carries its sum, largest amount and mean as f64; an idle and a missing one carry none
+pub data HourAnswer : Type 0 where
+  measured : Float → Float → Float → HourAnswer
+  idle : HourAnswer
+  missing : HourAnswer
 
 -- the amount of a line that is a D of hour h
 unfoldable pub doseAt : ℕ → Line → List ℕ
@@ -46,24 +49,26 @@ greatest (a ∷ as') = max a (greatest as')
 unfoldable pub asF64 : ℕ → Float
 asF64 n = ofInt binary64 (pos n)
 
--- its sum, largest amount and mean as f64: the first two exact, the mean one division of the sum by the number of doses
-unfoldable pub figuresOf : List ℕ → Figures
-figuresOf amounts =
-    record {
-      sum = asF64 (total amounts);
-      largest = asF64 (greatest amounts);
-      mean = div binary64 (asF64 (total amounts)) (asF64 (length amounts));
-    }
+-- its sum and largest amount as f64, exact
+unfoldable pub sumOf : List ℕ → Float
+sumOf amounts = asF64 (total amounts)
+
+unfoldable pub largestOf : List ℕ → Float
+largestOf amounts = asF64 (greatest amounts)
+
+-- the mean one division of the sum by the number of doses
+unfoldable pub meanOf : List ℕ → Float
+meanOf amounts = div binary64 (sumOf amounts) (asF64 (length amounts))
 
 -- An hour with an H is measured if it has a D, else idle
-unfoldable pub measuredOrIdle : List ℕ → Hour
-measuredOrIdle [] = Idle
-measuredOrIdle (a ∷ as') = Measured (figuresOf (a ∷ as'))
+unfoldable pub measuredOrIdle : List ℕ → HourAnswer
+measuredOrIdle [] = idle
+measuredOrIdle (a ∷ as') = measured (sumOf (a ∷ as')) (largestOf (a ∷ as')) (meanOf (a ∷ as'))
 
 -- without an H it is missing, whatever D lines it has
-unfoldable pub hourOf : List Line → ℕ → Hour
-hourOf ls h = pick (hasOn h ls) (measuredOrIdle (amountsAt h ls)) Missing
+unfoldable pub hourOf : List Line → ℕ → HourAnswer
+hourOf ls h = pick (hasOn h ls) (measuredOrIdle (amountsAt h ls)) missing
 
 -- the hour of a journal's bytes, or the journal's refusal
-unfoldable pub askOf : List ℕ → ℕ → Answer Hour
+unfoldable pub askOf : List ℕ → ℕ → Answer HourAnswer
 askOf s h = told (λ (ls : List Line). hourOf ls h) (journalOf s)

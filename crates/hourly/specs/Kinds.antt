@@ -13,9 +13,8 @@ use Rattle.laws.specs.Pick.{pick}
 use Rattle.laws.specs.Whole.{false-true}
 use Rattle.journal.specs.declared.Line.{Line}
 use Rattle.journal.specs.declared.Line.the-variants.{Dose, On}
-use Rattle.hourly.specs.Hours.{doseAt, amountsAt, isOn, hasOn, total, figuresOf, measuredOrIdle, hourOf}
-use Rattle.hourly.specs.Text.{Row, measured, idle, missing, rowFrom, rowOf}
-use Rattle.hourly.specs.declared.Hour.the-variants.{Missing}
+use Rattle.hourly.specs.Hours.{missing, doseAt, amountsAt, isOn, hasOn, total, meanOf, measuredOrIdle, hourOf}
+use Rattle.hourly.specs.Text.{Row, rowM, rowI, rowX, rowFrom, rowOf}
 
 -- each of the two follows from the other
 abbrev pub Exactly : Type 0 → Type 0 → Type 0
@@ -23,31 +22,31 @@ Exactly a b = (a → b) × (b → a)
 
 -- what is printed of an hour that has an H or has none, with the amounts of its D lines
 abbrev rowBy : Bool → List ℕ → Row
-rowBy on amounts = rowFrom (pick on (measuredOrIdle amounts) Missing) amounts
+rowBy on amounts = rowFrom (pick on (measuredOrIdle amounts) missing) amounts
 
 -- an hour prints I exactly if the journal has its H and no D of it
-pub idle-exactly : (ls : List Line) (h : ℕ) → Exactly (rowOf ls h ≡ idle) ((hasOn h ls ≡ true) × (amountsAt h ls ≡ []))
+pub idle-exactly : (ls : List Line) (h : ℕ) → Exactly (rowOf ls h ≡ rowI) ((hasOn h ls ≡ true) × (amountsAt h ls ≡ []))
 unfolding rowOf rowFrom hourOf measuredOrIdle pick
 idle-exactly ls h = (only (hasOn h ls) (amountsAt h ls), λ e. rw (e .0, e .1))
   where
-    only : (on : Bool) (amounts : List ℕ) → rowBy on amounts ≡ idle → (on ≡ true) × (amounts ≡ [])
+    only : (on : Bool) (amounts : List ℕ) → rowBy on amounts ≡ rowI → (on ≡ true) × (amounts ≡ [])
     only true [] e = (refl, refl)
     only true (a ∷ as') e = let z : _≡_ {A = ℕ} 0 1 = cc in absurd (omega arith)
     only false amounts e = let z : _≡_ {A = ℕ} 0 1 = cc in absurd (omega arith)
 
 -- X exactly if it has no H of it
-pub missing-exactly : (ls : List Line) (h : ℕ) → Exactly (rowOf ls h ≡ missing) (hasOn h ls ≡ false)
+pub missing-exactly : (ls : List Line) (h : ℕ) → Exactly (rowOf ls h ≡ rowX) (hasOn h ls ≡ false)
 unfolding rowOf rowFrom hourOf measuredOrIdle pick
 missing-exactly ls h = (only (hasOn h ls) (amountsAt h ls), λ e. rw e)
   where
-    only : (on : Bool) (amounts : List ℕ) → rowBy on amounts ≡ missing → on ≡ false
+    only : (on : Bool) (amounts : List ℕ) → rowBy on amounts ≡ rowX → on ≡ false
     only true [] e = let z : _≡_ {A = ℕ} 0 1 = cc in absurd (omega arith)
     only true (a ∷ as') e = let z : _≡_ {A = ℕ} 0 1 = cc in absurd (omega arith)
     only false amounts e = refl
 
 -- what is printed of a measured hour
 abbrev pub measuredRow : List ℕ → Row
-measuredRow amounts = measured (length amounts) (total amounts) (toBits binary64 (figuresOf amounts .mean))
+measuredRow amounts = rowM (length amounts) (total amounts) (toBits binary64 (meanOf amounts))
 
 -- M, with the number of its doses, their sum and the mean's bits, exactly if it has its H and a D of it
 pub measured-exactly : (ls : List Line) (h : ℕ) → Exactly (rowOf ls h ≡ measuredRow (amountsAt h ls)) ((hasOn h ls ≡ true) × (amountsAt h ls ≡ [] → ⊥))
@@ -64,11 +63,11 @@ measured-exactly ls h = (only (hasOn h ls) (amountsAt h ls), λ e. rw (e .0) (ma
     made (a ∷ as') f = refl
 
 -- an M is printed of no other hour, and with no other numbers
-pub measured-only : (ls : List Line) (h doses sum bits : ℕ) → rowOf ls h ≡ measured doses sum bits → measured doses sum bits ≡ measuredRow (amountsAt h ls)
+pub measured-only : (ls : List Line) (h doses sum bits : ℕ) → rowOf ls h ≡ rowM doses sum bits → rowM doses sum bits ≡ measuredRow (amountsAt h ls)
 unfolding rowOf rowFrom hourOf measuredOrIdle pick
 measured-only ls h doses sum bits = only (hasOn h ls) (amountsAt h ls)
   where
-    only : (on : Bool) (amounts : List ℕ) → rowBy on amounts ≡ measured doses sum bits → measured doses sum bits ≡ measuredRow amounts
+    only : (on : Bool) (amounts : List ℕ) → rowBy on amounts ≡ rowM doses sum bits → rowM doses sum bits ≡ measuredRow amounts
     only true [] e = let z : _≡_ {A = ℕ} 0 1 = cc in absurd (omega arith)
     only true (a ∷ as') e = sym e
     only false amounts e = let z : _≡_ {A = ℕ} 0 1 = cc in absurd (omega arith)

@@ -2,10 +2,11 @@ pub mod Hours
 pub mod Text
 pub mod Says
 pub mod Tally
+pub mod Contracts
 pub mod Kinds
-pub mod Rows
-pub mod Determined
 pub mod Accepted
 pub mod Bounds
 pub mod Floats
 pub mod Exact
+pub mod TallyLaws
+pub mod Refused

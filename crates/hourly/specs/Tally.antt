@@ -1,29 +1,23 @@
--- What the code keeps of each hour while it goes through the lines, and the rows that come of it. Assumes nothing.
+-- What the pass keeps of each hour while it goes through the lines, and the hour's answer by it. Assumes nothing.
 use mathlib.Core.Path.{_≡_}
 use mathlib.Core.Bool.{true, false}
 use mathlib.Core.List.{List, [], _∷_}
-use Prim.Native.Nat.{ℕ, suc, _+_, _-_, _^_, _≤_, _<_, max}
-use lib.Dec.{eqb}
-use lib.ListN.{length, getD, take}
-use lib.Ieee.{nan, binary64, add, div, toBits, toUnsigned}
+use Prim.Native.Nat.{ℕ, _+_, _-_, _<_, max}
+use lib.Dec.{eqb, ltb}
+use lib.ListN.{length, getD, replicate}
+use lib.Ieee.{nan, binary64, add, div}
 use Rattle.laws.specs.Pick.{pick}
-use Rattle.paper.specs.Answer.{Answer, done, refused, fault, told}
-use Rattle.journal.specs.Journal.{journalOf, summaryOf, firstHour}
-use Rattle.journal.specs.Says.{saysJudged}
+use Rattle.paper.specs.Answer.{Answer, done, refused, fault}
+use Rattle.journal.specs.Journal.{journalOf, firstHour, lastHour}
 use Rattle.journal.specs.declared.Line.{Line}
 use Rattle.journal.specs.declared.Line.the-variants.{Dose, On}
 use Rattle.journal.specs.declared.Past.{Past}
-use Rattle.journal.specs.declared.Summary.{Summary}
-use Rattle.journal.specs.declared.Judged.the-variants as J
-use Rattle.hourly.specs.Hours.{amountsAt, hasOn, total, greatest, asF64}
-use Rattle.hourly.specs.Text.{Row, measured, idle, missing, HourRow, rowsText}
-use Rattle.hourly.specs.declared.Figures.{Figures}
-use Rattle.hourly.specs.declared.Hour.{Hour}
-use Rattle.hourly.specs.declared.Hour.the-variants.{Measured, Idle, Missing}
+use Rattle.journal.specs.declared.Refusal.{Refusal}
+use Rattle.hourly.specs.Hours.{HourAnswer, measured, idle, missing, amountsAt, hasOn, total, greatest, asF64}
 use Rattle.hourly.specs.declared.Tally.{Tally}
+use Rattle.hourly.specs.declared.Summary.{Summary}
+use Rattle.hourly.specs.declared.Judged.the-variants as J
 use Rattle.hourly.specs.declared.Tallied.{Tallied}
-use Rattle.hourly.specs.declared.Shown.{Shown}
-use Rattle.hourly.specs.declared.Shown.the-variants as S
 
 -- the lines of an accepted journal, none of a refused one
 abbrev pub linesIn : Answer (List Line) → List Line
@@ -33,6 +27,10 @@ linesIn (fault n vs) = []
 
 unfoldable pub linesOf : List ℕ → List Line
 linesOf s = linesIn (journalOf s)
+
+-- the number of the lines, and the hours of the first and the last
+unfoldable pub summaryOf : List Line → Summary
+summaryOf ls = record { lines = length ls; first = firstHour ls; last = lastHour ls }
 
 -- ---- the tally of one hour
 
@@ -69,58 +67,18 @@ pub record Tells (table : List Tally) (first : ℕ) (ls : List Line) : Type 0 wh
   pub size : length table ≡ 744
   pub at : (k : ℕ) → k < 744 → getD table k outside ≡ tallyOf ls (first + k)
 
--- what one pass finds: what the journal's reader says of it, and the tallies of its lines from its first hour on
-pub record Counts (s : List ℕ) (t : Tallied) : Type 0 where
-  pub judged : saysJudged (t .judged) ≡ told summaryOf (journalOf s)
-  pub tells : (ls : List Line) → journalOf s ≡ done ls → Tells (t .table) (firstHour ls) ls
-
 -- a journal accepted after n lines, by what they say of the hours
 unfoldable pub acceptedAfter : ℕ → Past → List Tally → Tallied
 acceptedAfter n past table = record { judged = J.Lines (record { lines = n; first = past .first; last = past .last }); table = table }
 
+-- a refused journal has no tallies
+unfoldable pub refusedBy : Refusal → Tallied
+refusedBy r = record { judged = J.Refused r; table = replicate 744 noTally }
+
 -- the hour's answer by its tally
-unfoldable pub figuresFrom : Tally → Figures
-figuresFrom t = record { sum = t .sum; largest = asF64 (t .largest); mean = div binary64 (t .sum) (asF64 (t .doses)) }
+unfoldable pub hourFrom : Tally → HourAnswer
+hourFrom t = pick (t .on) (pick (eqb (t .doses) 0) idle (measured (t .sum) (asF64 (t .largest)) (div binary64 (t .sum) (asF64 (t .doses))))) missing
 
-unfoldable pub hourFrom : Tally → Hour
-hourFrom t = pick (t .on) (pick (eqb (t .doses) 0) Idle (Measured (figuresFrom t))) Missing
-
--- ---- the rows of a table
-
-abbrev pub saysShown : Shown → Row
-saysShown (S.Measured doses sum bits) = measured doses sum bits
-saysShown S.Idle = idle
-saysShown S.Missing = missing
-
--- the sum is a whole number that an f64 holds exactly
-pub record Summed (t : Tally) : Type 0 where
-  pub whole : ℕ
-  pub exact : t .sum ≡ asF64 whole
-  pub small : whole ≤ 2 ^ 53
-
--- what is printed of an hour by its answer and its tally
-abbrev pub shownBy : Hour → Tally → Row
-shownBy (Measured f) t = measured (t .doses) (toUnsigned 64 (f .sum)) (toBits binary64 (f .mean))
-shownBy Idle t = idle
-shownBy Missing t = missing
-
-unfoldable pub shownOf : Tally → Row
-shownOf t = shownBy (hourFrom t) t
-
-unfoldable pub rowsBy : List Tally → ℕ → List HourRow
-rowsBy [] h = []
-rowsBy (t ∷ ts) h = record { hour = h; row = shownOf t } ∷ rowsBy ts (suc h)
-
--- the text of the first hours of a table
-unfoldable pub textBy : List Tally → ℕ → ℕ → List ℕ
-textBy table first hours = rowsText (rowsBy (take hours table) first)
-
-pub record Printable (table : List Tally) (first hours : ℕ) : Type 0 where
-  pub size : length table ≡ 744
-  pub few : hours ≤ 744
-  pub summed : (k : ℕ) → k < hours → Summed (getD table k outside)
-  pub short : length (textBy table first hours) ≤ 33480
-
--- how many hours a journal has: none if it is empty
-unfoldable pub hoursIn : Summary → ℕ
-hoursIn f = pick (eqb (f .lines) 0) 0 (f .last - f .first + 1)
+-- and by a table of the hours from the first to the last: outside it is missing
+unfoldable pub hourAmong : List Tally → Summary → ℕ → HourAnswer
+hourAmong table found h = pick (ltb h (found .first)) missing (pick (ltb (found .last) h) missing (hourFrom (getD table (h - found .first) outside)))

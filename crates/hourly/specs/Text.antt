@@ -12,9 +12,7 @@ use Rattle.text.specs.Scan.{LF, TAB}
 use Rattle.journal.specs.Journal.{journalOf, firstHour, lastHour, hourIn, example}
 use Rattle.journal.specs.declared.Line.{Line}
 use Rattle.journal.specs.declared.Line.the-variants.{Dose, On}
-use Rattle.hourly.specs.Hours.{hourOf, measuredOrIdle, hasOn, isOn, amountsAt, doseAt, total, greatest, figuresOf, asF64}
-use Rattle.hourly.specs.declared.Hour.{Hour}
-use Rattle.hourly.specs.declared.Hour.the-variants.{Measured, Idle, Missing}
+use Rattle.hourly.specs.Hours.{HourAnswer, measured, idle, missing, hourOf, measuredOrIdle, hasOn, isOn, amountsAt, doseAt, total, greatest, sumOf, largestOf, meanOf, asF64}
 
 abbrev pub letterM : ℕ
 letterM = 77
@@ -27,25 +25,25 @@ letterX = 88
 
 -- what is printed of an hour: M, doses, sum, mean's bits; or I; or X
 pub data Row : Type 0 where
-  measured : ℕ → ℕ → ℕ → Row
-  idle : Row
-  missing : Row
+  rowM : ℕ → ℕ → ℕ → Row
+  rowI : Row
+  rowX : Row
 
 -- the hour's answer, with its amounts, as a row
-unfoldable pub rowFrom : Hour → List ℕ → Row
-rowFrom (Measured f) amounts = measured (length amounts) (total amounts) (toBits binary64 (f .mean))
-rowFrom Idle amounts = idle
-rowFrom Missing amounts = missing
+unfoldable pub rowFrom : HourAnswer → List ℕ → Row
+rowFrom (measured sum largest mean) amounts = rowM (length amounts) (total amounts) (toBits binary64 mean)
+rowFrom idle amounts = rowI
+rowFrom missing amounts = rowX
 
 unfoldable pub rowOf : List Line → ℕ → Row
 rowOf ls h = rowFrom (hourOf ls h) (amountsAt h ls)
 
 -- hour, M, doses, sum, mean's bits in 16 hex digits; or hour, I; or hour, X
 unfoldable pub rowText : ℕ → Row → List ℕ
-rowText h (measured doses sum bits) =
+rowText h (rowM doses sum bits) =
     decimal h ++ TAB ∷ letterM ∷ TAB ∷ (decimal doses ++ TAB ∷ (decimal sum ++ TAB ∷ (hexOf 16 bits ++ LF ∷ [])))
-rowText h idle = decimal h ++ TAB ∷ letterI ∷ LF ∷ []
-rowText h missing = decimal h ++ TAB ∷ letterX ∷ LF ∷ []
+rowText h rowI = decimal h ++ TAB ∷ letterI ∷ LF ∷ []
+rowText h rowX = decimal h ++ TAB ∷ letterX ∷ LF ∷ []
 
 -- n hours from h on
 unfoldable pub hoursFrom : ℕ → ℕ → List ℕ
@@ -80,28 +78,28 @@ abbrev printed : ℕ → Row → HourRow
 printed h r = record { hour = h; row = r }
 
 -- document 01's example, and its first and last row as bytes
-pub example-rows : rowsOf example ≡ printed 10 (measured 2 998 0x407F300000000000) ∷ printed 11 idle ∷ printed 12 missing ∷ printed 13 idle ∷ []
-unfolding rowsOf spanOf hoursFrom firstHour lastHour hourIn rowOf rowFrom hourOf measuredOrIdle hasOn isOn amountsAt doseAt total greatest figuresOf asF64 toBits div ofInt pick
+pub example-rows : rowsOf example ≡ printed 10 (rowM 2 998 0x407F300000000000) ∷ printed 11 rowI ∷ printed 12 rowX ∷ printed 13 rowI ∷ []
+unfolding rowsOf spanOf hoursFrom firstHour lastHour hourIn rowOf rowFrom hourOf measuredOrIdle hasOn isOn amountsAt doseAt total greatest sumOf largestOf meanOf asF64 toBits div ofInt pick
 example-rows = refl
 
 pub row-bytes :
-    (rowText 10 (measured 2 998 0x407F300000000000)
+    (rowText 10 (rowM 2 998 0x407F300000000000)
     ≡ 49 ∷ 48 ∷ 9 ∷ 77 ∷ 9 ∷ 50 ∷ 9 ∷ 57 ∷ 57 ∷ 56 ∷ 9 ∷ 52 ∷ 48 ∷ 55 ∷ 70 ∷ 51 ∷ 48 ∷ 48 ∷ 48 ∷ 48 ∷ 48 ∷ 48 ∷ 48 ∷ 48 ∷ 48 ∷ 48 ∷ 48 ∷ 10 ∷ [])
-    × (rowText 13 idle ≡ 49 ∷ 51 ∷ 9 ∷ 73 ∷ 10 ∷ [])
+    × (rowText 13 rowI ≡ 49 ∷ 51 ∷ 9 ∷ 73 ∷ 10 ∷ [])
 unfolding rowText decimal digitsOf glyph hexOf pick
 row-bytes = (refl, refl)
 
 -- a closing D without its H is missing; two D lines of an hour without an H too; hour 0; the mean of three amounts, rounded once
 pub closing-rows : rowsOf (On 0 ∷ Dose 2 1 1 1 ∷ Dose 2 2 1 1 ∷ Dose 2 3 0 1 ∷ On 2 ∷ Dose 3 4 9 1 ∷ Dose 3 5 9 1 ∷ [])
-    ≡ printed 0 idle ∷ printed 1 missing ∷ printed 2 (measured 3 2 0x3FE5555555555555) ∷ printed 3 missing ∷ []
-unfolding rowsOf spanOf hoursFrom firstHour lastHour hourIn rowOf rowFrom hourOf measuredOrIdle hasOn isOn amountsAt doseAt total greatest figuresOf asF64 toBits div ofInt pick
+    ≡ printed 0 rowI ∷ printed 1 rowX ∷ printed 2 (rowM 3 2 0x3FE5555555555555) ∷ printed 3 rowX ∷ []
+unfolding rowsOf spanOf hoursFrom firstHour lastHour hourIn rowOf rowFrom hourOf measuredOrIdle hasOn isOn amountsAt doseAt total greatest sumOf largestOf meanOf asF64 toBits div ofInt pick
 closing-rows = refl
 
 -- the sum, the largest amount and the mean of the example's hour 10: 998, 500 and 499; an hour outside is missing
 pub example-figures :
-    (hourOf example 10 ≡ Measured (record { sum = ofInt binary64 (pos 998); largest = ofInt binary64 (pos 500); mean = ofInt binary64 (pos 499) }))
-    × (figuresOf (498 ∷ 500 ∷ 2 ∷ []) .largest ≡ ofInt binary64 (pos 500))
-    × (hourOf example 9 ≡ Missing)
-    × (hourOf example 14 ≡ Missing)
-unfolding firstHour lastHour hourIn hourOf measuredOrIdle hasOn isOn amountsAt doseAt total greatest figuresOf asF64 div ofInt pick
+    (hourOf example 10 ≡ measured (ofInt binary64 (pos 998)) (ofInt binary64 (pos 500)) (ofInt binary64 (pos 499)))
+    × (largestOf (498 ∷ 500 ∷ 2 ∷ []) ≡ ofInt binary64 (pos 500))
+    × (hourOf example 9 ≡ missing)
+    × (hourOf example 14 ≡ missing)
+unfolding firstHour lastHour hourIn hourOf measuredOrIdle hasOn isOn amountsAt doseAt total greatest sumOf largestOf meanOf asF64 div ofInt pick
 example-figures = (refl, refl, refl, refl)

@@ -1,24 +1,14 @@
-// The hours of a journal: one hour's answer, and the hour program's text.
-use journal::At;
-use journal::Judged;
+// The hours of a journal: one pass that counts its lines, and an hour's answer.
 use journal::Line;
 use journal::Past;
 use journal::Refusal;
-use journal::Summary;
+use text::Num;
 ghost use mathlib.Core.Path.{_≡_};
-ghost use mathlib.Core.List.{[], _∷_};
-ghost use Prim.Native.Nat.{_+_, _≤_, _<_, max};
-ghost use lib.ListN.{length, replicate};
-ghost use lib.Seq.{sets};
-ghost use Rattle.paper.specs.Answer.{done, told, inRoom, Fills};
-ghost use Rattle.journal.specs.Journal.{journalOf, summaryOf};
-ghost use Rattle.journal.specs.declared.Judged.the-variants.{Refused};
-ghost use Rattle.hourly.specs.Hours.{askOf, hourOf};
-ghost use Rattle.hourly.specs.Text.{measured, rowText, printOf};
-ghost use Rattle.hourly.specs.Tally.{noTally, withDose, counted, linesOf, Counts, acceptedAfter, hourFrom, saysShown, Summed, shownOf, textBy, Printable, hoursIn};
-ghost use Rattle.hourly.specs.Rows.{tailText};
-ghost use Rattle.text.specs.Put.{Puts};
-ghost use Rattle.hourly.specs.Says.{saysAsked, saysPrinted};
+ghost use Prim.Native.Nat.{_-_, _<_, max};
+ghost use lib.ListN.{replicate};
+ghost use Rattle.hourly.specs.Says.{saysHour};
+ghost use Rattle.hourly.specs.Tally.{noTally, withDose, counted, acceptedAfter, refusedBy, hourAmong};
+ghost use Rattle.hourly.specs.Contracts.{Counts, AnswersTally, AnswersHour};
 
 // What a measured hour hands to the predictor: the sum and the largest amount, both exact, and the mean.
 pub struct Figures {
@@ -40,51 +30,37 @@ pub enum Asked {
     Refused(Refusal),
 }
 
-// What making the text answers: its length, the journal's refusal, or that the buffer is too short.
-pub enum Printed {
-    Text(usize),
-    Refused(Refusal),
-    R8,
-}
-
-// So many bytes hold what is printed of any journal.
-pub const ENOUGH: usize = 33480;
-
-// A journal has at most so many bytes.
-const ROOM: usize = 65536;
-
-// A journal has at most so many hours.
-const SPAN: usize = 744;
-
-const TAB: u8 = 9;
-
 const LF: u8 = 10;
 
 // What the lines so far tell of one hour: the number of its doses, their sum, the largest amount, and whether its H was there.
-struct Tally {
-    doses: u32,
-    sum: f64,
-    largest: u32,
-    on: bool,
+pub struct Tally {
+    pub doses: u32,
+    pub sum: f64,
+    pub largest: u32,
+    pub on: bool,
 }
 
-// What one pass over a journal finds: the answer of the journal's reader, and the tallies of the hours from the first on.
-struct Tallied {
-    judged: Judged,
-    table: [Tally; SPAN],
+// What an accepted journal holds: the number of its lines, and the hours of the first and the last.
+pub struct Summary {
+    pub lines: usize,
+    pub first: u32,
+    pub last: u32,
 }
 
-// What is printed of an hour: its doses, their sum and the mean's bits; or I; or X.
-enum Shown {
-    Measured { doses: u32, sum: u64, bits: u64 },
-    Idle,
-    Missing,
+// What the pass says of a journal.
+pub enum Judged {
+    Lines(Summary),
+    Refused(Refusal),
 }
 
-// ---- the lines counted
+// What the pass over a journal finds: what it says of it, and the tallies of the hours from the first on.
+pub struct Tallied {
+    pub judged: Judged,
+    pub table: [Tally; journal::SPAN],
+}
 
 // Every hour before the first line.
-fn no_tallies() -> [Tally; SPAN]
+fn no_tallies() -> [Tally; journal::SPAN]
     ensures { λ r. ⌜ r ≡ replicate 744 noTally ⌝ }
 {
     [Tally {
@@ -92,7 +68,7 @@ fn no_tallies() -> [Tally; SPAN]
         sum: 0.0f64,
         largest: 0,
         on: false,
-    }; SPAN]
+    }; journal::SPAN]
 }
 
 // The larger of two amounts.
@@ -134,18 +110,18 @@ fn with_line(t: Tally, line: Line) -> Tally
     }
 }
 
-// A journal that is refused, with the tallies so far.
-fn refused(refusal: Refusal, table: [Tally; SPAN]) -> Tallied
-    ensures { λ r. ⌜ r .judged ≡ Refused refusal ⌝ }
+// A journal that is refused: it has no tallies.
+fn refused(refusal: Refusal) -> Tallied
+    ensures { λ r. ⌜ r ≡ refusedBy refusal ⌝ }
 {
     Tallied {
         judged: Judged::Refused(refusal),
-        table,
+        table: no_tallies(),
     }
 }
 
 // A journal that is accepted after its last line, with all tallies.
-fn accepted(lines: usize, past: Past, table: [Tally; SPAN]) -> Tallied
+fn accepted(lines: usize, past: Past, table: [Tally; journal::SPAN]) -> Tallied
     ensures { λ r. ⌜ r ≡ acceptedAfter lines past table ⌝ }
 {
     let found = Summary {
@@ -160,44 +136,60 @@ fn accepted(lines: usize, past: Past, table: [Tally; SPAN]) -> Tallied
 }
 
 // A whole journal in one pass: R13, then line by line R10, R11, R12; each line that is taken is counted at its hour.
-fn tallies(bytes: &[u8]) -> Tallied
+pub fn tallies(bytes: &[u8]) -> Tallied
     ensures { λ r. ⌜ Counts (now (bytes .entry)) r ⌝ }
 {
     let size = bytes.len();
-    let mut table = no_tallies();
-    if size > ROOM {
-        return refused(Refusal::R13, table);
+    if size > journal::ROOM {
+        return refused(Refusal::R13);
     }
+    let mut table = no_tallies();
     let mut past = journal::no_past();
     let mut at: usize = 0;
     let mut lines: usize = 0;
-    while at < size {
+    'lines: loop {
+        if at >= size {
+            break 'lines accepted(lines, past, table);
+        }
         let number = lines + 1;
-        let At::Line { line, next } = journal::line_at(bytes, at) else {
-            return refused(Refusal::R10(number), table);
-        };
+        let fields = journal::fields_after(bytes[at]);
+        if fields == 0 {
+            break 'lines refused(Refusal::R10(number));
+        }
+        let mut got = [0u32; journal::FIELDS];
+        let mut k: usize = 0;
+        let mut p = at + 1;
+        'fields: while k < fields {
+            let Num::Good(v, next) = text::field_at(bytes, p, journal::MOST[k]) else {
+                break 'lines refused(Refusal::R10(number));
+            };
+            got[k] = v;
+            p = next;
+            k += 1;
+        }
+        if text::byte_at(bytes, p) != LF {
+            break 'lines refused(Refusal::R10(number));
+        }
+        let line = journal::line_from(fields, got);
         let hour = journal::hour_in(line);
         if journal::out_of_order(past, hour) {
-            return refused(Refusal::R11(number), table);
+            break 'lines refused(Refusal::R11(number));
         }
         if journal::too_far(past, hour) {
-            return refused(Refusal::R12(number), table);
+            break 'lines refused(Refusal::R12(number));
         }
         past = journal::past_after(past, line);
-        let k = (hour - past.first) as usize;
-        let tally = table[k];
-        table[k] = with_line(tally, line);
-        at = next;
+        let place = (hour - past.first) as usize;
+        let tally = table[place];
+        table[place] = with_line(tally, line);
+        at = p + 1;
         lines = number;
     }
-    accepted(lines, past, table)
 }
 
-// ---- an hour's answer
-
 // With an H the hour is measured if it has a dose, else idle; without one it is missing.
-fn hour_from(t: Tally) -> Hour
-    ensures { λ r. ⌜ r ≡ hourFrom t ⌝ }
+pub fn hour_from(t: Tally) -> Hour
+    ensures { λ r. ⌜ AnswersTally t r ⌝ }
 {
     if !t.on {
         return Hour::Missing;
@@ -212,10 +204,10 @@ fn hour_from(t: Tally) -> Hour
     })
 }
 
-// One hour of an accepted journal; outside its hours it is missing.
-fn hour_among(bytes: &[u8], found: Summary, hour: u32) -> Hour
-    requires { ⌜ told summaryOf (journalOf (now bytes)) ≡ done found ⌝ }
-    ensures { λ r. ⌜ r ≡ hourOf (linesOf (now (bytes .entry))) hour ⌝ }
+// One hour of an accepted journal by its tallies; outside its hours it is missing.
+fn hour_among(table: [Tally; journal::SPAN], found: Summary, hour: u32) -> Hour
+    requires { ⌜ found .last - found .first < 744 ⌝ }
+    ensures { λ r. ⌜ saysHour r ≡ hourAmong table found hour ⌝ }
 {
     if hour < found.first {
         return Hour::Missing;
@@ -223,171 +215,20 @@ fn hour_among(bytes: &[u8], found: Summary, hour: u32) -> Hour
     if found.last < hour {
         return Hour::Missing;
     }
-    let counted = tallies(bytes);
-    let table = counted.table;
-    let k = (hour - found.first) as usize;
-    let tally = table[k];
+    let place = (hour - found.first) as usize;
+    let tally = table[place];
     hour_from(tally)
 }
 
 // The hour of a journal, or the journal's refusal.
 pub fn hour_of(bytes: &[u8], hour: u32) -> Asked
-    ensures { λ r. ⌜ saysAsked r ≡ askOf (now (bytes .entry)) hour ⌝ }
-{
-    let judged = journal::read(bytes);
-    match judged {
-        Judged::Lines(found) => Asked::Hour(hour_among(bytes, found, hour)),
-        Judged::Refused(refusal) => Asked::Refused(refusal),
-    }
-}
-
-// ---- the text
-
-// What is printed of an hour.
-fn shown_from(t: Tally) -> Shown
-    requires { ⌜ Summed t ⌝ }
-    ensures { λ r. ⌜ saysShown r ≡ shownOf t ⌝ }
-{
-    let hour = hour_from(t);
-    match hour {
-        Hour::Measured(f) => Shown::Measured {
-            doses: t.doses,
-            sum: f.sum as u64,
-            bits: f64::to_bits(f.mean),
-        },
-        Hour::Idle => Shown::Idle,
-        Hour::Missing => Shown::Missing,
-    }
-}
-
-// How many bytes a row has.
-fn row_len(hour: u64, row: Shown) -> usize
-    ensures { λ r. ⌜ r ≡ length (rowText hour (saysShown row)) ⌝ }
-{
-    let n = text::decimal_len(hour);
-    match row {
-        Shown::Measured {
-            doses,
-            sum,
-            bits: _,
-        } => n + 22 + text::decimal_len(doses as u64) + text::decimal_len(sum),
-        Shown::Idle => n + 3,
-        Shown::Missing => n + 3,
-    }
-}
-
-// M and the figures of a measured hour, behind the hour and its tab.
-fn put_measured(out: &mut [u8], at: usize, doses: u64, sum: u64, bits: u64) -> usize
-    requires { ⌜ at + length (tailText (measured doses sum bits)) ≤ length (now out) ⌝ }
-    ensures { λ r. ⌜ Puts (now (out .entry)) at (tailText (measured doses sum bits)) (now (out .exit)) r ⌝ }
-{
-    let mut p = text::put_byte(out, at, b'M');
-    p = text::put_byte(out, p, TAB);
-    p = text::put_decimal(out, p, doses);
-    p = text::put_byte(out, p, TAB);
-    p = text::put_decimal(out, p, sum);
-    p = text::put_byte(out, p, TAB);
-    p = text::put_hex(out, p, 16, bits);
-    text::put_byte(out, p, LF)
-}
-
-// I or X.
-fn put_letter(out: &mut [u8], at: usize, letter: u8) -> usize
-    requires { ⌜ at + 2 ≤ length (now out) ⌝ }
-    ensures { λ r. ⌜ Puts (now (out .entry)) at (letter ∷ 10 ∷ []) (now (out .exit)) r ⌝ }
-{
-    let p = text::put_byte(out, at, letter);
-    text::put_byte(out, p, LF)
-}
-
-// What stands behind the hour and its tab.
-fn put_tail(out: &mut [u8], at: usize, row: Shown) -> usize
-    requires { ⌜ at + length (tailText (saysShown row)) ≤ length (now out) ⌝ }
-    ensures { λ r. ⌜ Puts (now (out .entry)) at (tailText (saysShown row)) (now (out .exit)) r ⌝ }
-{
-    match row {
-        Shown::Measured { doses, sum, bits } => put_measured(out, at, doses as u64, sum, bits),
-        Shown::Idle => put_letter(out, at, b'I'),
-        Shown::Missing => put_letter(out, at, b'X'),
-    }
-}
-
-// An hour's row.
-fn put_row(out: &mut [u8], at: usize, hour: u64, row: Shown) -> usize
-    requires { ⌜ at + length (rowText hour (saysShown row)) ≤ length (now out) ⌝ }
-    ensures { λ r. ⌜ Puts (now (out .entry)) at (rowText hour (saysShown row)) (now (out .exit)) r ⌝ }
-{
-    let p = text::put_decimal(out, at, hour);
-    let q = text::put_byte(out, p, TAB);
-    put_tail(out, q, row)
-}
-
-// How many bytes the rows of the first hours of a table have.
-fn text_len(table: [Tally; SPAN], first: u32, hours: usize) -> usize
-    requires { ⌜ Printable table first hours ⌝ }
-    ensures { λ r. ⌜ r ≡ length (textBy table first hours) ⌝ }
-{
-    let mut n: usize = 0;
-    let mut k: usize = 0;
-    while k < hours {
-        let tally = table[k];
-        n += row_len(first as u64 + k as u64, shown_from(tally));
-        k += 1;
-    }
-    n
-}
-
-// The rows of the first hours of a table, stored from the buffer's start.
-fn put_rows(out: &mut [u8], table: [Tally; SPAN], first: u32, hours: usize)
-    requires printable { ⌜ Printable table first hours ⌝ }
-    requires room { ⌜ length (textBy table first hours) ≤ length (now out) ⌝ }
-    ensures { λ _. ⌜ now (out .exit) ≡ sets (now (out .entry)) 0 (textBy table first hours) ⌝ }
-{
-    let mut at: usize = 0;
-    let mut k: usize = 0;
-    while k < hours {
-        let tally = table[k];
-        at = put_row(out, at, first as u64 + k as u64, shown_from(tally));
-        k += 1;
-    }
-}
-
-// How many hours are printed: none of an empty journal.
-fn hours_in(found: Summary) -> usize
-    requires { ⌜ found .first ≤ found .last ⌝ }
-    ensures { λ r. ⌜ r ≡ hoursIn found ⌝ }
-{
-    if found.lines == 0 {
-        return 0;
-    }
-    (found.last - found.first) as usize + 1
-}
-
-// The text of an accepted journal's tallies, if it has room.
-fn print_table(table: [Tally; SPAN], found: Summary, out: &mut [u8]) -> Printed
-    requires printable { ⌜ Printable table (found .first) (hoursIn found) ⌝ }
-    requires order { ⌜ found .first ≤ found .last ⌝ }
-    ensures { λ r. ⌜ Fills (saysPrinted r) (inRoom [] (length (now (out .entry))) (textBy table (found .first) (hoursIn found))) (now (out .entry)) (now (out .exit)) ⌝ }
-{
-    let first = found.first;
-    let hours = hours_in(found);
-    let n = text_len(table, first, hours);
-    if out.len() < n {
-        return Printed::R8;
-    }
-    put_rows(out, table, first, hours);
-    Printed::Text(n)
-}
-
-// The hour program's text, from the buffer's start, or a refusal that leaves the buffer as it was.
-pub fn print(bytes: &[u8], out: &mut [u8]) -> Printed
-    ensures { λ r. ⌜ Fills (saysPrinted r) (printOf (now (bytes .entry)) (length (now (out .entry)))) (now (out .entry)) (now (out .exit)) ⌝ }
+    ensures { λ r. ⌜ AnswersHour (now (bytes .entry)) hour r ⌝ }
 {
     let counted = tallies(bytes);
     let table = counted.table;
     let judged = counted.judged;
     match judged {
-        Judged::Lines(found) => print_table(table, found, out),
-        Judged::Refused(refusal) => Printed::Refused(refusal),
+        Judged::Lines(found) => Asked::Hour(hour_among(table, found, hour)),
+        Judged::Refused(refusal) => Asked::Refused(refusal),
     }
 }

@@ -14,7 +14,6 @@ use Rattle.journal.specs.Line.{lineOf, textOf, fieldsText, fieldsAt, dos
 use Rattle.journal.specs.declared.Line.{Line}
 use Rattle.journal.specs.declared.Line.the-variants.{Dose, On}
 use Rattle.journal.specs.declared.Past.{Past}
-use Rattle.journal.specs.declared.Summary.{Summary}
 
 unfoldable pub hourIn : Line → ℕ
 hourIn (Dose h c a s) = h
@@ -74,9 +73,6 @@ unfoldable pub lastHour : List Line → ℕ
 lastHour [] = 0
 lastHour (l ∷ []) = hourIn l
 lastHour (l ∷ m ∷ ls) = lastHour (m ∷ ls)
-
-unfoldable pub summaryOf : List Line → Summary
-summaryOf ls = record { lines = length ls; first = firstHour ls; last = lastHour ls }
 
 -- the text of a journal's lines
 unfoldable pub journalText : List Line → List ℕ

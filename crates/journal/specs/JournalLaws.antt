@@ -16,11 +16,10 @@ use Rattle.paper.specs.AnswerLaws.{refused-done, fault-done}
 use Rattle.paper.specs.Numbers.{R10, R11, R12, R13}
 use Rattle.journal.specs.Line.{textOf, inRange, lineOf}
 use Rattle.journal.specs.LineLaws.{text-only, text-least, line-shorter, dose-range, on-range}
-use Rattle.journal.specs.Journal.{hourIn, outOfOrder, tooFar, noPast, pastAfter, ordered, onLine, readFrom, journalOf, summaryOf, journalText}
+use Rattle.journal.specs.Journal.{hourIn, outOfOrder, tooFar, noPast, pastAfter, ordered, onLine, readFrom, journalOf, journalText}
 use Rattle.journal.specs.declared.Line.{Line}
 use Rattle.journal.specs.declared.Line.the-variants.{Dose, On}
 use Rattle.journal.specs.declared.Past.{Past}
-use Rattle.journal.specs.declared.Summary.{Summary}
 
 -- what follows a line, with f as the bound on the number of lines
 abbrev next-line : (f : ℕ) (p : Past) (n : ℕ) (l : Line) (rest : List ℕ) → Answer (List Line)
@@ -232,13 +231,3 @@ text-lines (l ∷ ls) = omega (arith, text-least l, text-lines ls, length-append
 -- a line takes at least 4 bytes, so a journal has at most 16,384 lines
 pub lines-most : (s : List ℕ) (ls : List Line) → journalOf s ≡ done ls → 4 * length ls ≤ length s
 lines-most s ls e = omega (arith, text-lines ls, ap length (journal-text s ls e))
-
--- what the reader's answer says of the journal
-pub judged-lines : (s : List ℕ) (m : Summary) → done m ≡ told summaryOf (journalOf s) → (ls : List Line) × (journalOf s ≡ done ls) × (m ≡ summaryOf ls)
-unfolding told
-judged-lines s m e = go (journalOf s) refl e
-  where
-    go : (a : Answer (List Line)) → journalOf s ≡ a → done m ≡ told summaryOf a → (ls : List Line) × (journalOf s ≡ done ls) × (m ≡ summaryOf ls)
-    go (done ls) q h = (ls, q, cc)
-    go (refused n vs) q h = refused-done (sym h)
-    go (fault n vs) q h = fault-done (sym h)

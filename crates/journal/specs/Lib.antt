@@ -3,5 +3,7 @@ pub mod LineLaws
 pub mod Journal
 pub mod JournalLaws
 pub mod Order
-pub mod Says
 pub mod Fields
+pub mod FieldLaws
+pub mod Says
+pub mod Contracts

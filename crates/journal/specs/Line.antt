@@ -85,17 +85,18 @@ whole bad = refused R10 (1 ∷ [])
 unfoldable pub oneLine : List ℕ → Answer Line
 oneLine s = whole (lineOf s)
 
--- a line and the place after it, of n bytes
-pub record Placed : Type 0 where
-  pub line : Line
-  pub next : ℕ
+-- what stands at a place: a line and the place after it, or no line
+pub data Place : Type 0 where
+  holds : Line → ℕ → Place
+  noLine : Place
 
-unfoldable pub placed : ℕ → Parsed Line → Answer Placed
-placed n (good l rest) = done (record { line = l; next = n - length rest })
-placed n bad = refused R10 []
+-- by what is read there, of n bytes
+unfoldable pub placed : ℕ → Parsed Line → Place
+placed n (good l rest) = holds l (n - length rest)
+placed n bad = noLine
 
 -- the line at a place of some bytes, and the place after it
-unfoldable pub lineAt : List ℕ → ℕ → Answer Placed
+unfoldable pub lineAt : List ℕ → ℕ → Place
 lineAt s at = placed (length s) (lineOf (drop at s))
 
 -- a D line and an H line read, and what a sign, a leading zero, a tab too many, a missing LF, a value one above its range and a lower-case letter are

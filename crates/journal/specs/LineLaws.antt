@@ -18,7 +18,7 @@ use Rattle.paper.specs.AnswerLaws.{refused-done}
 use Rattle.paper.specs.Numbers.{R8, R10}
 use Rattle.text.specs.Scan.{LF, TAB, expect, onGood}
 use Rattle.text.specs.ScanLaws.{bad-good}
-use Rattle.journal.specs.Line.{Placed, placed, lineAt, writeOf, oneLine, whole, letterD, letterH, mostOfD, mostOfH, fieldsText, textOf, within, inRange, fieldsAt, doseFrom, onFrom, lineOf}
+use Rattle.journal.specs.Line.{Place, holds, noLine, placed, lineAt, writeOf, oneLine, whole, letterD, letterH, mostOfD, mostOfH, fieldsText, textOf, within, inRange, fieldsAt, doseFrom, onFrom, lineOf}
 use Rattle.journal.specs.declared.Line.{Line}
 use Rattle.journal.specs.declared.Line.the-variants.{Dose, On}
 
@@ -209,23 +209,25 @@ line-rest s l rest e =
 pub place-back : (s : List ℕ) (p : ℕ) → p ≤ length s → length s - length (drop p s) ≡ p
 place-back s p h = rw (length-drop p s) (omega arith)
 
-pub placed-bad : (n : ℕ) (p : Parsed Line) → refused R10 [] ≡ placed n p → p ≡ bad
-unfolding placed
-placed-bad n (good l rest) e = refused-done e
-placed-bad n bad e = refl
+pub holds-none : {Q : Type 0} {l : Line} {k : ℕ} → holds l k ≡ noLine → Q
+holds-none e = let z : _≡_ {A = ℕ} 0 1 = cc in absurd (omega arith)
 
-pub placed-good : (n k : ℕ) (l : Line) (p : Parsed Line) → done (record { line = l; next = k }) ≡ placed n p → (rest : List ℕ) × (p ≡ good l rest) × (k ≡ n - length rest)
+pub placed-none : (n : ℕ) (p : Parsed Line) → placed n p ≡ noLine → p ≡ bad
+unfolding placed
+placed-none n (good l rest) e = holds-none e
+placed-none n bad e = refl
+
+pub placed-good : (n k : ℕ) (l : Line) (p : Parsed Line) → holds l k ≡ placed n p → (rest : List ℕ) × (p ≡ good l rest) × (k ≡ n - length rest)
 unfolding placed
 placed-good n k l (good m rest) e =
-    let r : _≡_ {A = Placed} (record { line = l; next = k }) (record { line = m; next = n - length rest }) = cc in
-    let a : l ≡ m = ap (λ (t : Placed). t .line) r in
-    (rest, cc, ap (λ (t : Placed). t .next) r)
-placed-good n k l bad e = refused-done (sym e)
+    let a : l ≡ m = cc in
+    (rest, cc, cc)
+placed-good n k l bad e = holds-none e
 
 -- from `at` on stands the line l, and `next` is the place after it
 pub record Stands (s : List ℕ) (at : ℕ) (l : Line) (next : ℕ) : Type 0 where
   pub line : lineOf (drop at s) ≡ good l (drop next s)
-  pub is : lineAt s at ≡ done (record { line = l; next = next })
+  pub is : lineAt s at ≡ holds l next
   pub onward : at < next
   pub inside : next ≤ length s
 
@@ -243,11 +245,15 @@ stands s at l rest e =
     }
 
 -- what a reader that answered a line at a place has found
-pub line-at-only : (s : List ℕ) (at : ℕ) (l : Line) (next : ℕ) → done (record { line = l; next = next }) ≡ lineAt s at → Stands s at l next
+pub line-at-only : (s : List ℕ) (at : ℕ) (l : Line) (next : ℕ) → holds l next ≡ lineAt s at → Stands s at l next
 unfolding lineAt
 line-at-only s at l next e =
     let x = placed-good (length s) next l (lineOf (drop at s)) e in
     subst (λ (k : ℕ). Stands s at l k) (sym (x .2)) (stands s at l (x .0) (x .1))
+
+-- what is read there and goes on at a place
+pub stands-at : (s : List ℕ) (at : ℕ) (l : Line) (next : ℕ) → lineOf (drop at s) ≡ good l (drop next s) → next ≤ length s → Stands s at l next
+stands-at s at l next e h = subst (λ (k : ℕ). Stands s at l k) (place-back s next h) (stands s at l (drop next s) e)
 
 -- the writer's answers
 pub write-range : (l : Line) (room : ℕ) → inRange l ≡ false → writeOf l room ≡ refused R10 (0 ∷ [])

@@ -2,30 +2,30 @@
 use mathlib.Core.Path.{_≡_, refl, ap, sym}
 use mathlib.Core.List.{List, [], _∷_}
 use Prim.Native.Nat.{ℕ}
-use Rattle.paper.specs.Answer.{Answer, done, refused, told, same}
+use lib.ListN.{getD}
+use Rattle.paper.specs.Answer.{Answer, done, refused, told}
 use Rattle.paper.specs.AnswerLaws.{refused-done}
 use Rattle.paper.specs.Numbers.{R10, R11, R12, R13}
-use Rattle.journal.specs.Line.{Placed, oneLine, lineAt}
-use Rattle.journal.specs.Journal.{journalOf, summaryOf}
+use Rattle.journal.specs.Line.{Place, holds, noLine}
+use Rattle.journal.specs.LineLaws.{holds-none}
 use Rattle.journal.specs.declared.Line.{Line}
 use Rattle.journal.specs.declared.One.{One}
 use Rattle.journal.specs.declared.One.the-variants as O
 use Rattle.journal.specs.declared.At.{At}
 use Rattle.journal.specs.declared.At.the-variants as A
-use Rattle.journal.specs.declared.Summary.{Summary}
 use Rattle.journal.specs.declared.Refusal.{Refusal}
 use Rattle.journal.specs.declared.Refusal.the-variants as R
-use Rattle.journal.specs.declared.Judged.{Judged}
-use Rattle.journal.specs.declared.Judged.the-variants as J
+use Rattle.journal.specs.declared.Named.{Named}
 
 -- a reader of one line by itself answers R10 with line 1
 abbrev pub saysOne : One → Answer Line
 saysOne (O.Line l) = done l
 saysOne O.R10 = refused R10 (1 ∷ [])
 
-abbrev pub saysAt : At → Answer Placed
-saysAt (A.Line l n) = done (record { line = l; next = n })
-saysAt A.R10 = refused R10 []
+-- a line and the place after it, or that no line stands there: it refuses nothing
+abbrev pub saysAt : At → Place
+saysAt (A.Line l n) = holds l n
+saysAt A.NoLine = noLine
 
 -- R10 to R12 with the line; R13 names nothing
 abbrev pub saysRefusal : {X : Type 0} → Refusal → Answer X
@@ -34,9 +34,12 @@ saysRefusal (R.R11 n) = refused R11 (n ∷ [])
 saysRefusal (R.R12 n) = refused R12 (n ∷ [])
 saysRefusal R.R13 = refused R13 []
 
-abbrev pub saysJudged : Judged → Answer Summary
-saysJudged (J.Lines s) = done s
-saysJudged (J.Refused r) = saysRefusal r
+-- the number of a refusal and its line: 1 is the first; 0 for R13
+unfoldable pub namesOf : Refusal → Named
+namesOf (R.R10 n) = record { number = R10; line = n }
+namesOf (R.R11 n) = record { number = R11; line = n }
+namesOf (R.R12 n) = record { number = R12; line = n }
+namesOf R.R13 = record { number = R13; line = 0 }
 
 -- two answers that say the same are equal
 pub one-one : (a b : One) → saysOne a ≡ saysOne b → a ≡ b
@@ -47,13 +50,12 @@ one-one O.R10 O.R10 e = refl
 
 pub at-one : (a b : At) → saysAt a ≡ saysAt b → a ≡ b
 at-one (A.Line l n) (A.Line m k) e =
-    let x : _≡_ {A = Placed} (record { line = l; next = n }) (record { line = m; next = k }) = cc in
-    let a : l ≡ m = ap (λ (p : Placed). p .line) x in
-    let b : n ≡ k = ap (λ (p : Placed). p .next) x in
+    let a : l ≡ m = cc in
+    let b : n ≡ k = cc in
     cc
-at-one (A.Line l n) A.R10 e = cc
-at-one A.R10 (A.Line m k) e = cc
-at-one A.R10 A.R10 e = refl
+at-one (A.Line l n) A.NoLine e = holds-none e
+at-one A.NoLine (A.Line m k) e = holds-none (sym e)
+at-one A.NoLine A.NoLine e = refl
 
 pub refusal-one : {X : Type 0} (a b : Refusal) → saysRefusal {X = X} a ≡ saysRefusal b → a ≡ b
 refusal-one (R.R10 n) (R.R10 m) e = cc
@@ -88,18 +90,10 @@ refusal-told f (R.R11 n) = refl
 refusal-told f (R.R12 n) = refl
 refusal-told f R.R13 = refl
 
-pub judged-one : (a b : Judged) → saysJudged a ≡ saysJudged b → a ≡ b
-judged-one (J.Lines s) (J.Lines t) e = cc
-judged-one (J.Lines s) (J.Refused r) e = refusal-done r (sym e)
-judged-one (J.Refused q) (J.Lines t) e = refusal-done q e
-judged-one (J.Refused q) (J.Refused r) e = ap (λ (x : Refusal). J.Refused x) (refusal-one q r e)
-
--- two results that both meet a call's contract are equal
-pub line-at-determined : (s : List ℕ) (at : ℕ) (a b : At) → saysAt a ≡ lineAt s at → saysAt b ≡ lineAt s at → a ≡ b
-line-at-determined s at a b p q = at-one a b (same p q)
-
-pub read-line-determined : (s : List ℕ) (a b : One) → saysOne a ≡ oneLine s → saysOne b ≡ oneLine s → a ≡ b
-read-line-determined s a b p q = one-one a b (same p q)
-
-pub read-determined : (s : List ℕ) (a b : Judged) → saysJudged a ≡ told summaryOf (journalOf s) → saysJudged b ≡ told summaryOf (journalOf s) → a ≡ b
-read-determined s a b p q = judged-one a b (same p q)
+-- what a refusal says is its number, and the line that it names where it names one
+pub refusal-names : {X : Type 0} (r : Refusal) → (vs : List ℕ) × (saysRefusal {X = X} r ≡ refused (namesOf r .number) vs) × (getD vs 0 0 ≡ namesOf r .line)
+unfolding namesOf
+refusal-names (R.R10 n) = (n ∷ [], refl, refl)
+refusal-names (R.R11 n) = (n ∷ [], refl, refl)
+refusal-names (R.R12 n) = (n ∷ [], refl, refl)
+refusal-names R.R13 = ([], refl, refl)

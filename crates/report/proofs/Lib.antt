@@ -1,1 +1,3 @@
+pub mod Showing
+pub mod Printing
 pub mod Reporting

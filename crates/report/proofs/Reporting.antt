@@ -1,110 +1,113 @@
--- From the text's answer to what stands in the buffer, and from the journal's refusal to its line. Assumes nothing.
-use mathlib.Core.Path.{_≡_, refl, sym, ap, _∙_}
-use mathlib.Core.Bool.{Bool, true, false}
-use mathlib.Core.List.{List, []}
-use Prim.Native.Nat.{ℕ, _≤_, _<_}
+-- From the text's answer to the report, and from the journal's refusal to its line. Assumes nothing.
+use mathlib.Core.Path.{_≡_, refl, sym, ap, _∙_, subst}
+use mathlib.Core.List.{List, [], _++_}
+use Prim.Native.Nat.{ℕ, zero, suc, _-_, _≤_, min}
 use native.Mathlib.Omega.{arith}
 use native.Mathlib.Decide.{decLt}
-use lib.Dec.{leb}
-use lib.ListN.{length}
-use borrow.Author.Tests.{le-leb, lt-leb}
-use Rattle.laws.specs.Pick.{pick, pick-t, pick-f}
-use Rattle.laws.specs.Over.{sets-over}
+use lib.ListN.{length, take, drop, replicate, length-replicate}
+use lib.Seq.{take-all}
+use Rattle.laws.specs.Over.{over, sets-over}
 use Rattle.paper.specs.Answer.{Answer, done, refused, fault, told, onDone, inRoom, leaves, Fills}
-use Rattle.paper.specs.AnswerLaws.{refused-done, fault-done, fault-refused}
-use Rattle.paper.specs.Numbers.{R8, R10, R11, R12, R13}
+use Rattle.paper.specs.AnswerLaws.{refused-done, fault-done, fault-refused, hands-done}
+use Rattle.paper.specs.Numbers.{R8, R10}
 use Rattle.text.specs.Put.{Puts}
-use Rattle.text.specs.PutLaws.{room-is, room-not, fit-puts, none-puts}
-use Rattle.journal.specs.Says.{saysRefusal, refusal-done, refusal-told}
+use Rattle.text.specs.PutLaws.{room-is, puts-fit}
+use Rattle.journal.specs.Journal.{journalOf}
+use Rattle.journal.specs.Says.{saysRefusal, refusal-done, refusal-told, namesOf, refusal-names}
 use Rattle.journal.specs.declared.Line.{Line}
 use Rattle.journal.specs.declared.Refusal.{Refusal}
-use Rattle.journal.specs.declared.Refusal.the-variants as R
-use Rattle.hourly.specs.Text.{hoursText}
-use Rattle.hourly.specs.Says.{saysPrinted}
-use Rattle.report.specs.Report.{refusalOf, reportFrom}
-use Rattle.hourly.specs.declared.Printed.{Printed}
-use Rattle.hourly.specs.declared.Printed.the-variants as P
+use Rattle.journal.specs.declared.Refusal.the-variants as J
+use Rattle.hourly.specs.Text.{hoursText, printOf}
+use Rattle.hourly.specs.Bounds.{room-enough}
+use Rattle.report.specs.Report.{refusalText, refusalOf, reportFrom, reportOf, seen-enough, journal-named}
+use Rattle.report.specs.Contracts.{Holds, Reports}
+use Rattle.report.specs.declared.Printout.{Printout}
 
--- how many bytes an answer put
-abbrev pub sizeOf : Printed → ℕ
-sizeOf (P.Text n) = n
-sizeOf (P.Refused r) = 0
-sizeOf P.R8 = 0
+drop-same : (n m x : ℕ) → drop n (replicate m x) ≡ replicate (m - n) x
+drop-same zero m x = let e : m - 0 ≡ m = omega arith in rw e
+drop-same (suc n) zero x = let e : 0 - suc n ≡ 0 = omega arith in rw e
+drop-same (suc n) (suc m) x = let e : suc m - suc n ≡ m - n = omega arith in rw e (drop-same n m x)
 
-size-done : (r : Printed) (n : ℕ) → saysPrinted r ≡ done n → sizeOf r ≡ n
-size-done (P.Text m) n e = cc
-size-done (P.Refused (R.R10 l)) n e = refused-done e
-size-done (P.Refused (R.R11 l)) n e = refused-done e
-size-done (P.Refused (R.R12 l)) n e = refused-done e
-size-done (P.Refused R.R13) n e = refused-done e
-size-done P.R8 n e = refused-done e
+-- a text laid over nothing but 0
+pub holds-over : (text old : List ℕ) (r : Printout) → old ≡ replicate 33480 0 → r .len ≡ length text → r .bytes ≡ over text old → Holds text r
+unfolding over
+holds-over text old r z n e =
+    hands-done refl n (e ∙ ap (λ (l : List ℕ). text ++ l) (ap (drop (length text)) z ∙ drop-same (length text) 33480 0))
 
-size-none : (r : Printed) → saysPrinted r ≡ refused R8 [] → sizeOf r ≡ 0
-size-none (P.Text m) e = refused-done (sym e)
-size-none (P.Refused q) e = refl
-size-none P.R8 e = refl
+-- a text put there
+pub holds-put : (text old : List ℕ) (r : Printout) → old ≡ replicate 33480 0 → length text ≤ 33480 → Puts old 0 text (r .bytes) (r .len) → Holds text r
+holds-put text old r z h p =
+    let n : length old ≡ 33480 = ap length z ∙ length-replicate {A = ℕ} 33480 0 in
+    let f = puts-fit (room-is old 0 text (omega arith)) p in
+    holds-over text old r z (f .1 ∙ omega arith) (f .0 ∙ sets-over old text (omega arith))
 
--- an answer that fills the buffer where the text has room puts the text there
-pub printed-puts : (r : Printed) (old new text : List ℕ) → Fills (saysPrinted r) (inRoom [] (length old) text) old new → Puts old 0 text new (sizeOf r)
-unfolding inRoom told leaves
-printed-puts r old new text f = go (decLt (length old) (length text))
-  where
-    go : Dec (length old < length text) → Puts old 0 text new (sizeOf r)
-    go (yes h) =
-        let e = pick-f (leb (length text) (length old)) (done text) (refused R8 []) (lt-leb (length text) (length old) h) in
-        rw (f .left ∙ ap (λ (a : Answer (List ℕ)). leaves a old) e, size-none r (f .says ∙ ap (told length) e)) (none-puts old 0 text (room-not old 0 text (omega arith)))
-    go (no h) =
-        let b : length text ≤ length old = omega arith in
-        let e = pick-t (leb (length text) (length old)) (done text) (refused R8 []) (le-leb (length text) (length old) b) in
-        fit-puts (room-is old 0 text (omega arith)) (f .left ∙ ap (λ (a : Answer (List ℕ)). leaves a old) e ∙ sym (sets-over old text b)) (size-done r (length text) (f .says ∙ ap (told length) e) ∙ omega arith)
-
--- ---- by the journal's answer
+-- no refusal of a journal is a fault
+refusal-fault : {X Q : Type 0} {n : ℕ} {vs : List ℕ} (r : Refusal) → saysRefusal {X = X} r ≡ fault n vs → Q
+refusal-fault (J.R10 n) e = fault-refused (sym e)
+refusal-fault (J.R11 n) e = fault-refused (sym e)
+refusal-fault (J.R12 n) e = fault-refused (sym e)
+refusal-fault J.R13 e = fault-refused (sym e)
 
 -- what the text's answer is made of
 abbrev printFrom : Answer (List Line) → ℕ → Answer (List ℕ)
 printFrom a room = onDone a (λ ls. inRoom [] room (hoursText ls))
 
--- the text stands there
-pub text-puts : (a : Answer (List Line)) (n : ℕ) (old new : List ℕ) → Fills (done n) (printFrom a (length old)) old new → Puts old 0 (reportFrom a) new n
-unfolding onDone reportFrom told
-text-puts (done ls) n old new f = printed-puts (P.Text n) old new (hoursText ls) f
-text-puts (refused m vs) n old new f = refused-done (sym (f .says))
-text-puts (fault m vs) n old new f = fault-done (sym (f .says))
+module _ (s old new : List ℕ) (z : old ≡ replicate 33480 0) where
+  room : 33480 ≤ length old
+  room = omega (arith, ap length z, length-replicate {A = ℕ} 33480 0)
 
--- it has no room: no journal is refused with R8
-pub no-text-puts : (a : Answer (List Line)) (old new : List ℕ) → ((m : ℕ) (vs : List ℕ) → a ≡ refused m vs → R10 ≤ m) → Fills (refused R8 []) (printFrom a (length old)) old new → Puts old 0 (reportFrom a) new 0
-unfolding onDone reportFrom told
-no-text-puts (done ls) old new least f = printed-puts P.R8 old new (hoursText ls) f
-no-text-puts (refused m vs) old new least f = let z : R8 ≡ m = cc (f .says) in absurd (omega (arith, least m vs refl))
-no-text-puts (fault m vs) old new least f = fault-refused (sym (f .says))
+  -- the text stands there
+  pub text-holds : (n : ℕ) → Fills (done n) (printOf s (length old)) old new → Holds (reportOf s) (record { bytes = new; len = n })
+  unfolding reportOf reportFrom printOf onDone told leaves
+  text-holds n f = go (journalOf s) refl
+    where
+      go : (a : Answer (List Line)) → journalOf s ≡ a → Holds (reportFrom a) (record { bytes = new; len = n })
+      go (done ls) e =
+          let p = room-enough s ls (length old) e room in
+          let says : done n ≡ done (length (hoursText ls)) = f .says ∙ ap (told length) p in
+          let m : n ≡ length (hoursText ls) = cc in
+          holds-over (hoursText ls) old (record { bytes = new; len = n }) z m (f .left ∙ ap (λ (a : Answer (List ℕ)). leaves a old) p)
+      go (refused k vs) e = refused-done (sym (f .says ∙ ap (λ (a : Answer (List Line)). told length (printFrom a (length old))) e))
+      go (fault k vs) e = fault-done (sym (f .says ∙ ap (λ (a : Answer (List Line)). told length (printFrom a (length old))) e))
 
--- no refusal of a journal is R8 or a fault
-refusal-short : {X Q : Type 0} (r : Refusal) → saysRefusal {X = X} r ≡ refused R8 [] → Q
-refusal-short (R.R10 n) e = let z : R10 ≡ R8 = cc in absurd (omega arith)
-refusal-short (R.R11 n) e = let z : R11 ≡ R8 = cc in absurd (omega arith)
-refusal-short (R.R12 n) e = let z : R12 ≡ R8 = cc in absurd (omega arith)
-refusal-short R.R13 e = let z : R13 ≡ R8 = cc in absurd (omega arith)
+  -- it always has room
+  pub never-short : {Q : Type 0} → Fills (refused R8 []) (printOf s (length old)) old new → Q
+  unfolding printOf onDone told
+  never-short {Q} f = go (journalOf s) refl
+    where
+      go : (a : Answer (List Line)) → journalOf s ≡ a → Q
+      go (done ls) e = refused-done (f .says ∙ ap (told length) (room-enough s ls (length old) e room))
+      go (refused k vs) e =
+          let q : _≡_ {A = Answer ℕ} (refused R8 []) (refused k vs) = f .says ∙ ap (λ (a : Answer (List Line)). told length (printFrom a (length old))) e in
+          let y : R8 ≡ k = cc in
+          absurd (omega (arith, journal-named s k vs e .least))
+      go (fault k vs) e = fault-refused (sym (f .says ∙ ap (λ (a : Answer (List Line)). told length (printFrom a (length old))) e))
 
-refusal-fault : {X Q : Type 0} {n : ℕ} {vs : List ℕ} (r : Refusal) → saysRefusal {X = X} r ≡ fault n vs → Q
-refusal-fault (R.R10 n) e = fault-refused (sym e)
-refusal-fault (R.R11 n) e = fault-refused (sym e)
-refusal-fault (R.R12 n) e = fault-refused (sym e)
-refusal-fault R.R13 e = fault-refused (sym e)
+  -- the journal is refused, and the report is the refusal's line
+  pub refused-line : (r : Refusal) → Fills (saysRefusal r) (printOf s (length old)) old new → refusalOf r ≡ reportOf s
+  unfolding reportOf reportFrom printOf onDone told
+  refused-line r f = go (journalOf s) refl
+    where
+      line : refusalOf r ≡ reportFrom (saysRefusal r)
+      line = let x = refusal-names r in sym (ap reportFrom (x .1) ∙ ap (λ (k : ℕ). refusalText (namesOf r .number) k) (x .2))
 
-refusal-line : (r : Refusal) → reportFrom (saysRefusal r) ≡ refusalOf r
-unfolding reportFrom
-refusal-line (R.R10 n) = refl
-refusal-line (R.R11 n) = refl
-refusal-line (R.R12 n) = refl
-refusal-line R.R13 = refl
+      go : (a : Answer (List Line)) → journalOf s ≡ a → refusalOf r ≡ reportFrom a
+      go (done ls) e = refusal-done r (f .says ∙ ap (told length) (room-enough s ls (length old) e room))
+      go (refused k vs) e = line ∙ ap reportFrom (refusal-told (λ (n : ℕ). []) r ∙ ap (told (λ (n : ℕ). [])) (f .says ∙ ap (λ (a : Answer (List Line)). told length (printFrom a (length old))) e))
+      go (fault k vs) e = refusal-fault r (f .says ∙ ap (λ (a : Answer (List Line)). told length (printFrom a (length old))) e)
 
--- the journal is refused: the buffer is as it was, and the report is the refusal's line
-pub refused-line : (a : Answer (List Line)) (r : Refusal) (old new : List ℕ) → Fills (saysRefusal r) (printFrom a (length old)) old new → (new ≡ old) × (refusalOf r ≡ reportFrom a)
-unfolding onDone told leaves inRoom pick
-refused-line (done ls) r old new f = go (leb (length (hoursText ls)) (length old)) (f .says)
-  where
-    go : (b : Bool) → saysRefusal r ≡ told length (pick b (done (hoursText ls)) (refused R8 [])) → (new ≡ old) × (refusalOf r ≡ reportFrom (done ls))
-    go true e = refusal-done r e
-    go false e = refusal-short r e
-refused-line (refused m vs) r old new f = (f .left, sym (refusal-line r) ∙ ap reportFrom (refusal-told (λ (n : ℕ). []) r ∙ ap (told (λ (n : ℕ). [])) (f .says)))
-refused-line (fault m vs) r old new f = refusal-fault r (f .says)
+-- no more bytes are looked at than were asked for
+pub seen-is : (bytes : List ℕ) (n k : ℕ) → length bytes ≡ 65537 → k ≡ min n 65537 → take k bytes ≡ take n bytes
+seen-is bytes n k size e =
+    elim (decLt n 65537) [
+      | yes h ↦ let f : k ≡ n = omega arith in ap (λ (j : ℕ). take j bytes) f
+      | no h ↦ take-all k bytes (omega arith) ∙ sym (take-all n bytes (omega arith))
+    ]
+
+-- 65,537 bytes were asked for, so it is the report of the journal that was read
+pub reports : (bytes seen : List ℕ) (n : ℕ) (r : Printout) → length bytes ≡ 65537 → seen ≡ take n bytes → Holds (reportOf seen) r → Reports bytes n r
+reports bytes seen n r size e h =
+    record {
+      holds = subst (λ (l : List ℕ). Holds (reportOf l) r) e h;
+      whole = λ s q. subst (λ (l : List ℕ). Holds l r) (ap reportOf (e ∙ q ∙ ap (λ (k : ℕ). take k s) size) ∙ seen-enough s) h;
+    }

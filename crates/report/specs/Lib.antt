@@ -1,1 +1,5 @@
+pub mod Rows
+pub mod Table
+pub mod Says
 pub mod Report
+pub mod Contracts

@@ -6,25 +6,23 @@ use Prim.Native.Nat.{ℕ, zero, suc, _+_, _≤_, _<_}
 use native.Mathlib.Omega.{arith}
 use native.Mathlib.Decide.{decLt}
 use lib.Dec.{ltb}
-use lib.ListN.{length, getD, take, drop, length-append}
-use lib.Seq.{take-at}
+use lib.ListN.{length, getD, take, length-append}
+use lib.Seq.{take-all, length-take-le}
 use borrow.Author.Tests.{ltb-false}
 use Rattle.laws.specs.Pick.{pick}
-use Rattle.laws.specs.Over.{over, sets-over}
 use Rattle.laws.specs.Decimal.{decimal, digitsOf, glyph, Parsed, good, bad}
 use Rattle.laws.specs.DecimalLaws.{decimal-length}
 use Rattle.paper.specs.Answer.{Answer, done, refused, fault, told}
 use Rattle.paper.specs.AnswerLaws.{refused-done, told-refused}
 use Rattle.paper.specs.Numbers.{R10, R11, R12, R13}
-use Rattle.text.specs.Put.{Puts, puts-determined}
-use Rattle.text.specs.PutLaws.{room-is, room-not, puts-fit, puts-none, puts-length}
 use Rattle.text.specs.Scan.{LF, TAB}
 use Rattle.journal.specs.Line.{lineOf}
 use Rattle.journal.specs.Journal.{hourIn, outOfOrder, tooFar, pastAfter, noPast, ordered, onLine, readFrom, journalOf}
+use Rattle.journal.specs.JournalLaws.{journal-long}
+use Rattle.journal.specs.Says.{namesOf}
 use Rattle.journal.specs.declared.Line.{Line}
 use Rattle.journal.specs.declared.Past.{Past}
 use Rattle.journal.specs.declared.Refusal.{Refusal}
-use Rattle.journal.specs.declared.Refusal.the-variants as R
 use Rattle.hourly.specs.Text.{hoursText}
 use Rattle.hourly.specs.Accepted.{accepted}
 use Rattle.hourly.specs.Bounds.{text-short}
@@ -38,10 +36,7 @@ refusalText number line = letterR ∷ TAB ∷ (decimal number ++ TAB ∷ (decima
 
 -- the line of a journal's refusal
 abbrev pub refusalOf : Refusal → List ℕ
-refusalOf (R.R10 n) = refusalText R10 n
-refusalOf (R.R11 n) = refusalText R11 n
-refusalOf (R.R12 n) = refusalText R12 n
-refusalOf R.R13 = refusalText R13 0
+refusalOf r = refusalText (namesOf r .number) (namesOf r .line)
 
 -- every hour from first to last, or that line
 unfoldable pub reportFrom : Answer (List Line) → List ℕ
@@ -61,31 +56,31 @@ cases = (refl, refl)
 -- ---- its length
 
 -- a journal's refusal is one of R10 to R13, and names a line
-pub record Named (n k : ℕ) (vs : List ℕ) : Type 0 where
+pub record Cites (n k : ℕ) (vs : List ℕ) : Type 0 where
   pub least : R10 ≤ k
   pub number : k ≤ R13
   pub line : getD vs 0 0 ≤ n
 
-named : (m r : ℕ) (ws : List ℕ) (k : ℕ) (vs : List ℕ) → R10 ≤ r → r ≤ R13 → getD ws 0 0 ≤ m → _≡_ {A = Answer (List Line)} (refused r ws) (refused k vs) → Named m k vs
+named : (m r : ℕ) (ws : List ℕ) (k : ℕ) (vs : List ℕ) → R10 ≤ r → r ≤ R13 → getD ws 0 0 ≤ m → _≡_ {A = Answer (List Line)} (refused r ws) (refused k vs) → Cites m k vs
 named m r ws k vs o h l e =
     let p : r ≡ k = cc in
     let q : ws ≡ vs = cc in
     record { least = omega arith; number = omega arith; line = omega (arith, ap (λ (x : List ℕ). getD x 0 0) q) }
 
-read-named : (f : ℕ) (p : Past) (n : ℕ) (s : List ℕ) (k : ℕ) (vs : List ℕ) → readFrom f p n s ≡ refused k vs → Named (n + f) k vs
+read-named : (f : ℕ) (p : Past) (n : ℕ) (s : List ℕ) (k : ℕ) (vs : List ℕ) → readFrom f p n s ≡ refused k vs → Cites (n + f) k vs
 unfolding readFrom onLine ordered pick
 read-named zero p n s k vs e = refused-done (sym e)
 read-named (suc f) p n [] k vs e = refused-done (sym e)
 read-named (suc f) p n (b ∷ bs) k vs e = go (lineOf (b ∷ bs)) (λ l rest. read-named f (pastAfter p l) (suc n) rest k vs) e
   where
-    judged : (l : Line) (u v : Bool) (a : Answer (List Line)) → (a ≡ refused k vs → Named (suc n + f) k vs)
-        → pick u (refused R11 (n ∷ [])) (pick v (refused R12 (n ∷ [])) (told (λ (ls : List Line). l ∷ ls) a)) ≡ refused k vs → Named (n + suc f) k vs
+    judged : (l : Line) (u v : Bool) (a : Answer (List Line)) → (a ≡ refused k vs → Cites (suc n + f) k vs)
+        → pick u (refused R11 (n ∷ [])) (pick v (refused R12 (n ∷ [])) (told (λ (ls : List Line). l ∷ ls) a)) ≡ refused k vs → Cites (n + suc f) k vs
     judged l true v a rest e = named (n + suc f) R11 (n ∷ []) k vs (omega arith) (omega arith) (omega arith) e
     judged l false true a rest e = named (n + suc f) R12 (n ∷ []) k vs (omega arith) (omega arith) (omega arith) e
     judged l false false a rest e = let r = rest (told-refused (λ (ls : List Line). l ∷ ls) a k vs e) in record { least = r .least; number = r .number; line = omega (arith, r .line) }
 
-    go : (r : Parsed Line) → ((l : Line) (rest : List ℕ) → readFrom f (pastAfter p l) (suc n) rest ≡ refused k vs → Named (suc n + f) k vs)
-        → onLine n r (λ l rest. ordered p l n (told (λ (ls : List Line). l ∷ ls) (readFrom f (pastAfter p l) (suc n) rest))) ≡ refused k vs → Named (n + suc f) k vs
+    go : (r : Parsed Line) → ((l : Line) (rest : List ℕ) → readFrom f (pastAfter p l) (suc n) rest ≡ refused k vs → Cites (suc n + f) k vs)
+        → onLine n r (λ l rest. ordered p l n (told (λ (ls : List Line). l ∷ ls) (readFrom f (pastAfter p l) (suc n) rest))) ≡ refused k vs → Cites (n + suc f) k vs
     go (good l rest) behind e =
         judged l (p .begun && outOfOrder (p .last) (p .closed) (hourIn l)) (p .begun && tooFar (p .first) (hourIn l)) (readFrom f (pastAfter p l) (suc n) rest)
         (behind l rest) e
@@ -98,11 +93,11 @@ refusal-length number line = omega (arith, length-append (decimal number) (TAB �
 refusal-short : (number line : ℕ) → number ≤ 13 → line ≤ 65537 → length (refusalText number line) ≤ 33480
 refusal-short number line h l = omega (arith, refusal-length number line, decimal-length 2 number (omega arith) (omega arith), decimal-length 5 line (omega arith) (omega arith))
 
-pub journal-named : (s : List ℕ) (k : ℕ) (vs : List ℕ) → journalOf s ≡ refused k vs → Named 65537 k vs
+pub journal-named : (s : List ℕ) (k : ℕ) (vs : List ℕ) → journalOf s ≡ refused k vs → Cites 65537 k vs
 unfolding journalOf pick
 journal-named s k vs e = go (ltb 65536 (length s)) refl e
   where
-    go : (b : Bool) → ltb 65536 (length s) ≡ b → pick b (refused R13 []) (readFrom (length s) noPast 1 s) ≡ refused k vs → Named 65537 k vs
+    go : (b : Bool) → ltb 65536 (length s) ≡ b → pick b (refused R13 []) (readFrom (length s) noPast 1 s) ≡ refused k vs → Cites 65537 k vs
     go true p e = named 65537 R13 [] k vs (omega arith) (omega arith) (omega arith) e
     go false p e = let r = read-named (length s) noPast 1 s k vs e in record { least = r .least; number = r .number; line = omega (arith, r .line, ltb-false 65536 (length s) p) }
 
@@ -116,25 +111,15 @@ report-short s = go (journalOf s) refl
     go (refused k vs) p = let r = journal-named s k vs p in refusal-short k (getD vs 0 0) (r .number) (r .line)
     go (fault k vs) p = omega arith
 
--- ---- what stands in the buffer
+-- ---- how much of a journal has to be seen
 
--- what was put stands inside the buffer
-pub put-inside : {old text new : List ℕ} {r : ℕ} → Puts old 0 text new r → r ≤ length new
-put-inside {old} {text} {new} {r} p = go (decLt (length old) (length text))
-  where
-    go : Dec (length old < length text) → r ≤ length new
-    go (yes h) = omega (arith, puts-none (room-not old 0 text (omega arith)) p .1)
-    go (no h) = omega (arith, puts-fit (room-is old 0 text (omega arith)) p .1, puts-length p)
-
--- with 33,480 bytes the report stands there whole
-pub report-whole : (s : List ℕ) {old new : List ℕ} {r : ℕ} → 33480 ≤ length old → Puts old 0 (reportOf s) new r → (r ≡ length (reportOf s)) × (take r new ≡ reportOf s)
-unfolding over
-report-whole s {old} {new} {r} h p =
-    let b : length (reportOf s) ≤ length old = omega (arith, report-short s) in
-    let f = puts-fit (room-is old 0 (reportOf s) (omega arith)) p in
-    let n : r ≡ length (reportOf s) = f .1 ∙ omega arith in
-    (n, ap (take r) (f .0 ∙ sets-over old (reportOf s) b) ∙ take-at (reportOf s) (drop (length (reportOf s)) old) r (sym n))
-
--- two results that both meet the contract are equal
-pub report-determined : (s old : List ℕ) {new new' : List ℕ} {r r' : ℕ} → Puts old 0 (reportOf s) new r → Puts old 0 (reportOf s) new' r' → (new ≡ new') × (r ≡ r')
-report-determined s old p q = puts-determined p q
+-- the first 65,537 bytes tell the report of a journal of any length
+pub seen-enough : (s : List ℕ) → reportOf (take 65537 s) ≡ reportOf s
+unfolding reportOf
+seen-enough s =
+    elim (decLt 65536 (length s)) [
+      | yes h ↦
+          let n : length (take 65537 s) ≡ 65537 = length-take-le 65537 s (omega arith) in
+          ap reportFrom (journal-long (take 65537 s) (omega arith) ∙ sym (journal-long s h))
+      | no h ↦ ap (λ (l : List ℕ). reportFrom (journalOf l)) (take-all 65537 s (omega arith))
+    ]

@@ -25,9 +25,12 @@ echoed-one (E.Body n) E.R14 e = cc
 echoed-one E.R14 (E.Body m) e = cc
 echoed-one E.R14 E.R14 e = refl
 
+-- echo_frame: the body that was given, or R14
+abbrev pub EchoesBody : List ℕ → Echo → Type 0
+EchoesBody body r = Hands 255 (saysEchoed (r .echoed)) (echoOf body) (r .body)
+
 -- two results that both meet the call's contract are equal
-pub echo-determined : (body : List ℕ) (a b : Echo)
-    → Hands 255 (saysEchoed (a .echoed)) (echoOf body) (a .body) → Hands 255 (saysEchoed (b .echoed)) (echoOf body) (b .body) → a ≡ b
+pub echo-determined : (body : List ℕ) (a b : Echo) → EchoesBody body a → EchoesBody body b → a ≡ b
 echo-determined body a b p q =
     ap₂ {C = Echo} (λ (e : Echoed) (l : List ℕ). record { echoed = e; body = l })
     (echoed-one (a .echoed) (b .echoed) (hands-one p q .0)) (hands-one p q .1)

@@ -3,8 +3,7 @@ use frame::Found;
 use frame::Wrote;
 ghost use mathlib.Core.Path.{_≡_};
 ghost use lib.ListN.{replicate};
-ghost use Rattle.paper.specs.Answer.{Hands};
-ghost use Rattle.roundtrip.specs.Frames.{echoOf, saysEchoed};
+ghost use Rattle.roundtrip.specs.Frames.{EchoesBody};
 
 // What writing and reading back answers: the length of the body, or the writer's refusal.
 pub enum Echoed {
@@ -29,7 +28,7 @@ fn no_echo() -> Echo
 
 // Writes a body's frame, reads it back, and answers the body that was read.
 pub fn echo_frame(body: &[u8]) -> Echo
-    ensures { λ r. ⌜ Hands 255 (saysEchoed (r .echoed)) (echoOf (now (body .entry))) (r .body) ⌝ }
+    ensures { λ r. ⌜ EchoesBody (now (body .entry)) r ⌝ }
 {
     let mut line = [0u8; 513];
     let wrote = frame::write_frame(body, &mut line);

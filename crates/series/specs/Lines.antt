@@ -15,9 +15,7 @@ use Rattle.journal.specs.Line.{mostOfD, mostOfH, within, inRange}
 use Rattle.journal.specs.Journal.{hourIn, journalOf, journalText}
 use Rattle.journal.specs.JournalLaws.{Each}
 use Rattle.journal.specs.Order.{Ordered, ordered-journal}
-use Rattle.hourly.specs.declared.Hour.{Hour}
-use Rattle.hourly.specs.declared.Hour.the-variants.{Missing}
-use Rattle.hourly.specs.Hours.{doseAt, amountsAt, hasOn, measuredOrIdle, hourOf, askOf}
+use Rattle.hourly.specs.Hours.{HourAnswer, missing, doseAt, amountsAt, hasOn, measuredOrIdle, hourOf, askOf}
 use Rattle.hourly.specs.Text.{hoursText, rowFrom, rowOf, printOf}
 use Rattle.controller.specs.declared.Record.{Record}
 use Rattle.controller.specs.declared.Controller.{Controller}
@@ -105,8 +103,8 @@ stamped-amounts h (s ∷ more) =
     ∙ sym (map-append (λ (r : Record). r .amount) (pick (eqb (s .hour) h) (s .dose ∷ []) []) (completedIn h more))
 
 -- an hour by whether it has an H, and by the doses completed in it
-unfoldable pub hourWith : Bool → List Record → Hour
-hourWith on rs = pick on (measuredOrIdle (amountsOf rs)) Missing
+unfoldable pub hourWith : Bool → List Record → HourAnswer
+hourWith on rs = pick on (measuredOrIdle (amountsOf rs)) missing
 
 module _ (c : Controller) (es : List Event) (stamps : List Stamped) (ls : List Line) (j : JournalOf c es stamps ls) where
   -- the amounts of an hour are those of the doses completed in it: so its number of doses and its sum are theirs
@@ -115,7 +113,7 @@ module _ (c : Controller) (es : List Event) (stamps : List Stamped) (ls : List L
 
   hour-kind : (h : ℕ) → hourOf ls h ≡ hourWith (hasOn h ls) (completedIn h stamps)
   unfolding hourOf hourWith
-  hour-kind h = ap (λ (l : List ℕ). pick (hasOn h ls) (measuredOrIdle l) Missing) (hour-amounts h)
+  hour-kind h = ap (λ (l : List ℕ). pick (hasOn h ls) (measuredOrIdle l) missing) (hour-amounts h)
 
   -- and so are its kind, its figures and its row in print
   pub hour-answer : Sound c → (h : ℕ) → askOf (journalText ls) h ≡ done (hourWith (hasOn h ls) (completedIn h stamps))

@@ -4,7 +4,7 @@ use borrow.Author.Needs.{needs}
 use borrow.Author.Tests.{not-true, not-false, eq-eqb, ne-eqb}
 use Rattle.laws.specs.Pick.{pick-t, pick-f}
 use Rattle.hourly.specs.Hours.{asF64}
-use Rattle.hourly.specs.Tally.{hourFrom, figuresFrom}
+use Rattle.hourly.specs.Tally.{hourFrom}
 use Rattle.hourly.proofs.hour_from.Statement.{statement}
 use Rattle.hourly.proofs.hour_from.Tie as tie
 
@@ -23,7 +23,7 @@ int-to-float-t4 : tie.Need-int-to-float-t4
 int-to-float-t4 c = search needs
 
 returns-3 : tie.Need-returns-3
-unfolding hourFrom figuresFrom asF64
+unfolding hourFrom asF64
 returns-3 c = sym (pick-t (c .before .before .before .before .before .before .before .args .t .on) _ _ (not-false _ (c .before .before .before .before .before .if1 .left)) ∙ pick-f (eqb (c .before .before .before .before .before .before .before .args .t .doses) 0) _ _ (ne-eqb _ 0 (c .before .before .before .if2 .left)))
 
 pub hour-from-spec : {M : Type 1} → statement M

@@ -1,205 +1,309 @@
--- The pass over the lines: what is read from `at` on gives the rest of the answer, and the lines so far are counted. Assumes nothing.
-use Prim.Native.Nat.{ℕ, _-_, _≤_}
-use mathlib.Core.Path.{_≡_, sym, ap, _∙_, subst}
+-- The pass: the lines so far are judged and counted, and what is left from the next line on gives the rest of the answer; within a line, the fields so far and what is left from the next one on make the line.
+use mathlib.Core.Path.{_≡_, refl, sym, ap, _∙_, subst}
 use mathlib.Core.Bool.{Bool, true, false, _&&_}
-use mathlib.Core.List.{List}
+use mathlib.Core.List.{List, [], _∷_}
+use Prim.Native.Nat.{ℕ, _+_, _-_, _≤_, _<_}
 use native.Mathlib.Omega.{arith}
 use borrow.Author.Needs.{needs}
 use denote.Ref.{now}
-use lib.ListN.{length}
-use Rattle.journal.specs.Journal.{hourIn, outOfOrder, tooFar}
+use lib.ListN.{length, drop}
+use Rattle.laws.specs.Decimal.{bad}
+use Rattle.paper.specs.Answer.{refused}
+use Rattle.paper.specs.Numbers.{R10}
+use Rattle.journal.specs.Line.{mostOfD, lineOf}
+use Rattle.journal.specs.LineLaws.{Stands}
+use Rattle.journal.specs.Journal.{hourIn, outOfOrder, tooFar, journalOf}
 use Rattle.journal.specs.JournalLaws.{journal-long}
-use Rattle.journal.specs.LineLaws.{Stands, line-at-only}
-use Rattle.journal.specs.Says.{saysAt}
+use Rattle.journal.specs.FieldLaws.{Fielded, letter-none, fielded-none, fielded-more, fielded-bad, fielded-torn, fielded-line}
 use Rattle.journal.specs.declared.Line.{Line}
-use Rattle.hourly.specs.Tally.{Counts}
+use Rattle.hourly.specs.Contracts.{Counts}
 use Rattle.hourly.proofs.Passing.{Passed, Turn, passed-none, counts-refused, counts-all, malformed, late, distant, turn}
 use Rattle.hourly.proofs.tallies.Statement.{statement}
 use Rattle.hourly.proofs.tallies.Tie as tie
 
-abbrev Inv-loop : tie.InvT-loop
-Inv-loop bytes size table₀ past₀ at₀ lines₀ table past at lines = Passed bytes past at lines table
+abbrev Inv-fields : tie.InvT-fields
+Inv-fields bytes size table past at lines number fields got₀ k₀ p₀ got k p = Fielded bytes at fields got k p
 
-abbrev μ-loop : tie.MeasureT-loop
-μ-loop bytes size table₀ past₀ at₀ lines₀ table past at lines = size - at
+abbrev μ-fields : tie.MeasureT-fields
+μ-fields bytes size table past at lines number fields got₀ k₀ p₀ got k p = fields - k
 
-abbrev S : tie.At-loop Inv-loop μ-loop → List ℕ
+abbrev Inv-lines : tie.InvT-lines
+Inv-lines bytes size table₀ past₀ at₀ lines₀ table past at lines = Passed bytes past at lines table
+
+abbrev μ-lines : tie.MeasureT-lines
+μ-lines bytes size table₀ past₀ at₀ lines₀ table past at lines = length bytes - at
+
+abbrev S : tie.At-lines Inv-fields μ-fields Inv-lines μ-lines → List ℕ
 S c = now (c .before .before .before .before .before .args .bytes)
 
-small : (c : tie.At-loop Inv-loop μ-loop) → length (S c) ≤ 65536
-small c = omega (arith, c .before .before .if1 .left)
+abbrev top : tie.After-fields-after Inv-fields μ-fields Inv-lines μ-lines → tie.At-lines Inv-fields μ-fields Inv-lines μ-lines
+top c = c .before .before .before
 
--- a line stands at `at`
-abbrev top : tie.After-known-told Inv-loop μ-loop → tie.At-loop Inv-loop μ-loop
-top c = c .before .before .before .before .before
+abbrev letter : tie.At-fields Inv-fields μ-fields Inv-lines μ-lines → tie.After-fields-after Inv-fields μ-fields Inv-lines μ-lines
+letter c = c .before .before
 
-abbrev line : tie.After-known-told Inv-loop μ-loop → Line
-line c = c .before .line .given .0 .0
+abbrev fields-of : tie.After-line-from Inv-fields μ-fields Inv-lines μ-lines → tie.At-fields Inv-fields μ-fields Inv-lines μ-lines
+fields-of c = c .before .before .before .before
 
-abbrev next : tie.After-known-told Inv-loop μ-loop → ℕ
-next c = c .before .line .given .0 .1 .0
+abbrev top-of : tie.After-line-from Inv-fields μ-fields Inv-lines μ-lines → tie.At-lines Inv-fields μ-fields Inv-lines μ-lines
+top-of c = top (letter (fields-of c))
 
-here : (c : tie.After-known-told Inv-loop μ-loop) → Stands (S (top c)) (top c .loop .at) (line c) (next c)
-here c = line-at-only (S (top c)) (top c .loop .at) (line c) (next c) (sym (ap saysAt (c .before .line .given .1)) ∙ c .before .before .before .line-at .ensures)
+small : (c : tie.At-lines Inv-fields μ-fields Inv-lines μ-lines) → length (S c) ≤ 65536
+small c = omega (arith, c .before .before .before .if1 .left)
+
+-- no line stands where one should
+broken : (c : tie.After-fields-after Inv-fields μ-fields Inv-lines μ-lines) → lineOf (drop (top c .lines .at) (S (top c))) ≡ bad → journalOf (S (top c)) ≡ refused R10 ((top c .lines .lines + 1) ∷ [])
+broken c e = malformed (top c .lines .inv) (omega (arith, c .before .before .if2 .left)) e
+
+-- every field is read, and the LF behind them
+abbrev next : tie.After-line-from Inv-fields μ-fields Inv-lines μ-lines → ℕ
+next c = fields-of c .fields .p + 1
+
+here : (c : tie.After-line-from Inv-fields μ-fields Inv-lines μ-lines) → Stands (S (top-of c)) (top-of c .lines .at) (c .line-from .result) (next c)
+here c =
+    subst (λ (l : Line). Stands (S (top-of c)) (top-of c .lines .at) l (next c)) (sym (c .line-from .ensures))
+    (fielded-line (fields-of c .fields .inv) (c .before .before .before .fields-test .left) (sym (c .before .before .byte-at .ensures) ∙ c .before .if4 .left))
 
 -- the tests of its order
-order-is : (c : tie.After-out-of-order Inv-loop μ-loop) → (b : Bool) → c .out-of-order .result ≡ b
-    → (top (c .before .before) .loop .past .begun && outOfOrder (top (c .before .before) .loop .past .last) (top (c .before .before) .loop .past .closed) (hourIn (line (c .before .before)))) ≡ b
+order-is : (c : tie.After-out-of-order Inv-fields μ-fields Inv-lines μ-lines) → (b : Bool) → c .out-of-order .result ≡ b
+    → (top-of (c .before .before) .lines .past .begun && outOfOrder (top-of (c .before .before) .lines .past .last) (top-of (c .before .before) .lines .past .closed) (hourIn (c .before .before .line-from .result))) ≡ b
 order-is c b e =
-    let p = top (c .before .before) .loop .past in
+    let p = top-of (c .before .before) .lines .past in
     ap (λ (h : ℕ). p .begun && outOfOrder (p .last) (p .closed) h) (sym (c .before .hour-in .ensures)) ∙ sym (c .out-of-order .ensures) ∙ e
 
-far-is : (c : tie.After-too-far Inv-loop μ-loop) → (b : Bool) → c .too-far .result ≡ b
-    → (top (c .before .before .before .before) .loop .past .begun && tooFar (top (c .before .before .before .before) .loop .past .first) (hourIn (line (c .before .before .before .before)))) ≡ b
+far-is : (c : tie.After-too-far Inv-fields μ-fields Inv-lines μ-lines) → (b : Bool) → c .too-far .result ≡ b
+    → (top-of (c .before .before .before .before) .lines .past .begun && tooFar (top-of (c .before .before .before .before) .lines .past .first) (hourIn (c .before .before .before .before .line-from .result))) ≡ b
 far-is c b e =
-    let p = top (c .before .before .before .before) .loop .past in
+    let p = top-of (c .before .before .before .before) .lines .past in
     ap (λ (h : ℕ). p .begun && tooFar (p .first) h) (sym (c .before .before .before .hour-in .ensures)) ∙ sym (c .too-far .ensures) ∙ e
 
 -- it is in order, and counted
-abbrev known : tie.After-past-after Inv-loop μ-loop → tie.After-known-told Inv-loop μ-loop
-known c = c .before .before .before .before .before .before
+abbrev line-of : tie.After-past-after Inv-fields μ-fields Inv-lines μ-lines → tie.After-line-from Inv-fields μ-fields Inv-lines μ-lines
+line-of c = c .before .before .before .before .before .before
 
-turned : (c : tie.After-past-after Inv-loop μ-loop) → Turn (S (top (known c))) (c .past-after .result) (top (known c) .loop .lines) (top (known c) .loop .table) (line (known c)) (c .before .before .before .before .before .hour-in .result) (next (known c))
+turned : (c : tie.After-past-after Inv-fields μ-fields Inv-lines μ-lines) → Turn (S (top-of (line-of c))) (c .past-after .result) (top-of (line-of c) .lines .lines) (top-of (line-of c) .lines .table) (line-of c .line-from .result) (c .before .before .before .before .before .hour-in .result) (next (line-of c))
 turned c =
-    turn (top (known c) .loop .inv) (line (known c)) (next (known c)) (here (known c)) _ _ (c .past-after .ensures) (c .before .before .before .before .before .hour-in .ensures) (small (top (known c)))
-    (order-is (c .before .before .before .before) false (c .before .before .before .if2 .left))
-    (far-is (c .before .before) false (c .before .if3 .left))
+    turn (top-of (line-of c) .lines .inv) (line-of c .line-from .result) (next (line-of c)) (here (line-of c)) _ _ (c .past-after .ensures) (c .before .before .before .before .before .hour-in .ensures) (small (top-of (line-of c)))
+    (order-is (c .before .before .before .before) false (c .before .before .before .if5 .left))
+    (far-is (c .before .before) false (c .before .if6 .left))
 
-no-tallies-requires : tie.Need-no-tallies-requires Inv-loop μ-loop
-no-tallies-requires c κs = search needs
-
-refused-requires : tie.Need-refused-requires Inv-loop μ-loop
+refused-requires : tie.Need-refused-requires Inv-fields μ-fields Inv-lines μ-lines
 refused-requires c κs = search needs
 
-returns : tie.Need-returns Inv-loop μ-loop
+returns : tie.Need-returns Inv-fields μ-fields Inv-lines μ-lines
 returns c =
-    let s = now (c .before .before .before .before .args .bytes) in
+    let s = now (c .before .before .before .args .bytes) in
     counts-refused s (c .refused .result) _ (c .refused .ensures) (journal-long s (omega (arith, c .before .if1 .taken)))
 
-no-past-requires : tie.Need-no-past-requires Inv-loop μ-loop
+no-tallies-requires : tie.Need-no-tallies-requires Inv-fields μ-fields Inv-lines μ-lines
+no-tallies-requires c κs = search needs
+
+no-past-requires : tie.Need-no-past-requires Inv-fields μ-fields Inv-lines μ-lines
 no-past-requires c κs = search needs
 
-loop-holds : tie.Need-loop-holds Inv-loop μ-loop
-loop-holds c =
+lines-holds : tie.Need-lines-holds Inv-fields μ-fields Inv-lines μ-lines
+lines-holds c =
     let s = now (c .before .before .before .before .args .bytes) in
-    passed-none s (c .no-past .result) (c .before .before .no-tallies .result) (omega (arith, c .before .if1 .left)) (c .no-past .ensures) (c .before .before .no-tallies .ensures)
+    passed-none s (c .no-past .result) (c .before .no-tallies .result) (omega (arith, c .before .before .if1 .left)) (c .no-past .ensures) (c .before .no-tallies .ensures)
 
-add-number : tie.Need-add-number Inv-loop μ-loop
-add-number c = omega (arith, c .before .loop .inv .few, small (c .before), c .loop-test .taken)
-
-line-at-requires : tie.Need-line-at-requires Inv-loop μ-loop
-line-at-requires c κs = search needs
-
-enum-known-line : tie.Need-enum-known-line Inv-loop μ-loop
-enum-known-line c = search needs
-
-enum-told : tie.Need-enum-told Inv-loop μ-loop
-enum-told c = search needs
-
-refused-requires-2 : tie.Need-refused-requires-2 Inv-loop μ-loop
-refused-requires-2 c κs = search needs
-
-returns-2 : tie.Need-returns-2 Inv-loop μ-loop
-returns-2 c =
-    let a = c .before .before .before .before .before in
-    counts-refused (S a) (c .refused2 .result) _ (c .refused2 .ensures)
-    (malformed (a .loop .inv) (omega (arith, c .before .before .before .before .loop-test .taken)) (sym (ap saysAt (c .before .enum-told .given .1)) ∙ c .before .before .before .line-at .ensures))
-
-hour-in-requires : tie.Need-hour-in-requires Inv-loop μ-loop
-hour-in-requires c κs = search needs
-
-out-of-order-requires : tie.Need-out-of-order-requires Inv-loop μ-loop
-out-of-order-requires c κs = search needs
-
-refused-requires-3 : tie.Need-refused-requires-3 Inv-loop μ-loop
-refused-requires-3 c κs = search needs
-
-returns-3 : tie.Need-returns-3 Inv-loop μ-loop
-returns-3 c =
-    let k = c .before .before .before .before in
-    counts-refused (S (top k)) (c .refused3 .result) _ (c .refused3 .ensures) (late (top k .loop .inv) (line k) (next k) (here k) (order-is (c .before .before) true (c .before .if2 .taken)))
-
-too-far-requires : tie.Need-too-far-requires Inv-loop μ-loop
-too-far-requires c κs = search needs
-
-refused-requires-4 : tie.Need-refused-requires-4 Inv-loop μ-loop
-refused-requires-4 c κs = search needs
-
-returns-4 : tie.Need-returns-4 Inv-loop μ-loop
-returns-4 c =
-    let k = c .before .before .before .before .before .before in
-    counts-refused (S (top k)) (c .refused4 .result) _ (c .refused4 .ensures)
-    (distant (top k .loop .inv) (line k) (next k) (here k) (order-is (c .before .before .before .before) false (c .before .before .before .if2 .left)) (far-is (c .before .before) true (c .before .if3 .taken)))
-
-past-after-requires : tie.Need-past-after-requires Inv-loop μ-loop
-past-after-requires c κs = search needs
-
-sub-k : tie.Need-sub-k Inv-loop μ-loop
-sub-k c = omega (arith, turned (c .before) .low)
-
-cast-k : tie.Need-cast-k Inv-loop μ-loop
-cast-k c = search needs
-
-mul-tally : tie.Need-mul-tally Inv-loop μ-loop
-mul-tally c = omega (arith, turned (c .before) .high)
-
-array-copy-out-tally : tie.Need-array-copy-out-tally Inv-loop μ-loop
-array-copy-out-tally c = omega (arith, turned (c .before) .high)
-
-with-line-requires : tie.Need-with-line-requires Inv-loop μ-loop
-with-line-requires c κs = turned (c .before .before) .few
-
-mul-table : tie.Need-mul-table Inv-loop μ-loop
-mul-table c = omega (arith, turned (c .before .before .before) .high)
-
-array-set-from-table : tie.Need-array-set-from-table Inv-loop μ-loop
-array-set-from-table c = omega (arith, turned (c .before .before .before) .high)
-
-loop-less : tie.Need-loop-less Inv-loop μ-loop
-loop-less c = omega (arith, here (known (c .before .before .before)) .onward, here (known (c .before .before .before)) .inside)
-
-loop-again : tie.Need-loop-again Inv-loop μ-loop
-loop-again c = rw (c .with-line .ensures) (turned (c .before .before .before) .again)
-
-accepted-requires : tie.Need-accepted-requires Inv-loop μ-loop
+accepted-requires : tie.Need-accepted-requires Inv-fields μ-fields Inv-lines μ-lines
 accepted-requires c κs = search needs
 
-returns-5 : tie.Need-returns-5 Inv-loop μ-loop
-returns-5 c = subst (Counts (S (c .before .before))) (sym (c .accepted .ensures)) (counts-all (c .before .before .loop .inv) (omega (arith, c .before .loop-test .left)))
+add-number : tie.Need-add-number Inv-fields μ-fields Inv-lines μ-lines
+add-number c = omega (arith, c .before .lines .inv .few, c .before .lines .inv .inside, small (c .before))
+
+shared-slice-read-fields-after : tie.Need-shared-slice-read-fields-after Inv-fields μ-fields Inv-lines μ-lines
+shared-slice-read-fields-after c = omega (arith, c .before .if2 .left)
+
+fields-after-requires : tie.Need-fields-after-requires Inv-fields μ-fields Inv-lines μ-lines
+fields-after-requires c κs = search needs
+
+refused-requires-2 : tie.Need-refused-requires-2 Inv-fields μ-fields Inv-lines μ-lines
+refused-requires-2 c κs = search needs
+
+add-p : tie.Need-add-p Inv-fields μ-fields Inv-lines μ-lines
+add-p c = omega (arith, c .before .before .before .if2 .left)
+
+fields-holds : tie.Need-fields-holds Inv-fields μ-fields Inv-lines μ-lines
+fields-holds c = fielded-none (S (top (c .before))) (top (c .before) .lines .at) _ _ (c .before .fields-after .ensures) (c .if3 .left) refl
+
+mul-field-at : tie.Need-mul-field-at Inv-fields μ-fields Inv-lines μ-lines
+mul-field-at c = let f = c .before .fields .inv in omega (arith, c .fields-test .taken, f .most)
+
+array-read-field-at : tie.Need-array-read-field-at Inv-fields μ-fields Inv-lines μ-lines
+array-read-field-at c = let f = c .before .fields .inv in omega (arith, c .fields-test .taken, f .most)
+
+field-at-requires : tie.Need-field-at-requires Inv-fields μ-fields Inv-lines μ-lines
+field-at-requires c κs = search needs
+
+enum-known-v : tie.Need-enum-known-v Inv-fields μ-fields Inv-lines μ-lines
+enum-known-v c = search needs
+
+enum-told : tie.Need-enum-told Inv-fields μ-fields Inv-lines μ-lines
+enum-told c = search needs
+
+refused-requires-3 : tie.Need-refused-requires-3 Inv-fields μ-fields Inv-lines μ-lines
+refused-requires-3 c κs = search needs
+
+mul-got : tie.Need-mul-got Inv-fields μ-fields Inv-lines μ-lines
+mul-got c = let f = c .before .before .before .before .before .fields .inv in omega (arith, c .before .before .before .before .fields-test .taken, f .most, f .size)
+
+array-write-got : tie.Need-array-write-got Inv-fields μ-fields Inv-lines μ-lines
+array-write-got c = let f = c .before .before .before .before .before .fields .inv in omega (arith, c .before .before .before .before .fields-test .taken, f .most, f .size)
+
+add-k : tie.Need-add-k Inv-fields μ-fields Inv-lines μ-lines
+add-k c = let f = c .before .before .before .before .before .fields .inv in omega (arith, c .before .before .before .before .fields-test .taken, f .most)
+
+fields-less : tie.Need-fields-less Inv-fields μ-fields Inv-lines μ-lines
+fields-less c = omega (arith, c .before .before .before .before .fields-test .taken)
+
+fields-again : tie.Need-fields-again Inv-fields μ-fields Inv-lines μ-lines
+unfolding mostOfD
+fields-again c = fielded-more (c .before .before .before .before .before .fields .inv) (c .before .before .before .before .fields-test .taken) (c .before .before .before .field-at .ensures) (c .before .v .given .1)
+
+byte-at-requires : tie.Need-byte-at-requires Inv-fields μ-fields Inv-lines μ-lines
+byte-at-requires c κs = search needs
+
+refused-requires-4 : tie.Need-refused-requires-4 Inv-fields μ-fields Inv-lines μ-lines
+refused-requires-4 c κs = search needs
+
+line-from-requires : tie.Need-line-from-requires Inv-fields μ-fields Inv-lines μ-lines
+line-from-requires c κs = search needs
+
+hour-in-requires : tie.Need-hour-in-requires Inv-fields μ-fields Inv-lines μ-lines
+hour-in-requires c κs = search needs
+
+out-of-order-requires : tie.Need-out-of-order-requires Inv-fields μ-fields Inv-lines μ-lines
+out-of-order-requires c κs = search needs
+
+refused-requires-5 : tie.Need-refused-requires-5 Inv-fields μ-fields Inv-lines μ-lines
+refused-requires-5 c κs = search needs
+
+too-far-requires : tie.Need-too-far-requires Inv-fields μ-fields Inv-lines μ-lines
+too-far-requires c κs = search needs
+
+refused-requires-6 : tie.Need-refused-requires-6 Inv-fields μ-fields Inv-lines μ-lines
+refused-requires-6 c κs = search needs
+
+past-after-requires : tie.Need-past-after-requires Inv-fields μ-fields Inv-lines μ-lines
+past-after-requires c κs = search needs
+
+sub-place : tie.Need-sub-place Inv-fields μ-fields Inv-lines μ-lines
+sub-place c = omega (arith, turned (c .before) .low)
+
+cast-place : tie.Need-cast-place Inv-fields μ-fields Inv-lines μ-lines
+cast-place c = search needs
+
+mul-tally : tie.Need-mul-tally Inv-fields μ-fields Inv-lines μ-lines
+mul-tally c = omega (arith, turned (c .before) .high)
+
+array-copy-out-tally : tie.Need-array-copy-out-tally Inv-fields μ-fields Inv-lines μ-lines
+array-copy-out-tally c = omega (arith, turned (c .before) .high)
+
+with-line-requires : tie.Need-with-line-requires Inv-fields μ-fields Inv-lines μ-lines
+with-line-requires c κs = turned (c .before .before) .few
+
+mul-table : tie.Need-mul-table Inv-fields μ-fields Inv-lines μ-lines
+mul-table c = omega (arith, turned (c .before .before .before) .high)
+
+array-set-from-table : tie.Need-array-set-from-table Inv-fields μ-fields Inv-lines μ-lines
+array-set-from-table c = omega (arith, turned (c .before .before .before) .high)
+
+add-at : tie.Need-add-at Inv-fields μ-fields Inv-lines μ-lines
+add-at c = omega (arith, here (line-of (c .before .before .before)) .inside)
+
+lines-less : tie.Need-lines-less Inv-fields μ-fields Inv-lines μ-lines
+lines-less c = omega (arith, here (line-of (c .before .before .before)) .onward, here (line-of (c .before .before .before)) .inside)
+
+lines-again : tie.Need-lines-again Inv-fields μ-fields Inv-lines μ-lines
+lines-again c = rw (c .with-line .ensures) (turned (c .before .before .before) .again)
+
+returns-2 : tie.Need-returns-2 Inv-fields μ-fields Inv-lines μ-lines
+returns-2 c = subst (Counts (S (c .before .before))) (sym (c .accepted .ensures)) (counts-all (c .before .before .lines .inv) (omega (arith, c .before .if2 .taken)))
+
+returns-3 : tie.Need-returns-3 Inv-fields μ-fields Inv-lines μ-lines
+returns-3 c =
+    let a = c .before .before in
+    counts-refused (S (top a)) (c .refused2 .result) _ (c .refused2 .ensures) (broken a (letter-none (S (top a)) (top a .lines .at) _ (a .fields-after .ensures) (c .before .if3 .taken)))
+
+returns-4 : tie.Need-returns-4 Inv-fields μ-fields Inv-lines μ-lines
+unfolding mostOfD
+returns-4 c =
+    let a = c .before .before .before .before .before in
+    counts-refused (S (top (letter a))) (c .refused3 .result) _ (c .refused3 .ensures)
+    (broken (letter a) (fielded-bad (a .fields .inv) (c .before .before .before .before .fields-test .taken) (c .before .before .before .field-at .ensures) (c .before .enum-told .given .1)))
+
+returns-5 : tie.Need-returns-5 Inv-fields μ-fields Inv-lines μ-lines
+returns-5 c =
+    let a = c .before .before .before .before in
+    counts-refused (S (top (letter a))) (c .refused4 .result) _ (c .refused4 .ensures)
+    (broken (letter a) (fielded-torn (a .fields .inv) (c .before .before .before .fields-test .left) (λ e. c .before .if4 .taken (c .before .before .byte-at .ensures ∙ e))))
+
+returns-6 : tie.Need-returns-6 Inv-fields μ-fields Inv-lines μ-lines
+returns-6 c =
+    let a = c .before .before .before .before in
+    counts-refused (S (top-of a)) (c .refused5 .result) _ (c .refused5 .ensures)
+    (late (top-of a .lines .inv) (a .line-from .result) (next a) (here a) (order-is (c .before .before) true (c .before .if5 .taken)))
+
+returns-7 : tie.Need-returns-7 Inv-fields μ-fields Inv-lines μ-lines
+returns-7 c =
+    let a = c .before .before .before .before .before .before in
+    counts-refused (S (top-of a)) (c .refused6 .result) _ (c .refused6 .ensures)
+    (distant (top-of a .lines .inv) (a .line-from .result) (next a) (here a) (order-is (c .before .before .before .before) false (c .before .before .before .if5 .left)) (far-is (c .before .before) true (c .before .if6 .taken)))
 
 pub tallies-spec : {M : Type 1} → statement M
 tallies-spec =
     tie.close
     (tie.spec
-    Inv-loop
-    μ-loop
-    no-tallies-requires
+    Inv-fields
+    μ-fields
+    Inv-lines
+    μ-lines
     refused-requires
     returns
+    no-tallies-requires
     no-past-requires
-    loop-holds
+    lines-holds
+    accepted-requires
     add-number
-    line-at-requires
-    enum-known-line
-    enum-told
+    shared-slice-read-fields-after
+    fields-after-requires
     refused-requires-2
-    returns-2
+    add-p
+    fields-holds
+    mul-field-at
+    array-read-field-at
+    field-at-requires
+    enum-known-v
+    enum-told
+    refused-requires-3
+    mul-got
+    array-write-got
+    add-k
+    fields-less
+    fields-again
+    byte-at-requires
+    refused-requires-4
+    line-from-requires
     hour-in-requires
     out-of-order-requires
-    refused-requires-3
-    returns-3
+    refused-requires-5
     too-far-requires
-    refused-requires-4
-    returns-4
+    refused-requires-6
     past-after-requires
-    sub-k
-    cast-k
+    sub-place
+    cast-place
     mul-tally
     array-copy-out-tally
     with-line-requires
     mul-table
     array-set-from-table
-    loop-less
-    loop-again
-    accepted-requires
-    returns-5)
+    add-at
+    lines-less
+    lines-again
+    returns-2
+    returns-3
+    returns-4
+    returns-5
+    returns-6
+    returns-7)

@@ -1,9 +1,23 @@
-use mathlib.Core.Path.{sym}
+use mathlib.Core.Path.{_≡_, sym, ap, _∙_}
+use mathlib.Core.List.{List}
+use Prim.Native.Nat.{ℕ, _≤_}
+use native.Mathlib.Omega.{arith}
 use borrow.Author.Needs.{needs}
+use lib.ListN.{length, length-append}
 use lib.Seq.{length-take-le}
-use Rattle.report.specs.Report.{put-inside}
+use Rattle.paper.specs.Answer.{done, told, bytesIn}
+use Rattle.report.specs.Contracts.{Holds}
+use Rattle.report.specs.declared.Printout.{Printout}
 use Rattle.hours.proofs.main.Statement.{statement}
 use Rattle.hours.proofs.main.Tie as tie
+
+-- the report stands inside its array
+inside : (text : List ℕ) (r : Printout) → Holds text r → r .len ≤ length (r .bytes)
+unfolding told bytesIn
+inside text r h =
+    let says : done (r .len) ≡ done (length text) = h .says in
+    let n : r .len ≡ length text = cc in
+    omega (arith, ap length (h .holds) ∙ length-append text _)
 
 slice-aggregate-read-full : tie.Need-slice-aggregate-read-full
 slice-aggregate-read-full c = search needs
@@ -11,23 +25,16 @@ slice-aggregate-read-full c = search needs
 read-full-requires : tie.Need-read-full-requires
 read-full-requires c κs = search needs
 
-array-share-prefix-bytes : tie.Need-array-share-prefix-bytes
-array-share-prefix-bytes c = search needs
-
-slice-aggregate-report : tie.Need-slice-aggregate-report
-slice-aggregate-report c = search needs
-
-slice-aggregate-report-2 : tie.Need-slice-aggregate-report-2
-slice-aggregate-report-2 c = search needs
-
 report-requires : tie.Need-report-requires
 report-requires c κs = search needs
 
 array-share-prefix-out : tie.Need-array-share-prefix-out
-array-share-prefix-out c = put-inside (c .before .report .ensures)
+array-share-prefix-out c = inside _ (c .before .report .result) (c .before .report .ensures .holds)
 
 slice-aggregate-write-all : tie.Need-slice-aggregate-write-all
-slice-aggregate-write-all c = sym (length-take-le (c .before .before .report .result) (c .before .before .report .last .1 .0) (put-inside (c .before .before .report .ensures)))
+slice-aggregate-write-all c =
+    let r = c .before .before .report in
+    sym (length-take-le (r .result .len) (r .result .bytes) (inside _ (r .result) (r .ensures .holds)))
 
 write-all-requires : tie.Need-write-all-requires
 write-all-requires c κs = search needs
@@ -41,9 +48,6 @@ main-spec =
     (tie.spec
     slice-aggregate-read-full
     read-full-requires
-    array-share-prefix-bytes
-    slice-aggregate-report
-    slice-aggregate-report-2
     report-requires
     array-share-prefix-out
     slice-aggregate-write-all

@@ -1,18 +1,38 @@
-use mathlib.Core.Path.{_≡_, sym, ap, _∙_}
-use mathlib.Core.List.{List}
-use Prim.Native.Nat.{ℕ}
-use Rattle.paper.specs.Answer.{done}
+use mathlib.Core.Path.{_≡_, refl, sym, ap, _∙_}
+use mathlib.Core.List.{List, [], _∷_}
+use Prim.Native.Nat.{ℕ, _≤_, _<_}
+use Rattle.laws.specs.Decimal.{good}
+use Rattle.paper.specs.Answer.{done, refused}
+use Rattle.paper.specs.Numbers.{R10}
 use native.Mathlib.Omega.{arith}
 use denote.Ref.{now}
 use lib.ListN.{length}
 use Rattle.journal.specs.declared.Line.{Line}
-use Rattle.journal.specs.Line.{lineAt, lineOf, oneLine, whole, placed}
+use Rattle.journal.specs.Line.{holds, lineAt, lineOf, oneLine, whole, placed}
 use Rattle.journal.specs.Says.{saysAt}
-use Rattle.journal.specs.LineLaws.{placed-bad}
-use Rattle.journal.proofs.Fields.{read-more, read-all}
+use Rattle.journal.specs.LineLaws.{line-shorter, placed-none, placed-good}
 use borrow.Author.Needs.{needs}
 use Rattle.journal.proofs.read_line.Statement.{statement}
 use Rattle.journal.proofs.read_line.Tie as tie
+
+-- a line by itself has nothing behind it
+read-more : (s : List ℕ) (k : ℕ) (l : Line) → holds l k ≡ placed (length s) (lineOf s) → k < length s → whole (lineOf s) ≡ refused R10 (1 ∷ [])
+unfolding whole
+read-more s k l e h = let x = placed-good (length s) k l (lineOf s) e in ap whole (x .1) ∙ go (x .0) (omega (arith, x .2))
+  where
+    go : (rest : List ℕ) → 0 < length rest → whole (good l rest) ≡ refused R10 (1 ∷ [])
+    go [] h = absurd (omega arith)
+    go (b ∷ bs) h = refl
+
+read-all : (s : List ℕ) (k : ℕ) (l : Line) → holds l k ≡ placed (length s) (lineOf s) → length s ≤ k → whole (lineOf s) ≡ done l
+unfolding whole
+read-all s k l e h =
+    let x = placed-good (length s) k l (lineOf s) e in
+    ap whole (x .1) ∙ go (x .0) (omega (arith, x .2, line-shorter s l (x .0) (x .1)))
+  where
+    go : (rest : List ℕ) → length rest ≡ 0 → whole (good l rest) ≡ done l
+    go [] h = refl
+    go (b ∷ bs) h = absurd (omega arith)
 
 abbrev S : tie.After-known-told → List ℕ
 S c = now (c .before .before .before .before .before .args .bytes)
@@ -24,7 +44,7 @@ abbrev next : tie.After-known-told → ℕ
 next c = c .before .line .given .0 .1 .0
 
 -- what the reader at a place answered
-at-line : (c : tie.After-known-told) → done (record { line = line c; next = next c }) ≡ placed (length (S c)) (lineOf (S c))
+at-line : (c : tie.After-known-told) → holds (line c) (next c) ≡ placed (length (S c)) (lineOf (S c))
 unfolding lineAt
 at-line c = ap saysAt (sym (c .before .line .given .1)) ∙ c .before .before .before .line-at .ensures
 
@@ -41,7 +61,7 @@ returns : tie.Need-returns
 unfolding oneLine whole lineAt
 returns c =
     let s = now (c .before .before .before .before .args .bytes) in
-    sym (ap whole (placed-bad (length s) (lineOf s) (ap saysAt (sym (c .enum-told .given .1)) ∙ c .before .before .line-at .ensures)))
+    sym (ap whole (placed-none (length s) (lineOf s) (sym (c .before .before .line-at .ensures) ∙ ap saysAt (c .enum-told .given .1))))
 
 returns-2 : tie.Need-returns-2
 unfolding oneLine
