@@ -1,9 +1,10 @@
 -- What each public call hands back is what its event makes of the controller: so a series of events is a series of calls. Assumes nothing.
-use mathlib.Core.Path.{_≡_, refl, sym, ap, _∙_}
-use mathlib.Core.Bool.{Bool}
+use mathlib.Core.Path.{_≡_, refl, sym, _∙_}
+use mathlib.Core.Bool.{Bool, true}
 use mathlib.Core.List.{List, []}
 use Prim.Native.Nat.{ℕ}
 use lib.IntN.{ℤ}
+use borrow.Author.Tests.{eq-eqb}
 use Rattle.paper.specs.Answer.{Answer, done, refused, fault, told}
 use Rattle.settings.specs.declared.Settings.{Settings}
 use Rattle.controller.specs.declared.Controller.{Controller}
@@ -17,8 +18,7 @@ use Rattle.controller.specs.Calls.{restartOf, controllerIn, freshOf, linkOf, re
 use Rattle.controller.specs.Says.{saysRestart, Ticks, Sets, Resets, Restarts, Replies}
 use Rattle.controller.specs.Made.{Made}
 use Rattle.paper.specs.AnswerLaws.{refused-done, fault-done}
-use Rattle.series.specs.Events.{tick, link, request, settings, reset, restart, eventOf, run}
-use Rattle.series.specs.Carried.{Carried}
+use Rattle.series.specs.Events.{tick, link, request, settings, reset, restart, eventOf, run, givenBy, countingAt, handedBack}
 
 pub fresh-is : (r : Controller) → Made freshOf r → r ≡ run freshOf []
 unfolding run
@@ -67,7 +67,13 @@ pub restart-stays : (c : Controller) (set : Settings) (count total : ℕ) (r : R
 unfolding eventOf
 restart-stays c set count total r n vs h e = stays-in _ c (restartOf set count total) n vs (sym (h .says) ∙ e)
 
--- a restart with the numbers that the counters' call answers just before it is one that a series may have
-pub restart-carries : (c : Controller) (set : Settings) (n : Counters) → n ≡ c .counters → Carried c (restart set (n .count) (n .total))
-unfolding Carried
-restart-carries c set n e d h = (ap (λ (m : Counters). m .count) e, ap (λ (m : Counters). m .total) e)
+-- a restart with the numbers that the counters' call answers just before it hands them back
+handed : (n : Counters) (a : Answer Controller) → handedBack (givenBy a (n .count) (n .total)) n ≡ true
+unfolding handedBack givenBy
+handed n (done d) = rw (eq-eqb (n .count) (n .count) refl, eq-eqb (n .total) (n .total) refl)
+handed n (refused m vs) = refl
+handed n (fault m vs) = refl
+
+pub restart-hands-back : (c : Controller) (set : Settings) (n : Counters) → n ≡ c .counters → handedBack (countingAt c (restart set (n .count) (n .total))) (c .counters) ≡ true
+unfolding countingAt
+restart-hands-back c set n e = rw (sym e) (handed n (restartOf set (n .count) (n .total)))

@@ -1,7 +1,8 @@
 -- A series of calls, what it makes of a controller, and what is seen of it from outside. Assumes nothing.
-use mathlib.Core.Bool.{Bool}
+use mathlib.Core.Bool.{Bool, true, _&&_}
 use mathlib.Core.List.{List, [], _∷_, _++_}
 use Prim.Native.Nat.{ℕ}
+use lib.Dec.{eqb}
 use lib.IntN.{ℤ, pos}
 use lib.ListN.{length}
 use Rattle.laws.specs.Pick.{pick}
@@ -10,6 +11,7 @@ use Rattle.settings.specs.declared.Settings.{Settings}
 use Rattle.controller.specs.declared.Controller.{Controller}
 use Rattle.controller.specs.declared.Counters.{Counters}
 use Rattle.controller.specs.declared.Record.{Record}
+use Rattle.controller.specs.State.{counters}
 use Rattle.controller.specs.Tick.{Told, tickOf}
 use Rattle.controller.specs.Calls.{restartOf, settingsOf, resetOf, linkOf, isReady, restartedFrom}
 use Rattle.controller.specs.Line.{requestOf}
@@ -41,39 +43,96 @@ run c (e ∷ es) = run (eventOf c e) es
 
 -- ---- what is seen from outside
 
--- w as it was noted; the count and total that the last accepted restart was given, 0 and 0 after an accepted reset; and the amounts of the doses completed since, in order
+-- what a call shows: w as noted after it, and the amounts of the doses that it completes
+pub record Sight : Type 0 where
+  pub notes : Noted
+  pub doses : List ℕ
+
+-- nothing is noted, and no dose completes
+abbrev pub unmoved : Noted → Sight
+unmoved m = record { notes = m; doses = [] }
+
+-- only a tick is noted and completes doses
+unfoldable pub sightOf : Controller → Event → Noted → Sight
+sightOf c (tick x i) m =
+    let c' = tickOf c x i .next in
+    record { notes = noted c c' (wAt c x c') m; doses = dosesSeen c x c' m }
+sightOf c (link on) m = unmoved m
+sightOf c (request s reply) m = unmoved m
+sightOf c (settings set) m = unmoved m
+sightOf c reset m = unmoved m
+sightOf c (restart set count total) m = unmoved m
+
+-- from which numbers the doses are counted after a call: from the same, from 0 and 0, or from those that it was given
+pub data Counting : Type 0 where
+  goesOn : Counting
+  cleared : Counting
+  given : ℕ → ℕ → Counting
+
+-- a refused restart brings no numbers
+unfoldable pub givenBy : Answer Controller → ℕ → ℕ → Counting
+givenBy (done c) count total = given count total
+givenBy (refused n vs) count total = goesOn
+givenBy (fault n vs) count total = goesOn
+
+-- an accepted reset puts both to 0, and a restart takes the stored count and total
+unfoldable pub countingAt : Controller → Event → Counting
+countingAt c (tick x i) = goesOn
+countingAt c (link on) = goesOn
+countingAt c (request s reply) = goesOn
+countingAt c (settings set) = goesOn
+countingAt c reset = pick (isReady c) cleared goesOn
+countingAt c (restart set count total) = givenBy (restartOf set count total) count total
+
+-- w as it was noted; the count and total that the last accepted restart was given, 0 and 0 before one and after an accepted reset;
+-- the amounts of the doses completed since the last accepted reset, in order: those before that restart, and those after it
 pub record Outside : Type 0 where
   pub notes : Noted
   pub stored : Counters
+  pub earlier : List ℕ
   pub doses : List ℕ
 
+-- all of them
+abbrev pub sinceReset : Outside → List ℕ
+sinceReset o = o .earlier ++ o .doses
+
+-- before any call
+abbrev pub noNotes : Noted
+noNotes = record { began = pos 0; opened = pos 0 }
+
 unfoldable pub nothingSeen : Outside
-nothingSeen = record { notes = record { began = pos 0; opened = pos 0 }; stored = record { count = 0; total = 0 }; doses = [] }
+nothingSeen = record { notes = noNotes; stored = counters 0 0; earlier = []; doses = [] }
 
--- counted anew from these two numbers
-unfoldable pub anew : ℕ → ℕ → Outside → Outside
-anew count total o = record { notes = o .notes; stored = record { count = count; total = total }; doses = [] }
+-- a reset forgets every dose, a restart none
+unfoldable pub countedFrom : Counting → Outside → Outside
+countedFrom goesOn o = o
+countedFrom cleared o = record { notes = o .notes; stored = counters 0 0; earlier = []; doses = [] }
+countedFrom (given count total) o = record { notes = o .notes; stored = counters count total; earlier = sinceReset o; doses = [] }
 
--- a refused restart brings no numbers
-unfoldable pub anewIf : Answer Controller → ℕ → ℕ → Outside → Outside
-anewIf (done c) count total o = anew count total o
-anewIf (refused n vs) count total o = o
-anewIf (fault n vs) count total o = o
+-- what a call shows, put to what was seen: its doses come last
+unfoldable pub withSight : Sight → Outside → Outside
+withSight s o = record { notes = s .notes; stored = o .stored; earlier = o .earlier; doses = o .doses ++ s .doses }
 
--- only a tick completes doses
+-- what is seen after an event, and after a series
 unfoldable pub seenAfter : Controller → Event → Outside → Outside
-seenAfter c (tick x i) o =
-    let c' = tickOf c x i .next in
-    record { notes = noted c c' (wAt c x c') (o .notes); stored = o .stored; doses = o .doses ++ dosesSeen c x c' (o .notes) }
-seenAfter c (link on) o = o
-seenAfter c (request s reply) o = o
-seenAfter c (settings set) o = o
-seenAfter c reset o = pick (isReady c) (anew 0 0 o) o
-seenAfter c (restart set count total) o = anewIf (restartOf set count total) count total o
+seenAfter c e o = withSight (sightOf c e (o .notes)) (countedFrom (countingAt c e) o)
 
 unfoldable pub seen : Controller → Outside → List Event → Outside
 seen c o [] = o
 seen c o (e ∷ es) = seen (eventOf c e) (seenAfter c e o) es
+
+-- ---- restarts that hand back the counters as they were
+
+-- the numbers given are those that the counters' call answers just before
+unfoldable pub handedBack : Counting → Counters → Bool
+handedBack goesOn n = true
+handedBack cleared n = true
+handedBack (given count total) n = eqb count (n .count) && eqb total (n .total)
+
+-- every accepted restart of a series hands back the counters as they were
+unfoldable pub handsBack : Controller → List Event → Bool
+handsBack c [] = true
+handsBack c (e ∷ es) = handedBack (countingAt c e) (c .counters) && handsBack (eventOf c e) es
 
 -- ---- the dose records that the ticks of a series answer, in order
 

@@ -1,188 +1,160 @@
--- What every event keeps, and so any series of them. Assumes nothing.
-use mathlib.Core.Path.{_≡_, refl, sym, ap, _∙_}
+-- What every event keeps: one record, and one law for each kind of event. Assumes nothing.
+use mathlib.Core.Path.{_≡_, refl, sym, ap, subst}
 use mathlib.Core.Bool.{Bool, true, false}
-use mathlib.Core.List.{List, [], _∷_, _++_, append-assoc, append-nil}
-use Prim.Native.Nat.{ℕ, _+_, _%_, _≤_}
+use mathlib.Core.List.{List, [], _∷_}
+use Prim.Native.Nat.{ℕ, _≤_}
 use native.Mathlib.Omega.{arith}
-use lib.IntN.{ℤ}
-use lib.ListN.{length, length-append}
-use Rattle.laws.specs.Pick.{pick, pick-all}
+use lib.IntN.{pos}
+use lib.ListN.{length}
+use Rattle.laws.specs.Pick.{pick}
 use Rattle.paper.specs.Answer.{Answer, done, refused, fault}
+use Rattle.paper.specs.AnswerLaws.{on-done, failed}
 use Rattle.paper.specs.Numbers.{R15}
 use Rattle.settings.specs.declared.Settings.{Settings}
 use Rattle.settings.specs.Table.{firstBad}
-use Rattle.hourly.specs.Hours.{total}
+use Rattle.dosing.specs.declared.Phase.{Phase}
+use Rattle.dosing.specs.declared.Phase.the-variants.{Ready, Coarse, Fine, Hold, Settle, Discharge, Load, Calm, DoseCoarse, DoseFine, DoseSettle}
 use Rattle.controller.specs.declared.Controller.{Controller}
 use Rattle.controller.specs.declared.Counters.{Counters}
-use Rattle.controller.specs.State.{restarted}
-use Rattle.controller.specs.Tick.{Result, countedOf, tickOf}
-use Rattle.controller.specs.Calls.{storedBad, restartOf, freshOf, isReady, taken, after, settingsAnswer, settingsOf, resetAnswer, resetOf, linkOf, restartedFrom}
-use Rattle.controller.specs.Line.{Asked, Replied, zeroedBy, replied, repliesTo, askedOf, requestOf}
+use Rattle.controller.specs.declared.Record.{Record}
+use Rattle.controller.specs.State.{counters, restarted}
+use Rattle.controller.specs.Tick.{Told, tickOf}
+use Rattle.controller.specs.Calls.{storedBad, restartOf, isReady, taken, after, settingsAnswer, settingsOf, resetAnswer, resetOf, linkOf, restartedFrom}
 use Rattle.controller.specs.Sound.{Sound}
-use Rattle.paper.specs.AnswerLaws.{on-done, failed}
-use Rattle.controller.specs.Keeps.{tick-sound, link-sound, request-sound, settings-sound, reset-sound, restart-sound, fresh-sound}
-use Rattle.controller.specs.Outside.{Agrees, dosesSeen}
-use Rattle.controller.specs.OutsideLaws.{countedIn, tick-agrees, tick-counters}
-use Rattle.series.specs.Events.{Event, tick, link, request, settings, reset, restart, eventOf, run, Outside, nothingSeen, anew, anewIf, seenAfter, seen}
+use Rattle.controller.specs.Keeps.{tick-sound, link-sound, request-sound, settings-sound, reset-sound, restart-sound}
+use Rattle.controller.specs.Promises.{AllRecordable, tick-recordable, request-zero, settings-counters, restart-counters}
+use Rattle.controller.specs.Outside.{Noted, Agrees}
+use Rattle.controller.specs.OutsideLaws.{countedIn, Tells, Answers, tick-agrees, tick-counters, tick-records}
+use Rattle.series.specs.Events.{Event, tick, link, request, settings, reset, restart, eventOf, run, noNotes, Sight, unmoved, sightOf, Counting, goesOn, cleared, given, givenBy, countingAt, recordsIn, recordsAt}
 
--- every event keeps a controller sound
-pub event-sound : (c : Controller) (e : Event) → Sound c → Sound (eventOf c e)
-unfolding eventOf restartedFrom
-event-sound c (tick x i) s = tick-sound c x i s
-event-sound c (link on) s = link-sound c on s
-event-sound c (request b reply) s = request-sound c b (length reply) s
-event-sound c (settings set) s = settings-sound c set s
-event-sound c reset s = reset-sound c s
-event-sound c (restart set count total) s = go (restartOf set count total) refl
-  where
-    go : (a : Answer Controller) → restartOf set count total ≡ a → Sound (restartedFrom c a)
-    go (done d) e = restart-sound set count total d e
-    go (refused n vs) e = s
-    go (fault n vs) e = s
+-- the numbers from which the doses are counted after a call
+unfoldable pub countersFrom : Counting → Counters → Counters
+countersFrom goesOn n = n
+countersFrom cleared n = counters 0 0
+countersFrom (given count total) n = counters count total
 
--- the controller is sound, what its phase keeps is what was noted, and its count and total are the numbers stored and the doses seen since
-pub record Kept (c : Controller) (o : Outside) : Type 0 where
-  pub sound : Sound c
-  pub agrees : Agrees (c .phase) (o .notes)
-  pub count : c .counters .count ≡ (o .stored .count + length (o .doses)) % 1000000
-  pub total : c .counters .total ≡ (o .stored .total + total (o .doses)) % 1000000000
+abbrev pub InRange : Counters → Type 0
+InRange n = (n .count ≤ 999999) × (n .total ≤ 999999999)
+
+-- a call from c to d, with what it shows, from which numbers doses are counted after it, and the dose records that it answers:
+-- d is sound, what its phase keeps is what was noted, the numbers are in range, the doses seen are those counted and told of, and each record can stand in a D line
+pub record Kept (c d : Controller) (s : Sight) (k : Counting) (rs : List Record) : Type 0 where
+  pub sound : Sound d
+  pub agrees : Agrees (d .phase) (s .notes)
+  pub range : InRange (countersFrom k (c .counters))
+  pub counters : d .counters ≡ countedIn (countersFrom k (c .counters)) (s .doses)
+  pub told : Tells (countersFrom k (c .counters)) (s .doses) rs
+  pub recordable : AllRecordable rs
+
+-- a call that changes neither phase nor counters
+still-kept : (c d : Controller) (m : Noted) → Agrees (c .phase) m → Sound d → d .phase ≡ c .phase → d .counters ≡ c .counters → Kept c d (unmoved m) goesOn []
+unfolding countersFrom countedIn Tells
+still-kept c d m a s p n =
+    record { sound = s; agrees = rw p a; range = subst InRange n (s .count, s .total); counters = n; told = tt; recordable = tt }
 
 -- ---- a tick
 
-pub total-append : (as' bs : List ℕ) → total (as' ++ bs) ≡ total as' + total bs
-unfolding total
-total-append [] bs = omega arith
-total-append (a ∷ as') bs = omega (arith, total-append as' bs)
+told-of : (n : Counters) (amounts : List ℕ) (a : Answer Told) → Answers n amounts a → Tells n amounts (recordsIn a)
+unfolding Answers Tells recordsIn
+told-of n amounts (done t) h = h
+told-of n amounts (refused r vs) h = rw h tt
+told-of n amounts (fault r vs) h = rw h tt
 
--- count and total are the numbers stored and these doses
-abbrev pub Counts : Counters → Counters → List ℕ → Type 0
-Counts n stored doses = (n .count ≡ (stored .count + length doses) % 1000000) × (n .total ≡ (stored .total + total doses) % 1000000000)
+told-recordable : (a : Answer Told) → ((t : Told) → a ≡ done t → AllRecordable (t .doses)) → AllRecordable (recordsIn a)
+unfolding recordsIn
+told-recordable (done t) h = h t refl
+told-recordable (refused n vs) h = tt
+told-recordable (fault n vs) h = tt
 
-pub one-more : (n stored : Counters) (doses : List ℕ) (amount : ℕ) → Counts n stored doses → Counts (countedOf n amount) stored (doses ++ amount ∷ [])
-unfolding countedOf total
-one-more n stored doses amount h =
-    (omega (arith, length-append doses (amount ∷ [])), omega (arith, total-append doses (amount ∷ [])))
+-- ---- settings
 
--- doses counted in are doses put at the end
-pub counted-more : (n stored : Counters) (doses more : List ℕ) → Counts n stored doses → Counts (countedIn n more) stored (doses ++ more)
-unfolding countedIn
-counted-more n stored doses [] h = rw append-nil h
-counted-more n stored doses (amount ∷ more) h =
-    rw append-assoc at (counted-more (countedOf n amount) stored (doses ++ amount ∷ []) more (one-more n stored doses amount h))
-
-pub kept-tick : (c : Controller) (o : Outside) (x : ℤ) (i : ℕ) → Kept c o → Kept (eventOf c (tick x i)) (seenAfter c (tick x i) o)
-unfolding eventOf seenAfter
-kept-tick c o x i k =
-    let e = tick-counters c x i (o .notes) (k .sound) (k .agrees) in
-    let n = counted-more (c .counters) (o .stored) (o .doses) (dosesSeen c x (tickOf c x i .next) (o .notes)) (k .count, k .total) in
-    record {
-      sound = tick-sound c x i (k .sound);
-      agrees = tick-agrees c x i (o .notes) (k .sound) (k .agrees);
-      count = ap (λ (m : Counters). m .count) e ∙ n .0;
-      total = ap (λ (m : Counters). m .total) e ∙ n .1;
-    }
-
--- ---- the calls that change neither phase nor counters
-
-same-kept : (c d : Controller) (o : Outside) → Kept c o → Sound d → d .phase ≡ c .phase → d .counters ≡ c .counters → Kept d o
-same-kept c d o k s p n = record { sound = s; agrees = rw p (k .agrees); count = rw n (k .count); total = rw n (k .total) }
-
-pub kept-link : (c : Controller) (o : Outside) (on : Bool) → Kept c o → Kept (eventOf c (link on)) (seenAfter c (link on) o)
-unfolding eventOf seenAfter linkOf
-kept-link c o on k = same-kept c _ o k (link-sound c on (k .sound)) refl refl
-
-record Apart (c d : Controller) : Type 0 where
-  phase : d .phase ≡ c .phase
-  counters : d .counters ≡ c .counters
-
-abbrev still-apart : (c : Controller) → Apart c c
-still-apart c = record { phase = refl; counters = refl }
-
-replies-apart : (c : Controller) (room : ℕ) (a : Answer Asked) → Apart c (repliesTo c room a .next)
-unfolding repliesTo replied zeroedBy
-replies-apart c room (done a) =
-    pick-all (λ (r : Result Replied). Apart c (r .next)) _
-    (pick-all (Apart c) _ (record { phase = refl; counters = refl }) (still-apart c))
-    (still-apart c)
-replies-apart c room (refused n vs) = still-apart c
-replies-apart c room (fault n vs) = still-apart c
-
-pub kept-request : (c : Controller) (o : Outside) (s reply : List ℕ) → Kept c o → Kept (eventOf c (request s reply)) (seenAfter c (request s reply) o)
-unfolding eventOf seenAfter requestOf
-kept-request c o s reply k =
-    let h = replies-apart c (length reply) (askedOf c s) in
-    same-kept c _ o k (request-sound c s (length reply) (k .sound)) (h .phase) (h .counters)
-
-settings-apart : (c : Controller) (set : Settings) (a : Answer (Unit {0})) → Apart c (after a (taken set c) c)
+settings-phase : (c : Controller) (set : Settings) (a : Answer (Unit {0})) → after a (taken set c) c .phase ≡ c .phase
 unfolding after taken
-settings-apart c set (done u) = record { phase = refl; counters = refl }
-settings-apart c set (refused n vs) = still-apart c
-settings-apart c set (fault n vs) = still-apart c
-
-pub kept-settings : (c : Controller) (o : Outside) (set : Settings) → Kept c o → Kept (eventOf c (settings set)) (seenAfter c (settings set) o)
-unfolding eventOf seenAfter settingsOf
-kept-settings c o set k =
-    let h = settings-apart c set (settingsAnswer c set) in
-    same-kept c _ o k (settings-sound c set (k .sound)) (h .phase) (h .counters)
+settings-phase c set (done u) = refl
+settings-phase c set (refused n vs) = refl
+settings-phase c set (fault n vs) = refl
 
 -- ---- a counter reset
 
 -- in Ready the counters and the doses are forgotten together, else neither
-reset-kept : (c : Controller) (o : Outside) (ready : Bool) → isReady c ≡ ready → Kept c o → Kept (eventOf c reset) (seenAfter c reset o)
-unfolding eventOf seenAfter resetOf resetAnswer after pick total anew
-reset-kept c o true e k = record { sound = reset-sound c (k .sound); agrees = rw e (k .agrees); count = rw e refl; total = rw e refl }
-reset-kept c o false e k =
-    record { sound = reset-sound c (k .sound); agrees = rw e (k .agrees); count = rw e (k .count); total = rw e (k .total) }
-
-pub kept-reset : (c : Controller) (o : Outside) → Kept c o → Kept (eventOf c reset) (seenAfter c reset o)
-kept-reset c o k = reset-kept c o (isReady c) refl k
+reset-kept : (c : Controller) (m : Noted) (ready : Bool) → isReady c ≡ ready → Sound c → Agrees (c .phase) m → Kept c (eventOf c reset) (unmoved m) (countingAt c reset) []
+unfolding eventOf countingAt resetOf resetAnswer after pick countersFrom countedIn Tells
+reset-kept c m true e s a =
+    record { sound = reset-sound c s; agrees = rw e a; range = rw e (omega arith, omega arith); counters = rw e refl; told = tt; recordable = tt }
+reset-kept c m false e s a = rw e (still-kept c c m a s refl refl)
 
 -- ---- a restart
 
-restart-is : (set : Settings) (count total : ℕ) (c : Controller) → restartOf set count total ≡ done c → c ≡ restarted set count total
-unfolding restartOf
-restart-is set count total c e =
-    on-done (firstBad set) _ c e (λ u good h. sym (failed (storedBad count total) (restarted set count total) R15 [] c h .1))
+restart-phase : (set : Settings) (count total : ℕ) (d : Controller) → restartOf set count total ≡ done d → d .phase ≡ Ready
+unfolding restartOf restarted
+restart-phase set count total d e =
+    on-done (firstBad set) _ d e (λ u good h. ap (λ (x : Controller). x .phase) (sym (failed (storedBad count total) _ R15 [] d h .1)))
 
--- counted from the numbers given
-stored-counts : (n : Counters) → n .count ≤ 999999 → n .total ≤ 999999999 → Counts n n []
-unfolding total
-stored-counts n h k = (omega arith, omega arith)
-
-restart-kept : (c : Controller) (o : Outside) (set : Settings) (count total : ℕ) (a : Answer Controller) → restartOf set count total ≡ a → Kept c o → Kept (restartedFrom c a) (anewIf a count total o)
-unfolding restartedFrom restarted Agrees anewIf anew
-restart-kept c o set count total (done d) e k =
-    let is = restart-is set count total d e in
-    let s = restart-sound set count total d e in
-    let n = stored-counts (d .counters) (s .count) (s .total) in
+restart-kept : (c : Controller) (m : Noted) (set : Settings) (count total : ℕ) (a : Answer Controller) → restartOf set count total ≡ a → Sound c → Agrees (c .phase) m → Kept c (restartedFrom c a) (unmoved m) (givenBy a count total) []
+unfolding restartedFrom givenBy countersFrom countedIn Tells Agrees
+restart-kept c m set count total (done d) e s a =
+    let sound = restart-sound set count total d e in
+    let same = restart-counters set count total d e in
     record {
-      sound = s;
-      agrees = rw is tt;
-      count = ap (λ (x : Controller). x .counters .count) is ∙ (rw is at (n .0));
-      total = ap (λ (x : Controller). x .counters .total) is ∙ (rw is at (n .1));
+      sound = sound;
+      agrees = rw (restart-phase set count total d e) tt;
+      range = subst InRange same (sound .count, sound .total);
+      counters = same;
+      told = tt;
+      recordable = tt;
     }
-restart-kept c o set count total (refused n vs) e k = k
-restart-kept c o set count total (fault n vs) e k = k
+restart-kept c m set count total (refused n vs) e s a = still-kept c c m a s refl refl
+restart-kept c m set count total (fault n vs) e s a = still-kept c c m a s refl refl
 
-pub kept-restart : (c : Controller) (o : Outside) (set : Settings) (count total : ℕ) → Kept c o → Kept (eventOf c (restart set count total)) (seenAfter c (restart set count total) o)
-unfolding eventOf seenAfter
-kept-restart c o set count total k = restart-kept c o set count total (restartOf set count total) refl k
+-- ---- any event
 
--- ---- any series
+module _ (c : Controller) (m : Noted) (s : Sound c) (a : Agrees (c .phase) m) where
+  pub event-kept : (e : Event) → Kept c (eventOf c e) (sightOf c e m) (countingAt c e) (recordsAt c e)
+  unfolding eventOf sightOf countingAt recordsAt linkOf settingsOf countersFrom
+  event-kept (tick x i) =
+      record {
+        sound = tick-sound c x i s;
+        agrees = tick-agrees c x i m s a;
+        range = (s .count, s .total);
+        counters = tick-counters c x i m s a;
+        told = told-of (c .counters) _ (tickOf c x i .answer) (tick-records c x i m s a);
+        recordable = told-recordable (tickOf c x i .answer) (λ t e. tick-recordable c x i t s e);
+      }
+  event-kept (link on) = still-kept c _ m a (link-sound c on s) refl refl
+  event-kept (request b reply) =
+      let z = request-zero c b (length reply) .1 in
+      still-kept c _ m a (request-sound c b (length reply) s) (ap (λ (d : Controller). d .phase) z) (ap (λ (d : Controller). d .counters) z)
+  event-kept (settings set) =
+      still-kept c _ m a (settings-sound c set s) (settings-phase c set (settingsAnswer c set)) (settings-counters c set)
+  event-kept reset = reset-kept c m (isReady c) refl s a
+  event-kept (restart set count total) = restart-kept c m set count total (restartOf set count total) refl s a
 
-pub kept-event : (c : Controller) (o : Outside) (e : Event) → Kept c o → Kept (eventOf c e) (seenAfter c e o)
-kept-event c o (tick x i) k = kept-tick c o x i k
-kept-event c o (link on) k = kept-link c o on k
-kept-event c o (request s reply) k = kept-request c o s reply k
-kept-event c o (settings set) k = kept-settings c o set k
-kept-event c o reset k = kept-reset c o k
-kept-event c o (restart set count total) k = kept-restart c o set count total k
+-- ---- from any sound controller
 
-pub kept-run : (es : List Event) (c : Controller) (o : Outside) → Kept c o → Kept (run c es) (seen c o es)
-unfolding run seen
-kept-run [] c o k = k
-kept-run (e ∷ es) c o k = kept-run es (eventOf c e) (seenAfter c e o) (kept-event c o e k)
+-- what a phase keeps may have been noted
+notes-of : (p : Phase) → (m : Noted) × Agrees p m
+unfolding Agrees
+notes-of Ready = (noNotes, tt)
+notes-of (Coarse w0) = (record { began = w0 .v; opened = pos 0 }, refl)
+notes-of (Fine w0) = (record { began = w0 .v; opened = pos 0 }, refl)
+notes-of Hold = (noNotes, tt)
+notes-of (Settle w0 n) = (record { began = w0 .v; opened = pos 0 }, refl)
+notes-of (Discharge w0 wS settled) = (record { began = w0 .v; opened = wS .v }, (refl, refl))
+notes-of Load = (noNotes, tt)
+notes-of (Calm n) = (noNotes, tt)
+notes-of (DoseCoarse wH) = (record { began = wH .v; opened = pos 0 }, refl)
+notes-of (DoseFine wH) = (record { began = wH .v; opened = pos 0 }, refl)
+notes-of (DoseSettle wH n) = (record { began = wH .v; opened = pos 0 }, refl)
 
-pub kept-fresh : Kept freshOf nothingSeen
-unfolding freshOf restarted nothingSeen Agrees total
-kept-fresh = record { sound = fresh-sound; agrees = tt; count = refl; total = refl }
+-- so the law holds from it too
+pub sound-kept : (c : Controller) (e : Event) → Sound c → (m : Noted) × Kept c (eventOf c e) (sightOf c e m) (countingAt c e) (recordsAt c e)
+sound-kept c e s = let m = notes-of (c .phase) in (m .0, event-kept c (m .0) s (m .1) e)
+
+-- every event keeps a controller sound, and so does any series
+pub event-sound : (c : Controller) (e : Event) → Sound c → Sound (eventOf c e)
+event-sound c e s = sound-kept c e s .1 .sound
+
+pub run-sound : (es : List Event) (c : Controller) → Sound c → Sound (run c es)
+unfolding run
+run-sound [] c s = s
+run-sound (e ∷ es) c s = run-sound es (eventOf c e) (event-sound c e s)

@@ -1,10 +1,11 @@
 pub mod Events
-pub mod Statement
 pub mod Kept
-pub mod Carried
+pub mod Walk
+pub mod Statement
 pub mod Proved
 pub mod Calls
 pub mod Records
+pub mod Holes
 pub mod Lines
 pub mod Examples
 pub mod Reached

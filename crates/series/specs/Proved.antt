@@ -3,6 +3,7 @@ use mathlib.Core.Path.{_≡_, sym, ap, ap₂, refl, _∙_}
 use mathlib.Core.Bool.{Bool, true, false}
 use mathlib.Core.List.{List}
 use Prim.Native.Nat.{ℕ, _≤_}
+use native.Mathlib.Omega.{arith}
 use lib.Dec.{ltb}
 use lib.IntN.{ℤ}
 use borrow.Author.Tests.{ltb-false}
@@ -20,9 +21,9 @@ use Rattle.controller.specs.Keeps.{tick-sound}
 use Rattle.controller.specs.Promises.{never-together, fault-unfilled, tick-unfilled}
 use Rattle.controller.specs.Outside.{wAt, clear}
 use Rattle.controller.specs.OutsideLaws.{tick-set, tick-weight}
-use Rattle.series.specs.Events.{Event, Outside, run, seen, nothingSeen}
+use Rattle.series.specs.Events.{Event, run, Outside, nothingSeen, seen, handsBack}
 use Rattle.series.specs.Statement.{accepted, Demand3}
-use Rattle.series.specs.Kept.{Kept, kept-run, kept-fresh}
+use Rattle.series.specs.Walk.{Accords, CountsAll, accords-run, accords-fresh, all-run, all-fresh}
 
 -- in a fault
 unfilled : (c : Controller) → Sound c → (k : Condition) → c .condition ≡ k → clear (c .condition) ≡ false → fillingOpen (c .set) (c .gates) ≡ false
@@ -38,7 +39,7 @@ taken c x i =
     (λ e h. ltb-false 15 i e)
 
 -- after a tick over capacity, in a fault or not
-over-unfilled : (c : Controller) (o : Outside) (x : ℤ) (i : ℕ) → Kept c o → i ≤ 15 → overCapacity (c .set) (wAt c x (tickOf c x i .next)) ≡ true → (ok : Bool) → clear (tickOf c x i .next .condition) ≡ ok → fillingOpen (c .set) (tickOf c x i .next .gates) ≡ false
+over-unfilled : (c : Controller) (o : Outside) (x : ℤ) (i : ℕ) → Accords c o → i ≤ 15 → overCapacity (c .set) (wAt c x (tickOf c x i .next)) ≡ true → (ok : Bool) → clear (tickOf c x i .next .condition) ≡ ok → fillingOpen (c .set) (tickOf c x i .next .gates) ≡ false
 over-unfilled c o x i k h over true e =
     let same = tick-set c x i (o .notes) (k .sound) (k .agrees) in
     let weight = tick-weight c x i (o .notes) (k .sound) (k .agrees) h e in
@@ -49,18 +50,22 @@ over-unfilled c o x i k h over false e =
     ap (λ (t : Settings). fillingOpen t (tickOf c x i .next .gates)) (sym same)
     ∙ unfilled (tickOf c x i .next) (tick-sound c x i (k .sound)) _ refl e
 
-kept-demand : (es : List Event) → Kept (run freshOf es) (seen freshOf nothingSeen es) → Demand3 es
-kept-demand es k =
+demanded : (es : List Event) → Accords (run freshOf es) (seen freshOf nothingSeen es)
+    → (handsBack freshOf es ≡ true → CountsAll (run freshOf es .counters) (seen freshOf nothingSeen es)) → Demand3 es
+demanded es k a =
     let c = run freshOf es in
     record {
       never-both = never-together c (k .sound);
-      over-capacity = λ x i a h. over-unfilled c _ x i k (taken c x i a) h _ refl;
+      over-capacity = λ x i ok h. over-unfilled c _ x i k (taken c x i ok) h _ refl;
       in-fault = unfilled c (k .sound) _ refl;
-      count = k .count;
-      total = k .total;
+      count-on = k .counts .count;
+      total-on = k .counts .total;
+      count = λ h. omega (arith, a h .count);
+      total = λ h. omega (arith, a h .total);
       sound = k .sound;
     }
 
 -- over any series of calls from a fresh controller, and so at each of its steps
 pub demand-3 : (es : List Event) → Demand3 es
-demand-3 es = kept-demand es (kept-run es freshOf nothingSeen kept-fresh)
+demand-3 es =
+    demanded es (accords-run es freshOf nothingSeen accords-fresh) (λ h. all-run es freshOf nothingSeen h accords-fresh all-fresh)

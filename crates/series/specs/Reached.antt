@@ -1,26 +1,18 @@
 -- No phase is out of reach: for each phase of each algorithm and for both faults, some series of calls from the fresh controller reaches it. Assumes nothing.
 use mathlib.Core.Path.{_≡_, refl}
-use mathlib.Core.Bool.{true, xor}
+use mathlib.Core.Bool.{true}
 use mathlib.Core.List.{List, [], _∷_, _++_, map}
 use Prim.Native.Nat.{ℕ}
-use lib.IntN.{pos}
-use lib.ListN.{replicate}
-use Rattle.laws.specs.Pick.{pick}
-use Rattle.paper.specs.Answer.{onDone}
-use Rattle.settings.specs.Table.{firstBad, firstFrom, table, inRange, leastLevel, mostLevel, defaultSet, Wc, Wf}
 use Rattle.settings.specs.Cases.{setOf}
-use Rattle.window.specs.Mean.{meanOf, roundAway, halfUp, sumOf}
-use Rattle.window.specs.Window.{samplesOf, pushOf, emptyWindow}
-use Rattle.dosing.specs.Rules.{stepOf, ready, readyToFill, readyToDose, waits, zeroed, nearZero, fillBegins, coarseStage, fineStage, fill, full, hold, settle, settleEnds, dischargeOpens, discharge, amountOf, load, calm, doseCoarse, doseFine, doseSettle, reachedWf, reachedWc, notBelowZero}
 use Rattle.dosing.specs.declared.Phase.{Phase}
 use Rattle.dosing.specs.declared.Phase.the-variants.{Ready, Coarse, Fine, Hold, Settle, Discharge, Load, Calm, DoseCoarse, DoseFine, DoseSettle}
 use Rattle.controller.specs.declared.Fault.the-variants as F
 use Rattle.controller.specs.declared.Condition.{Condition}
 use Rattle.controller.specs.declared.Condition.the-variants.{Clear, Faulted}
-use Rattle.controller.specs.State.{restarted}
-use Rattle.controller.specs.Tick.{tickOf, step2, step3, steps4and5, steps6to8, mismatched, runsAfter, runAfter, expected, step7, step8, seenOf, wOf, stableOf, filterOf, equalZ, none, calmRun, startOf, outside, faulted, saysFault, outputsOf, worth, input, overCapacity, changed, countersAfter, countedOf, recordsOf}
-use Rattle.controller.specs.Calls.{storedBad, restartOf, freshOf, linkOf, restartedFrom}
-use Rattle.series.specs.Events.{Event, tick, link, restart, eventOf, run}
+use Rattle.controller.specs.Calls.{freshOf, restartedFrom}
+use Rattle.controller.specs.Cases.{rules}
+use Rattle.series.specs.Events.{Event, link, restart, eventOf, run}
+use Rattle.series.specs.Examples.{ticks}
 
 -- the phases by name
 pub data Name : Type 0 where
@@ -57,10 +49,6 @@ endOf es = let c = run freshOf es in record { algorithm = c .set .algorithm; nam
 abbrev at : ℕ → Name → End
 at al n = record { algorithm = al; name = n }
 
--- n ticks with the sample x and the inputs i
-abbrev ticks : ℕ → ℕ → ℕ → List Event
-ticks n x i = replicate n (tick (pos x) i)
-
 -- an algorithm with its level M; C 1,000, D 100, Pc 50, Pf 20, p7 and p8 4, p9 1; inputs 1 to 3 are 0 while the outputs are shut
 abbrev begun : ℕ → ℕ → Event
 begun algorithm level = restart (setOf (algorithm ∷ 1000 ∷ 100 ∷ 50 ∷ 20 ∷ level ∷ 4 ∷ 4 ∷ 1 ∷ 0 ∷ 0 ∷ 1 ∷ 1 ∷ 1 ∷ 1 ∷ 0 ∷ 0 ∷ [])) 0 0
@@ -91,12 +79,12 @@ pub every-phase :
     × (endOf (begun 1 50 ∷ ticks 1 0 8 ++ ticks 68 150 0) ≡ at 1 discharge')
     × (map endOf (doses 2) ≡ at 2 ready' ∷ at 2 load' ∷ at 2 calm' ∷ at 2 doseCoarse' ∷ at 2 doseFine' ∷ at 2 doseSettle' ∷ [])
     × (map endOf (doses 3) ≡ at 3 ready' ∷ at 3 load' ∷ at 3 calm' ∷ at 3 doseCoarse' ∷ at 3 doseFine' ∷ at 3 doseSettle' ∷ [])
-unfolding run endOf nameIn phaseName eventOf restartedFrom restartOf storedBad onDone firstBad firstFrom table inRange leastLevel mostLevel linkOf freshOf restarted defaultSet tickOf step2 step3 steps4and5 steps6to8 mismatched runsAfter runAfter expected step7 step8 seenOf wOf stableOf filterOf equalZ none calmRun startOf outside faulted saysFault outputsOf worth input overCapacity changed countersAfter countedOf recordsOf stepOf ready readyToFill readyToDose waits zeroed nearZero fillBegins coarseStage fineStage fill full hold settle settleEnds dischargeOpens discharge amountOf load calm doseCoarse doseFine doseSettle reachedWf reachedWc notBelowZero Wc Wf samplesOf pushOf emptyWindow meanOf roundAway halfUp sumOf pick xor setOf
+unfolding rules restartedFrom eventOf run endOf nameIn phaseName
 every-phase = (refl, refl, refl, refl, refl)
 
 -- both faults, in each algorithm that has them
 pub every-fault :
     (map endOf ((begun 1 50 ∷ ticks 64 0 1) ∷ (begun 2 200 ∷ ticks 64 500 2) ∷ (begun 3 200 ∷ ticks 64 500 4) ∷ []) ≡ at 1 (f14 1) ∷ at 2 (f14 2) ∷ at 3 (f14 3) ∷ [])
     × (map endOf ((begun 0 50 ∷ ticks 1 900001 0) ∷ (begun 1 50 ∷ ticks 1 900001 0) ∷ (begun 2 200 ∷ ticks 1 900001 0) ∷ (begun 3 200 ∷ ticks 1 900001 0) ∷ []) ≡ at 0 f21 ∷ at 1 f21 ∷ at 2 f21 ∷ at 3 f21 ∷ [])
-unfolding run endOf nameIn phaseName eventOf restartedFrom restartOf storedBad onDone firstBad firstFrom table inRange leastLevel mostLevel linkOf freshOf restarted defaultSet tickOf step2 step3 steps4and5 steps6to8 mismatched runsAfter runAfter expected step7 step8 seenOf wOf stableOf filterOf equalZ none calmRun startOf outside faulted saysFault outputsOf worth input overCapacity changed countersAfter countedOf recordsOf stepOf ready readyToFill readyToDose waits zeroed nearZero fillBegins coarseStage fineStage fill full hold settle settleEnds dischargeOpens discharge amountOf load calm doseCoarse doseFine doseSettle reachedWf reachedWc notBelowZero Wc Wf samplesOf pushOf emptyWindow meanOf roundAway halfUp sumOf pick xor setOf
+unfolding rules restartedFrom eventOf run endOf nameIn phaseName
 every-fault = (refl, refl)
