@@ -1005,7 +1005,7 @@ def holes():
         'none-at-the-wrap': '10 999998 999999 H, 11 0 1 H, 12 2 H',
         'none-after-a-reset': '10 7 8 1 2 H, 11 1 H, 12 H, 13 2 H',
         'none-where-1-comes-twice': '10 1 1 H, 11 1 H, 12 2 H',
-        'none-where-1-comes-late': '10 999999 1 H, 11 500 H, 12 H, 13 1 H, 14 2 H',
+        'none-where-1-comes-late': '10 999999 1 H, 11 2 H, 12 500 H, 13 1 H, 14 2 H',
         'of-2-after-a-lost-1': '10 7 H, 11 2 H, 12 3 H',
         'of-0': '10 0 H, 11 5 H, 12 0 H, 13 1 H, 14 0 H, 15 0 H, 16 1 H',
         'none-at-the-first-dose': '9 H, 10 500 H, 11 501 H',

@@ -334,23 +334,13 @@ MUTANTS = [
      '            good = later[2]\n'
      '        else:\n'
      '            yield earlier[1], later[1]\n'),
-    ('a hole from the last hour that followed', 'hours.py',
-     '    for earlier, later in zip(doses, doses[1:]):\n'
-     '        if not follows(earlier[2], later[2]):\n'
-     '            yield earlier[1], later[1]\n',
-     '    began = doses[0][1] if doses else 0\n'
-     '    for earlier, later in zip(doses, doses[1:]):\n'
-     '        if follows(earlier[2], later[2]):\n'
-     '            began = later[1]\n'
-     '        else:\n'
-     '            yield began, later[1]\n'),
     ('only the first hole', 'hours.py',
      '            yield earlier[1], later[1]\n',
      '            yield earlier[1], later[1]\n            return\n'),
     ('a hole to the end', 'hours.py',
      'yield earlier[1], later[1]', 'yield earlier[1], lines[-1][1]'),
     ('a hole refused', 'hours.py',
-     '            yield earlier[1], later[1]\n', '            raise Refused(10, 0)\n'),
+     'yield earlier[1], later[1]', 'raise Refused(10, 0)\n            yield'),
 
     # The program.
     ('a line of 4,097 bytes taken', 'replay.py',

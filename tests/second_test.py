@@ -156,7 +156,7 @@ HOLES = {
     'over-a-missing-hour': 'XXXXXM', 'none-across-idle-hours': 'MIXIM',
     'at-the-wrap': 'XXM', 'over-the-wrap': 'XXM', 'none-at-the-wrap': 'MMM',
     'none-after-a-reset': 'MMIM', 'none-where-1-comes-twice': 'MMM',
-    'none-where-1-comes-late': 'XXIMM', 'of-2-after-a-lost-1': 'XXM',
+    'none-where-1-comes-late': 'MXXMM', 'of-2-after-a-lost-1': 'XXM',
     'of-0': 'XXXXXXM', 'none-at-the-first-dose': 'IMM', 'none-at-a-first-0': 'M',
     'at-the-second-line': 'XM', 'at-the-last-line': 'MXX', 'at-both-ends': 'XXX',
     'twice-in-a-row': 'XXXM', 'and-its-far-end': 'XXMM',
