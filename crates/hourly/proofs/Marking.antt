@@ -1,6 +1,6 @@
 -- Whether a count follows, the marks of a hole's hours, and the marks set in the tallies. Assumes nothing.
 use mathlib.Core.Path.{_≡_, refl, sym, ap, _∙_}
-use mathlib.Core.Bool.{Bool, true, false, not, _&&_, _||_, or-true, or-false}
+use mathlib.Core.Bool.{Bool, true, false, _&&_, _||_, or-true, or-false}
 use mathlib.Core.List.{List, [], _∷_, _++_}
 use Prim.Native.Nat.{ℕ, _+_, _-_, _≤_, _<_, max}
 use native.Mathlib.Omega.{arith}
@@ -9,13 +9,12 @@ use lib.Dec.{eqb, leb, ltb}
 use lib.ListN.{length, getD, set, length-set, replicate, length-replicate, getD-replicate}
 use lib.Seq.{getD-set-same, getD-set-other}
 use borrow.Author.Tests.{eq-eqb, ne-eqb, le-leb, lt-leb, lt-ltb, le-ltb, leb-true, leb-false, ltb-true, ltb-false}
-use Rattle.laws.specs.Pick.{pick, pick-t, pick-f}
-use Rattle.journal.specs.Journal.{hourIn}
+use Rattle.laws.specs.Pick.{pick-t, pick-f}
 use Rattle.journal.specs.declared.Line.{Line}
 use Rattle.journal.specs.declared.Line.the-variants.{Dose, On}
-use Rattle.hourly.specs.Holes.{nextCount, follows, doseBefore, endsHole, holeFrom, inHole}
+use Rattle.hourly.specs.Holes.{nextCount, follows, endsHole, holeFrom, inHole}
 use Rattle.hourly.specs.HoleLaws.{lastDose, hole-more}
-use Rattle.hourly.specs.Tally.{outside, unmarkedOf, tallyOf, withHole, Unmarked, Marks, Tells, Placed, Adds, AddsHole, Sets}
+use Rattle.hourly.specs.Tally.{outside, unmarkedOf, tallyOf, withHole, Unmarked, Marks, Tells, Adds, AddsHole, Sets}
 use Rattle.hourly.specs.declared.Before.{Before}
 use Rattle.hourly.specs.declared.Before.the-variants.{Nothing, At}
 use Rattle.hourly.specs.declared.Tally.{Tally}

@@ -27,7 +27,6 @@ use Rattle.hourly.specs.Tally.{outside, noTally, counted, summaryOf, Unm
 use Rattle.hourly.specs.Contracts.{Counts}
 use Rattle.hourly.specs.declared.Before.{Before}
 use Rattle.hourly.specs.declared.Before.the-variants.{Nothing, At}
-use Rattle.hourly.specs.declared.Judged.the-variants as J
 use Rattle.hourly.specs.declared.Tally.{Tally}
 use Rattle.hourly.specs.declared.Tallied.{Tallied}
 use Rattle.hourly.proofs.Tallying.{unmarked-none, unmarked-start, unmarked-more, old-few}

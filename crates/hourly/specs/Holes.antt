@@ -18,16 +18,16 @@ nextCount before = pick (eqb before 999999) 0 (before + 1)
 unfoldable pub follows : ℕ → ℕ → Bool
 follows before count = eqb count 1 || eqb count (nextCount before)
 
--- the D line before the next line, by its hour and count: after a D it is that D, also where its count did not follow; H lines leave it
-unfoldable pub doseBefore : Before → Line → Before
-doseBefore b (Dose x c a s) = At x c
-doseBefore b (On x) = b
-
 -- Where the count does not follow, every hour from the earlier D line's hour to the later one's; the first D line of a journal is not tested
 unfoldable pub endsHole : ℕ → Before → Line → Bool
 endsHole h b (On y) = false
 endsHole h Nothing (Dose y d a s) = false
 endsHole h (At x c) (Dose y d a s) = not (follows c d) && (leb x h && leb h y)
+
+-- the D line before the next line, by its hour and count: after a D it is that D, also where its count did not follow; H lines leave it
+unfoldable pub doseBefore : Before → Line → Before
+doseBefore b (Dose x c a s) = At x c
+doseBefore b (On x) = b
 
 -- hour h lies in a hole that one of these lines ends
 unfoldable pub holeFrom : ℕ → Before → List Line → Bool

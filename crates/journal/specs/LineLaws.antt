@@ -18,7 +18,7 @@ use Rattle.paper.specs.AnswerLaws.{refused-done}
 use Rattle.paper.specs.Numbers.{R8, R10}
 use Rattle.text.specs.Scan.{LF, TAB, expect, onGood}
 use Rattle.text.specs.ScanLaws.{bad-good}
-use Rattle.journal.specs.Line.{Place, holds, noLine, placed, lineAt, writeOf, oneLine, whole, letterD, letterH, mostOfD, mostOfH, fieldsText, textOf, within, inRange, fieldsAt, doseFrom, onFrom, lineOf}
+use Rattle.journal.specs.Line.{holds, noLine, placed, lineAt, writeOf, oneLine, whole, letterD, letterH, mostOfD, mostOfH, fieldsText, textOf, within, inRange, fieldsAt, doseFrom, onFrom, lineOf}
 use Rattle.journal.specs.declared.Line.{Line}
 use Rattle.journal.specs.declared.Line.the-variants.{Dose, On}
 

@@ -3,7 +3,7 @@ use mathlib.Core.Path.{_≡_, ap, _∙_}
 use mathlib.Core.List.{List}
 use Prim.Native.Nat.{ℕ}
 use lib.ListN.{length, take}
-use Rattle.paper.specs.Answer.{Answer, done, same, Fills, fills-one, Hands, hands-one}
+use Rattle.paper.specs.Answer.{done, Fills, fills-one, Hands, hands-one}
 use Rattle.hourly.specs.Text.{printOf}
 use Rattle.report.specs.Report.{reportOf}
 use Rattle.report.specs.Says.{saysPrinted, printed-one}

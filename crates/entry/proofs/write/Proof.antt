@@ -1,5 +1,5 @@
-use mathlib.Core.Path.{sym, ap, _∙_}
-use mathlib.Core.List.{List}
+use mathlib.Core.Path.{_≡_, sym, ap, _∙_}
+use mathlib.Core.List.{List, []}
 use Prim.Native.Nat.{ℕ, _≤_}
 use native.Mathlib.Nat.{zero-add}
 use native.Mathlib.Omega.{arith}
@@ -8,32 +8,31 @@ use lib.ListN.{length}
 use borrow.Author.Tests.{not-true, not-false}
 use Rattle.laws.specs.Pick.{so}
 use Rattle.laws.specs.Over.{sets-over}
-use Rattle.paper.specs.Answer.{Answer, done, told, leaves}
-use Rattle.journal.specs.Line.{textOf}
+use Rattle.paper.specs.Answer.{Answer, done, refused, told, leaves}
+use Rattle.paper.specs.AnswerLaws.{fills-refused}
+use Rattle.paper.specs.Numbers.{R8}
+use Rattle.journal.specs.Line.{textOf, writeOf}
 use Rattle.journal.specs.LineLaws.{write-range, write-short, write-fits}
 use borrow.Author.Needs.{needs}
 use Rattle.entry.proofs.write.Statement.{statement}
 use Rattle.entry.proofs.write.Tie as tie
 
+-- the line does not fit
+too-short : (c : tie.Then2) → writeOf (c .before .before .before .before .before .args .line) (length (now (c .before .before .before .before .before .args .out))) ≡ refused R8 []
+too-short c =
+    write-short _ _ (so (c .before .before .before .in-range .ensures) (not-false _ (c .before .before .if1 .left))) (omega (arith, c .before .text-len .ensures, c .if2 .taken))
+
 in-range-requires : tie.Need-in-range-requires
 in-range-requires c κs = search needs
 
 returns : tie.Need-returns
-unfolding told leaves
-returns c =
-    let a = c .before .before .before .args in
-    let e = write-range (a .line) (length (now (a .out))) (so (c .before .in-range .ensures) (not-true _ (c .if1 .taken))) in
-    record { says = sym (ap (told length) e); left = sym (ap (λ (w : Answer (List ℕ)). leaves w (now (a .out))) e) }
+returns c = fills-refused (write-range _ _ (so (c .before .in-range .ensures) (not-true _ (c .if1 .taken)))) _
 
 text-len-requires : tie.Need-text-len-requires
 text-len-requires c κs = search needs
 
 returns-2 : tie.Need-returns-2
-unfolding told leaves
-returns-2 c =
-    let a = c .before .before .before .before .before .args in
-    let e = write-short (a .line) (length (now (a .out))) (so (c .before .before .before .in-range .ensures) (not-false _ (c .before .before .if1 .left))) (omega (arith, c .before .text-len .ensures)) in
-    record { says = sym (ap (told length) e); left = sym (ap (λ (w : Answer (List ℕ)). leaves w (now (a .out))) e) }
+returns-2 c = fills-refused (too-short c) _
 
 store-line-requires : tie.Need-store-line-requires
 store-line-requires c κs = search needs

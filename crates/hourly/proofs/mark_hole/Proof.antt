@@ -1,7 +1,6 @@
-use mathlib.Core.Path.{_≡_, refl, ap}
+use mathlib.Core.Path.{refl, ap}
 use native.Mathlib.Omega.{arith}
 use borrow.Author.Needs.{needs}
-use denote.Ref.{now}
 use Rattle.laws.specs.Pick.{so}
 use Rattle.journal.specs.Journal.{hourIn}
 use Rattle.hourly.proofs.Marking.{ends-on, ends-first, ends-turn, ends-hole, ends-told}

@@ -1,5 +1,5 @@
 use mathlib.Core.Path.{_≡_, ap, _∙_}
-use Prim.Native.Nat.{ℕ}
+use Prim.Native.Nat.{ℕ, _<_}
 use native.Mathlib.Omega.{arith}
 use borrow.Author.Needs.{needs}
 use denote.Ref.{now}
@@ -10,6 +10,13 @@ use Rattle.report.proofs.Printing.{fills-none, fills-text}
 use Rattle.report.proofs.print_table.Statement.{statement}
 use Rattle.report.proofs.print_table.Tie as tie
 
+-- the text does not fit
+too-short : (c : tie.Then1) → length (now (c .before .before .before .before .args .out)) < length (textBy (c .before .before .before .before .args .table) (c .before .before .before .before .args .found .first) (hoursIn (c .before .before .before .before .args .found)))
+too-short c =
+    let a = c .before .before .before .before .args in
+    let n = c .before .text-len .ensures ∙ ap (λ (h : ℕ). length (textBy (a .table) (a .found .first) h)) (c .before .before .hours-in .ensures) in
+    omega (arith, n, c .if1 .taken)
+
 hours-in-requires : tie.Need-hours-in-requires
 hours-in-requires c κs = search needs
 
@@ -17,10 +24,7 @@ text-len-requires : tie.Need-text-len-requires
 text-len-requires c κs = rw (c .hours-in .ensures) (c .before .before .pre .0)
 
 returns : tie.Need-returns
-returns c =
-    let a = c .before .before .before .before .args in
-    let n = c .before .text-len .ensures ∙ ap (λ (h : ℕ). length (textBy (a .table) (a .found .first) h)) (c .before .before .hours-in .ensures) in
-    fills-none (now (a .out)) (textBy (a .table) (a .found .first) (hoursIn (a .found))) (omega (arith, n, c .if1 .taken))
+returns c = fills-none _ _ (too-short c)
 
 put-rows-requires : tie.Need-put-rows-requires
 put-rows-requires c κs = (rw (c .before .before .before .hours-in .ensures) (c .before .before .before .before .before .pre .0), omega (arith, c .before .before .text-len .ensures, c .before .if1 .left))

@@ -1,14 +1,11 @@
 use mathlib.Core.Path.{_≡_, sym, subst}
-use mathlib.Core.List.{List, []}
+use mathlib.Core.List.{List}
 use Prim.Native.Nat.{ℕ}
 use native.Mathlib.Omega.{arith}
 use borrow.Author.Needs.{needs}
 use denote.Ref.{now}
 use lib.ListN.{length, take}
 use lib.Seq.{length-take-le}
-use Rattle.paper.specs.Answer.{Fills}
-use Rattle.hourly.specs.Text.{printOf}
-use Rattle.report.specs.Says.{saysPrinted}
 use Rattle.report.specs.Contracts.{Holds, PrintsHours}
 use Rattle.report.specs.declared.Printed.{Printed}
 use Rattle.report.proofs.Reporting.{text-holds, never-short, refused-line, seen-is, reports}

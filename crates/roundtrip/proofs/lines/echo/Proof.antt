@@ -19,7 +19,6 @@ use Rattle.journal.specs.LineLaws.{text-most, write-range, write-fits, one-text
 use Rattle.journal.specs.Says.{saysOne, one-one}
 use Rattle.entry.specs.Says.{saysWrote, wrote-one}
 use Rattle.journal.specs.declared.Line.{Line}
-use Rattle.journal.specs.declared.One.{One}
 use Rattle.journal.specs.declared.One.the-variants as O
 use Rattle.entry.specs.declared.Wrote.{Wrote}
 use Rattle.entry.specs.declared.Wrote.the-variants as W
