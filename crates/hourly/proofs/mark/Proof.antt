@@ -1,6 +1,5 @@
 use Prim.Native.Nat.{_+_, _-_}
 use native.Mathlib.Omega.{arith}
-use denote.Ref.{now}
 use Rattle.hourly.proofs.Marking.{Marking, marking-none, marking-more, marking-all}
 use Rattle.hourly.proofs.mark.Statement.{statement}
 use Rattle.hourly.proofs.mark.Tie as tie
@@ -12,7 +11,7 @@ abbrev μ-loop : tie.MeasureT-loop
 μ-loop holed₀ from to k₀ holed k = to + 1 - k
 
 loop-holds : tie.Need-loop-holds Inv-loop μ-loop
-loop-holds c = marking-none (now (c .args .holed)) (c .args .from) (c .args .to)
+loop-holds c = marking-none _ _ _
 
 slice-write-holed : tie.Need-slice-write-holed Inv-loop μ-loop
 slice-write-holed c = omega (arith, c .loop-test .taken, c .before .loop .inv .size, c .before .before .pre)
