@@ -96,6 +96,30 @@ def month(size):
     return b''.join(lines)
 
 
+def holes(size):
+    """The same month, with a hole at every D line but the first."""
+    lines, count = [], 0
+    for line in month(size).splitlines(keepends=True):
+        cells = line.split(b'\t')
+        if cells[0] == b'D':
+            count += 2
+            cells[2] = b'%06d' % (500000 + count)
+        lines.append(b'\t'.join(cells))
+    return b''.join(lines)
+
+
+def one_hole(size):
+    """A hole over all hours: as many D lines before and behind it as there is room for."""
+    rng = random.Random(SEED)
+    hours, first = 744 * size // JOURNAL, 123456
+    between = b''.join(map(journals.h, range(first, first + hours)))
+    each = (size - len(between)) // 2 // 27
+    before = [dose(rng, first, n) for n in range(100000, 100000 + each)]
+    behind = [dose(rng, first + hours - 1, n) for n in range(200000, 200000 + each)]
+    last = journals.h(first + hours - 1)
+    return b''.join(before) + between[:-len(last)] + b''.join(behind) + last
+
+
 def one_hour(size):
     rng = random.Random(SEED)
     lines = [dose(rng, 123456, n) for n in range(size // 20)]
@@ -110,10 +134,10 @@ def made(name, tenth):
         return {'replay': as_calls, 'ticks': as_bytes}[program](s, ticks(s, size(TICKS)))
     if program == 'frames':
         return line(size(LINE))
-    return {'month': month, 'hour': one_hour}[kind](size(JOURNAL))
+    return {'month': month, 'hour': one_hour, 'holes': holes, 'hole': one_hole}[kind](size(JOURNAL))
 
 
-NAMES = ['replay-al1', 'replay-al2', 'ticks-al1', 'ticks-al2', 'frames-line', 'hours-month', 'hours-hour']
+NAMES = ['replay-al1', 'replay-al2', 'ticks-al1', 'ticks-al2', 'frames-line', 'hours-month', 'hours-hour', 'hours-holes', 'hours-hole']
 
 
 def main(folder):
