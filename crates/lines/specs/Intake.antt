@@ -55,11 +55,19 @@ nextOf i buffer =
     let end = endOf held (i .at) in
     pick (ltb end (length held)) (lineTo i end) (record { intake = begunTo i end; next = More })
 
+-- ---- the contracts
+
+abbrev pub HoldsNothing : Intake → Type 0
+HoldsNothing r = r ≡ startOf
+
+abbrev pub HandsOver : Intake → List ℕ → Taken → Type 0
+HandsOver i buffer r = r ≡ nextOf i buffer
+
 -- two results that both meet a contract are equal
-pub start-determined : {r s : Intake} → r ≡ startOf → s ≡ startOf → r ≡ s
+pub start-determined : {r s : Intake} → HoldsNothing r → HoldsNothing s → r ≡ s
 start-determined p q = same p q
 
-pub next-determined : (i : Intake) (buffer : List ℕ) {r s : Taken} → r ≡ nextOf i buffer → s ≡ nextOf i buffer → r ≡ s
+pub next-determined : (i : Intake) (buffer : List ℕ) {r s : Taken} → HandsOver i buffer r → HandsOver i buffer s → r ≡ s
 next-determined i buffer p q = same p q
 
 -- ---- the law of a step

@@ -2,7 +2,7 @@
 ghost use mathlib.Core.Path.{_≡_};
 ghost use Prim.Native.Nat.{_≤_, min};
 ghost use Rattle.lines.specs.Places.{endOf, Carries};
-ghost use Rattle.lines.specs.Intake.{startOf, overlong, nextOf};
+ghost use Rattle.lines.specs.Intake.{overlong, HoldsNothing, HandsOver};
 
 // What is carried from read to read: the bytes of the buffer from `at` to `have` are not done with; `long` says that the line that they go on is too long already.
 pub struct Intake {
@@ -51,7 +51,7 @@ fn least(a: usize, b: usize) -> usize
 impl Intake {
     // Nothing is held.
     pub fn start() -> Intake
-        ensures { λ r. ⌜ r ≡ startOf ⌝ }
+        ensures { λ r. ⌜ HoldsNothing r ⌝ }
     {
         Intake {
             at: 0,
@@ -73,7 +73,7 @@ impl Intake {
 
     // The next whole line of what is held, or that more has to be read.
     pub fn next_line(self, buffer: &[u8]) -> Taken
-        ensures { λ r. ⌜ r ≡ nextOf self (now (buffer .entry)) ⌝ }
+        ensures { λ r. ⌜ HandsOver self (now (buffer .entry)) r ⌝ }
     {
         let have = least(self.have, buffer.len());
         let end = line_end(&buffer[..have], self.at);

@@ -1,5 +1,4 @@
 use mathlib.Core.Path.{_∙_}
-use borrow.Author.Needs.{needs}
 use Rattle.controller.specs.Calls.{freshOf}
 use Rattle.controller.specs.Keeps.{fresh-sound}
 use Rattle.controller.specs.Made.{made}
@@ -7,10 +6,10 @@ use Rattle.controller.proofs.Controller.fresh.Statement.{statement}
 use Rattle.controller.proofs.Controller.fresh.Tie as tie
 
 default-requires : tie.Need-default-requires
-default-requires c κs = search needs
+default-requires c κs = tt
 
 restarted-requires : tie.Need-restarted-requires
-restarted-requires c κs = search needs
+restarted-requires c κs = tt
 
 returns : tie.Need-returns
 unfolding freshOf

@@ -85,16 +85,16 @@ at-written c = c .before .before .before .before
 -- ---- the needs
 
 hear-requires : tie.Need-hear-requires
-hear-requires c κs = search needs
+hear-requires c κs = tt
 
 enum-known-heard : tie.Need-enum-known-heard
 enum-known-heard c = search needs
 
 unread-requires : tie.Need-unread-requires
-unread-requires c κs = search needs
+unread-requires c κs = tt
 
 refused-requires : tie.Need-refused-requires
-refused-requires c κs = search needs
+refused-requires c κs = tt
 
 -- R9, R6
 returns : tie.Need-returns
@@ -104,7 +104,7 @@ returns c =
     (c .refused .ensures .0) (c .refused .ensures .1 ∙ c .before .unread .ensures)
 
 address-stage-requires : tie.Need-address-stage-requires
-address-stage-requires c κs = search needs
+address-stage-requires c κs = tt
 
 enum-told : tie.Need-enum-told
 enum-told c = search needs
@@ -113,7 +113,7 @@ enum-told-2 : tie.Need-enum-told-2
 enum-told-2 c = search needs
 
 refused-requires-2 : tie.Need-refused-requires-2
-refused-requires-2 c κs = search needs
+refused-requires-2 c κs = tt
 
 -- R5
 returns-2 : tie.Need-returns-2
@@ -125,7 +125,7 @@ returns-2 c =
     (c .refused2 .ensures .0) (ap saysReply (c .refused2 .ensures .1))
 
 code-stage-requires : tie.Need-code-stage-requires
-code-stage-requires c κs = search needs
+code-stage-requires c κs = tt
 
 enum-told-3 : tie.Need-enum-told-3
 enum-told-3 c = search needs
@@ -134,7 +134,7 @@ enum-told-4 : tie.Need-enum-told-4
 enum-told-4 c = search needs
 
 refused-requires-3 : tie.Need-refused-requires-3
-refused-requires-3 c κs = search needs
+refused-requires-3 c κs = tt
 
 -- R7
 returns-3 : tie.Need-returns-3
@@ -146,13 +146,13 @@ returns-3 c =
     (c .refused3 .ensures .0) (ap saysReply (c .refused3 .ensures .1))
 
 is-timely-requires : tie.Need-is-timely-requires
-is-timely-requires c κs = search needs
+is-timely-requires c κs = tt
 
 may-zero-requires : tie.Need-may-zero-requires
-may-zero-requires c κs = search needs
+may-zero-requires c κs = tt
 
 ready-stage-requires : tie.Need-ready-stage-requires
-ready-stage-requires c κs = search needs
+ready-stage-requires c κs = tt
 
 enum-told-5 : tie.Need-enum-told-5
 enum-told-5 c = search needs
@@ -161,7 +161,7 @@ enum-told-6 : tie.Need-enum-told-6
 enum-told-6 c = search needs
 
 refused-requires-4 : tie.Need-refused-requires-4
-refused-requires-4 c κs = search needs
+refused-requires-4 c κs = tt
 
 -- R3
 returns-4 : tie.Need-returns-4
@@ -174,7 +174,7 @@ returns-4 c =
     (c .refused4 .ensures .0) (ap saysReply (c .refused4 .ensures .1))
 
 zero-stage-requires : tie.Need-zero-stage-requires
-zero-stage-requires c κs = search needs
+zero-stage-requires c κs = tt
 
 enum-told-7 : tie.Need-enum-told-7
 enum-told-7 c = search needs
@@ -183,7 +183,7 @@ enum-told-8 : tie.Need-enum-told-8
 enum-told-8 c = search needs
 
 refused-requires-5 : tie.Need-refused-requires-5
-refused-requires-5 c κs = search needs
+refused-requires-5 c κs = tt
 
 -- R4
 returns-5 : tie.Need-returns-5
@@ -197,19 +197,19 @@ returns-5 c =
     (c .refused5 .ensures .0) (ap saysReply (c .refused5 .ensures .1))
 
 zeroed-by-requires : tie.Need-zeroed-by-requires
-zeroed-by-requires c κs = search needs
+zeroed-by-requires c κs = tt
 
 reply-of-requires : tie.Need-reply-of-requires
 reply-of-requires c κs = start (ends (c .before)) .pre
 
 write-reply-requires : tie.Need-write-reply-requires
-write-reply-requires c κs = search needs
+write-reply-requires c κs = tt
 
 enum-known-len : tie.Need-enum-known-len
 enum-known-len c = search needs
 
 refused-requires-6 : tie.Need-refused-requires-6
-refused-requires-6 c κs = search needs
+refused-requires-6 c κs = tt
 
 same-length : tie.Need-same-length
 same-length c = search needs

@@ -1,7 +1,6 @@
 use mathlib.Core.Path.{_≡_}
 use mathlib.Core.Bool.{true, false}
 use borrow.Author.Tests.{not-true, not-false}
-use borrow.Author.Needs.{needs}
 use Rattle.laws.specs.Pick.{pick, so}
 use Rattle.controller.specs.Calls.{isReady, resetOf, resetAnswer, after}
 use Rattle.controller.proofs.Contracts.{resets}
@@ -9,7 +8,7 @@ use Rattle.controller.proofs.Controller.reset.Statement.{statement}
 use Rattle.controller.proofs.Controller.reset.Tie as tie
 
 is-ready-requires : tie.Need-is-ready-requires
-is-ready-requires c κs = search needs
+is-ready-requires c κs = tt
 
 returns : tie.Need-returns
 unfolding isReady resetOf resetAnswer after pick

@@ -8,16 +8,16 @@ use Rattle.controller.proofs.Controller.restart.Statement.{statement}
 use Rattle.controller.proofs.Controller.restart.Tie as tie
 
 check-requires : tie.Need-check-requires
-check-requires c κs = search needs
+check-requires c κs = tt
 
 restart-answer-requires : tie.Need-restart-answer-requires
-restart-answer-requires c κs = search needs
+restart-answer-requires c κs = tt
 
 enum-told : tie.Need-enum-told
 enum-told c = search needs
 
 restarted-requires : tie.Need-restarted-requires
-restarted-requires c κs = search needs
+restarted-requires c κs = tt
 
 -- what the answer says
 says : (c : tie.After-restart-answer) → let a = c .before .before .args in saysRestart (c .restart-answer .result) ≡ told noValue (restartOf (a .set) (a .count) (a .total))
@@ -32,7 +32,7 @@ returns c =
     (says k)
 
 no-controller-requires : tie.Need-no-controller-requires
-no-controller-requires c κs = search needs
+no-controller-requires c κs = tt
 
 returns-2 : tie.Need-returns-2
 returns-2 c =

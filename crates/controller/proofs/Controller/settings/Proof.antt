@@ -6,19 +6,19 @@ use Rattle.controller.proofs.Controller.settings.Statement.{statement}
 use Rattle.controller.proofs.Controller.settings.Tie as tie
 
 is-ready-requires : tie.Need-is-ready-requires
-is-ready-requires c κs = search needs
+is-ready-requires c κs = tt
 
 check-requires : tie.Need-check-requires
-check-requires c κs = search needs
+check-requires c κs = tt
 
 set-answer-requires : tie.Need-set-answer-requires
-set-answer-requires c κs = search needs
+set-answer-requires c κs = tt
 
 enum-told : tie.Need-enum-told
 enum-told c = search needs
 
 taken-requires : tie.Need-taken-requires
-taken-requires c κs = search needs
+taken-requires c κs = tt
 
 returns : tie.Need-returns
 unfolding isReady after

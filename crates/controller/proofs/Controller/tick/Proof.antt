@@ -24,7 +24,7 @@ enum-told : tie.Need-enum-told
 enum-told c = search needs
 
 step3-requires : tie.Need-step3-requires
-step3-requires c κs = search needs
+step3-requires c κs = (c .before .before .before .pre, c .enum-told .given .1)
 
 returns-3 : tie.Need-returns-3
 returns-3 c =

@@ -1,10 +1,9 @@
-use borrow.Author.Needs.{needs}
 use Rattle.controller.specs.Calls.{noController, noSet}
 use Rattle.controller.proofs.calls.no_controller.Statement.{statement}
 use Rattle.controller.proofs.calls.no_controller.Tie as tie
 
 restarted-requires : tie.Need-restarted-requires
-restarted-requires c κs = search needs
+restarted-requires c κs = tt
 
 returns : tie.Need-returns
 unfolding noController noSet

@@ -1,10 +1,9 @@
-use borrow.Author.Needs.{needs}
 use Rattle.controller.specs.State.{restarted}
 use Rattle.controller.proofs.calls.restarted.Statement.{statement}
 use Rattle.controller.proofs.calls.restarted.Tie as tie
 
 new-requires : tie.Need-new-requires
-new-requires c κs = search needs
+new-requires c κs = tt
 
 returns : tie.Need-returns
 unfolding restarted

@@ -9,13 +9,13 @@ enum-told : tie.Need-enum-told
 enum-told c = search needs
 
 in-ready-requires : tie.Need-in-ready-requires
-in-ready-requires c κs = search needs
+in-ready-requires c κs = tt
 
 enum-known-checked : tie.Need-enum-known-checked
 enum-known-checked c = search needs
 
 in-ready-requires-2 : tie.Need-in-ready-requires-2
-in-ready-requires-2 c κs = search needs
+in-ready-requires-2 c κs = tt
 
 returns : tie.Need-returns
 returns c = ap saysSet (c .in-ready .ensures) ∙ pick-map saysSet _ _ _ ∙ rw (c .before .enum-told .given .1)

@@ -1,11 +1,10 @@
-use borrow.Author.Needs.{needs}
 use Rattle.controller.specs.Calls.{isReady}
 use Rattle.controller.specs.Line.{timely}
 use Rattle.controller.proofs.line.is_timely.Statement.{statement}
 use Rattle.controller.proofs.line.is_timely.Tie as tie
 
 is-ready-requires : tie.Need-is-ready-requires
-is-ready-requires c κs = search needs
+is-ready-requires c κs = tt
 
 returns : tie.Need-returns
 unfolding timely isReady

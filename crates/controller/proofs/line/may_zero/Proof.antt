@@ -15,10 +15,10 @@ unfolding mayZero
 returns c = rw (ne-eqb _ _ (c .if1 .taken))
 
 mean-of-requires : tie.Need-mean-of-requires
-mean-of-requires c κs = search needs
+mean-of-requires c κs = tt
 
 near-zero-requires : tie.Need-near-zero-requires
-near-zero-requires c κs = search needs
+near-zero-requires c κs = tt
 
 returns-2 : tie.Need-returns-2
 unfolding mayZero

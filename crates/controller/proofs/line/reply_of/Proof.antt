@@ -1,5 +1,4 @@
 use mathlib.Core.Path.{ap, _∙_}
-use borrow.Author.Needs.{needs}
 use borrow.Author.Tests.{eq-eqb, ne-eqb}
 use Rattle.laws.specs.Pick.{pick-true, pick-false}
 use Rattle.asking.specs.Asking.{replyBytes}
@@ -30,7 +29,7 @@ returns-3 c =
     simp (ne-eqb _ _ (c .before .before .if1 .left), ne-eqb _ _ (c .before .if2 .left), eq-eqb _ _ (c .if3 .taken), pick-true, pick-false)
 
 outputs-of-requires : tie.Need-outputs-of-requires
-outputs-of-requires c κs = search needs
+outputs-of-requires c κs = tt
 
 returns-4 : tie.Need-returns-4
 unfolding replyBytes replyData

@@ -22,7 +22,7 @@ abbrev rule : tie.Start → Weight
 rule c = let a = c .args in weightBy (a .set) (a .window) (a .z) (a .s) (a .n)
 
 weigh-requires : tie.Need-weigh-requires
-weigh-requires c κs = search needs
+weigh-requires c κs = tt
 
 enum-known-v : tie.Need-enum-known-v
 enum-known-v c = search needs
@@ -36,7 +36,7 @@ returns c =
     refused-done (sym (ap saysWeighed (c .enum-told .given .1)) ∙ w .weigh .ensures ∙ written-shows (rule (w .before)) (w .before .pre))
 
 write-requires : tie.Need-write-requires
-write-requires c κs = search needs
+write-requires c κs = tt
 
 weighed : (c : tie.After-v) → c .v .given .0 .0 ≡ rule (c .before .before .before)
 weighed c =

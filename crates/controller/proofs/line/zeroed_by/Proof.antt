@@ -1,4 +1,3 @@
-use borrow.Author.Needs.{needs}
 use borrow.Author.Tests.{eq-eqb, ne-eqb}
 use Rattle.laws.specs.Pick.{pick-true, pick-false}
 use Rattle.controller.specs.Line.{zeroedBy}
@@ -10,7 +9,7 @@ unfolding zeroedBy
 returns c = simp (ne-eqb _ _ (c .if1 .taken), pick-false)
 
 mean-of-requires : tie.Need-mean-of-requires
-mean-of-requires c κs = search needs
+mean-of-requires c κs = tt
 
 returns-2 : tie.Need-returns-2
 unfolding zeroedBy

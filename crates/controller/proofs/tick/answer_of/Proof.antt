@@ -10,7 +10,7 @@ enum-known-dose : tie.Need-enum-known-dose
 enum-known-dose c = search needs
 
 record-of-requires : tie.Need-record-of-requires
-record-of-requires c κs = search needs
+record-of-requires c κs = tt
 
 returns : tie.Need-returns
 unfolding recordsOf

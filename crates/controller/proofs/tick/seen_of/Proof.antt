@@ -1,12 +1,11 @@
-use borrow.Author.Needs.{needs}
 use Rattle.controller.proofs.tick.seen_of.Statement.{statement}
 use Rattle.controller.proofs.tick.seen_of.Tie as tie
 
 weight-requires : tie.Need-weight-requires
-weight-requires c κs = search needs
+weight-requires c κs = c .pre
 
 stable-of-requires : tie.Need-stable-of-requires
-stable-of-requires c κs = search needs
+stable-of-requires c κs = tt
 
 returns : tie.Need-returns
 returns c = rw (c .stable-of .ensures, c .before .weight .ensures)

@@ -1,4 +1,3 @@
-use borrow.Author.Needs.{needs}
 use Rattle.laws.specs.Pick.{so}
 use Rattle.scale.specs.Laws.{inside-within}
 use Rattle.controller.proofs.Steps.{step3-outside, step3-inside}
@@ -6,10 +5,10 @@ use Rattle.controller.proofs.tick.step3.Statement.{statement}
 use Rattle.controller.proofs.tick.step3.Tie as tie
 
 is-outside-requires : tie.Need-is-outside-requires
-is-outside-requires c κs = search needs
+is-outside-requires c κs = tt
 
 faulted-requires : tie.Need-faulted-requires
-faulted-requires c κs = search needs
+faulted-requires c κs = tt
 
 returns : tie.Need-returns
 returns c = let b = c .before in step3-outside _ _ _ (so (b .before .is-outside .ensures) (b .if1 .taken)) (c .faulted .ensures)

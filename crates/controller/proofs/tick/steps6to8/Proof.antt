@@ -4,22 +4,22 @@ use Rattle.controller.proofs.tick.steps6to8.Statement.{statement}
 use Rattle.controller.proofs.tick.steps6to8.Tie as tie
 
 runs-after-requires : tie.Need-runs-after-requires
-runs-after-requires c κs = search needs
+runs-after-requires c κs = tt
 
 reached-requires : tie.Need-reached-requires
-reached-requires c κs = search needs
+reached-requires c κs = tt
 
 enum-known-channel : tie.Need-enum-known-channel
 enum-known-channel c = search needs
 
 faulted-requires : tie.Need-faulted-requires
-faulted-requires c κs = search needs
+faulted-requires c κs = tt
 
 enum-told : tie.Need-enum-told
 enum-told c = search needs
 
 steps7and8-requires : tie.Need-steps7and8-requires
-steps7and8-requires c κs = search needs
+steps7and8-requires c κs = c .before .before .before .before .pre
 
 returns : tie.Need-returns
 returns c =

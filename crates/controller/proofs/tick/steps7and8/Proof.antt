@@ -1,28 +1,27 @@
-use borrow.Author.Needs.{needs}
 use Rattle.controller.proofs.Steps.{steps-7-8}
 use Rattle.controller.proofs.tick.steps7and8.Statement.{statement}
 use Rattle.controller.proofs.tick.steps7and8.Tie as tie
 
 seen-of-requires : tie.Need-seen-of-requires
-seen-of-requires c κs = search needs
+seen-of-requires c κs = c .pre
 
 step-requires : tie.Need-step-requires
-step-requires c κs = search needs
+step-requires c κs = tt
 
 over-capacity-requires : tie.Need-over-capacity-requires
-over-capacity-requires c κs = search needs
+over-capacity-requires c κs = tt
 
 calm-after-requires : tie.Need-calm-after-requires
-calm-after-requires c κs = search needs
+calm-after-requires c κs = tt
 
 counters-after-requires : tie.Need-counters-after-requires
-counters-after-requires c κs = search needs
+counters-after-requires c κs = tt
 
 outputs-of-requires : tie.Need-outputs-of-requires
-outputs-of-requires c κs = search needs
+outputs-of-requires c κs = tt
 
 answer-of-requires : tie.Need-answer-of-requires
-answer-of-requires c κs = search needs
+answer-of-requires c κs = tt
 
 returns : tie.Need-returns
 returns c =
