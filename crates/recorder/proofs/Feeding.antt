@@ -21,7 +21,7 @@ use Rattle.recorder.specs.Keeps.{note-carries}
 use Rattle.recorder.specs.Feed.{Gave, gave, ahead, onNext, feedFrom, feedOf, Feeds}
 use Rattle.recorder.specs.declared.Recorder.{Recorder}
 use Rattle.recorder.specs.declared.Noted.{Noted}
-use Rattle.recorder.proofs.Writing.{put-part, part-length}
+use Rattle.clock.specs.Part.{put-part, part-length}
 
 -- ---- one step
 

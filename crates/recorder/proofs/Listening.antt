@@ -22,13 +22,15 @@ use Rattle.acts.specs.declared.Acted.{Acted}
 use Rattle.acts.specs.declared.Answer as acts
 use Rattle.acts.specs.declared.Answer.the-variants as A
 use Rattle.acts.proofs.Answer.{the-type as answer-type}
-use Rattle.recorder.specs.Recording.{heardTick, heardSaid, heardOf, Note, noteBy, noteOf, boxBy, nextOf}
-use Rattle.recorder.specs.Noting.{Hears, Writes, Notes}
-use Rattle.recorder.specs.declared.Heard.{Heard}
-use Rattle.recorder.specs.declared.Heard.the-variants.{Ticked, Lost, Other}
-use Rattle.recorder.specs.declared.Stage.{Stage}
-use Rattle.recorder.specs.declared.Clock.{Clock}
-use Rattle.recorder.specs.declared.Marked.{Marked}
+use Rattle.clock.specs.Clock.{Note}
+use Rattle.recorder.specs.Recording.{heardTick, heardSaid, heardOf, noteBy, noteOf, boxBy, nextOf}
+use Rattle.clock.specs.Marking.{Writes}
+use Rattle.recorder.specs.Noting.{Hears, Notes}
+use Rattle.clock.specs.declared.Heard.{Heard}
+use Rattle.clock.specs.declared.Heard.the-variants.{Ticked, Lost, Other}
+use Rattle.clock.specs.declared.Stage.{Stage}
+use Rattle.clock.specs.declared.Clock.{Clock}
+use Rattle.clock.specs.declared.Marked.{Marked}
 use Rattle.recorder.specs.declared.Recorder.{Recorder}
 
 -- a tick in a fault is counted

@@ -29,14 +29,17 @@ use Rattle.series.specs.Lines.{amountsOf, hourWith}
 use Rattle.lines.specs.Lines.{linesOf}
 use Rattle.calls.specs.Call.{callOf}
 use Rattle.acts.specs.Acts.{madeBy}
-use Rattle.recorder.specs.Recording.{ticksAnHour, greatestHour, heardOf, Note, note, withStage, withHour, withTicks, withWhole, withKnown, refusalText, refuse, firstOf, doseIn, closing, nextHour, oneMore, counts, restartedBy, lostBy, heardBy, noteBy, noteOf, boxBy, nextOf, startOf, notesOf, recordOf, Runs}
-use Rattle.recorder.specs.Noting.{Writable}
-use Rattle.recorder.specs.Keeps.{made-sound, heard-writable, on-in-range, dose-in-range, ticks-runs, next-runs, restarted-runs, lost-runs}
-use Rattle.recorder.specs.declared.Heard.{Heard}
-use Rattle.recorder.specs.declared.Heard.the-variants.{Ticked, Dosed, Restarted, Lost, Other}
-use Rattle.recorder.specs.declared.Stage.{Stage}
-use Rattle.recorder.specs.declared.Stage.the-variants.{Recording}
-use Rattle.recorder.specs.declared.Clock.{Clock}
+use Rattle.clock.specs.Clock.{ticksAnHour, greatestHour, Note, note, withStage, withHour, withTicks, withWhole, withKnown, refusalText, refuse, firstOf, doseIn, closing, nextHour, oneMore, counts, restartedBy, lostBy, heardBy, Runs}
+use Rattle.recorder.specs.Recording.{heardOf, noteBy, noteOf, boxBy, nextOf, startOf, notesOf, recordOf}
+use Rattle.clock.specs.Clock as clock
+use Rattle.clock.specs.Marking.{Writable}
+use Rattle.clock.specs.Keeps.{on-in-range, dose-in-range, ticks-runs, next-runs, restarted-runs, lost-runs}
+use Rattle.recorder.specs.Keeps.{made-sound, heard-writable}
+use Rattle.clock.specs.declared.Heard.{Heard}
+use Rattle.clock.specs.declared.Heard.the-variants.{Ticked, Dosed, Restarted, Lost, Other}
+use Rattle.clock.specs.declared.Stage.{Stage}
+use Rattle.clock.specs.declared.Stage.the-variants.{Recording}
+use Rattle.clock.specs.declared.Clock.{Clock}
 use Rattle.recorder.specs.declared.Recorder.{Recorder}
 
 -- ---- the lines of an hour
@@ -487,7 +490,7 @@ heardIn s = heardAll freshOf (s .script)
 
 module _ (input : List ℕ) (s : Script input) (ls : List Line) (accepted : journalOf (recordOf input) ≡ done ls) where
   lines-are : ls ≡ linesBy (opens (s .first) true) (heardIn s)
-  unfolding recordOf notesOf nextOf noteOf noteBy boxBy startOf firstOf withStage withHour
+  unfolding recordOf notesOf nextOf noteOf noteBy boxBy startOf clock.startOf firstOf withStage withHour
   lines-are =
       let most = number-only greatestHour (s .line) (s .first) [] (s .hour) .1 in
       let begins : recordOf input ≡ notesOf (with freshOf (opens (s .first) true)) (s .script) =

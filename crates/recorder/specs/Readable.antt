@@ -27,14 +27,17 @@ use Rattle.controller.specs.Sound.{Sound}
 use Rattle.lines.specs.Lines.{linesOf}
 use Rattle.calls.specs.Call.{callOf}
 use Rattle.acts.specs.Acts.{madeBy}
-use Rattle.recorder.specs.Recording.{ticksAnHour, greatestHour, heardOf, Note, note, withStage, withHour, withTicks, withWhole, withKnown, refusalText, refuse, firstOf, doseIn, closing, nextHour, oneMore, counts, restartedBy, lostBy, heardBy, noteBy, noteOf, boxBy, nextOf, startOf, notesOf, recordOf, Runs, Carries}
-use Rattle.recorder.specs.Noting.{Writable}
-use Rattle.recorder.specs.Keeps.{made-sound, heard-writable, on-in-range, dose-in-range, start-carries, note-carries, ticks-runs, next-runs, restarted-runs, lost-runs}
-use Rattle.recorder.specs.declared.Heard.{Heard}
-use Rattle.recorder.specs.declared.Heard.the-variants.{Ticked, Dosed, Restarted, Lost, Other}
-use Rattle.recorder.specs.declared.Stage.{Stage}
-use Rattle.recorder.specs.declared.Stage.the-variants.{Recording, Over}
-use Rattle.recorder.specs.declared.Clock.{Clock}
+use Rattle.clock.specs.Clock.{ticksAnHour, greatestHour, Note, note, withStage, withHour, withTicks, withWhole, withKnown, refusalText, refuse, firstOf, doseIn, closing, nextHour, oneMore, counts, restartedBy, lostBy, heardBy, Runs}
+use Rattle.recorder.specs.Recording.{heardOf, noteBy, noteOf, boxBy, nextOf, startOf, notesOf, recordOf, Carries}
+use Rattle.clock.specs.Clock as clock
+use Rattle.clock.specs.Marking.{Writable}
+use Rattle.clock.specs.Keeps.{on-in-range, dose-in-range, ticks-runs, next-runs, restarted-runs, lost-runs}
+use Rattle.recorder.specs.Keeps.{made-sound, heard-writable, start-carries, note-carries}
+use Rattle.clock.specs.declared.Heard.{Heard}
+use Rattle.clock.specs.declared.Heard.the-variants.{Ticked, Dosed, Restarted, Lost, Other}
+use Rattle.clock.specs.declared.Stage.{Stage}
+use Rattle.clock.specs.declared.Stage.the-variants.{Recording, Over}
+use Rattle.clock.specs.declared.Clock.{Clock}
 use Rattle.recorder.specs.declared.Recorder.{Recorder}
 
 -- ---- the statement
@@ -217,7 +220,7 @@ first-readable c k (good h (b ∷ bs)) ls s = not-first c k ls
 first-readable c k bad ls s = not-first c k ls
 
 lines-readable : (ls : List (List ℕ)) → Readable (notesOf startOf ls)
-unfolding notesOf nextOf noteOf noteBy boxBy startOf
+unfolding notesOf nextOf noteOf noteBy boxBy startOf clock.startOf
 lines-readable [] = readable {h = 0} (no-lines (λ ms. ended))
 lines-readable (l ∷ ls) = first-readable (startOf .controller) (startOf .clock) (numberAt greatestHour l) ls (note-carries startOf l start-carries)
 

@@ -1,12 +1,12 @@
 // From samples to a journal: what each line of a script adds to it.
-mod marks;
-
 use acts::Answer;
 use calls::Call;
+use clock::Clock;
+use clock::Heard;
+use clock::Stage;
 use controller::Controller;
 use controller::RestartAnswer;
 use controller::TickAnswer;
-use counters::Record;
 use lines::Intake;
 use lines::Next;
 ghost use mathlib.Core.Path.{_≡_};
@@ -19,22 +19,6 @@ ghost use Rattle.acts.specs.Makes.{saysAct};
 ghost use Rattle.recorder.specs.Recording.{heardTick, heardRestart, heardSaid, Carries};
 ghost use Rattle.recorder.specs.Noting.{Starts, Hears, Records, Notes};
 ghost use Rattle.recorder.specs.Feed.{Feeds};
-
-// Before the first line, recording, or over after a refusal.
-pub enum Stage {
-    First,
-    Recording,
-    Over,
-}
-
-// The hour, how many of its ticks have come, whether nothing of it was missed so far, and whether the box is known: no line that is no call has come since the last accepted restart.
-pub struct Clock {
-    pub stage: Stage,
-    pub hour: u32,
-    pub ticks: u32,
-    pub whole: bool,
-    pub known: bool,
-}
 
 // What is carried from line to line.
 pub struct Recorder {
@@ -49,21 +33,6 @@ pub struct Fed {
     pub len: usize,
 }
 
-// What a line was: a counted tick, one that completed a dose, an accepted restart, no call, or any other call.
-enum Heard {
-    Ticked,
-    Dosed(Record),
-    Restarted,
-    Lost,
-    Other,
-}
-
-// The next clock, and how many bytes a line added to the journal.
-struct Marked {
-    next: Clock,
-    len: usize,
-}
-
 // The next controller, and what the line was.
 struct Hearing {
     next: Controller,
@@ -76,14 +45,8 @@ struct Noted {
     len: usize,
 }
 
-// Hours 0..9,999,999.
-const GREATEST_HOUR: u32 = 9999999;
-
-// Ticks an hour.
-const TICKS: u32 = 450000;
-
 // So many bytes hold all that a line adds.
-pub const ENOUGH: usize = 64;
+pub const ENOUGH: usize = clock::ENOUGH;
 
 // A tick that is not refused is counted.
 fn heard_tick(answer: TickAnswer) -> Heard
@@ -150,7 +113,7 @@ fn recorded(r: Recorder, line: &[u8], bytes: &mut [u8], reply: &mut [u8], out: &
     let hearing = hear(r.controller, line, bytes, reply);
     let controller = hearing.next;
     let heard = hearing.heard;
-    let marked = marks::by_heard(r.clock, heard, out);
+    let marked = r.clock.heard(heard, out);
     let clock = marked.next;
     Noted {
         next: Recorder { controller, clock },
@@ -169,7 +132,7 @@ fn note(r: Recorder, line: &[u8], bytes: &mut [u8], reply: &mut [u8], out: &mut 
     let stage = clock.stage;
     match stage {
         Stage::First => {
-            let marked = marks::first(clock, line, out);
+            let marked = clock.first(line, out);
             let next = marked.next;
             Noted {
                 next: Recorder { clock: next, ..r },
@@ -238,16 +201,9 @@ impl Recorder {
     pub fn start() -> Recorder
         ensures { λ r. ⌜ Starts r ⌝ }
     {
-        let clock = Clock {
-            stage: Stage::First,
-            hour: 0,
-            ticks: 0,
-            whole: true,
-            known: true,
-        };
         Recorder {
             controller: Controller::fresh(),
-            clock,
+            clock: Clock::start(),
         }
     }
 }

@@ -1,5 +1,6 @@
 // The answers of the box.
 use crate::put;
+use acts::Answer;
 use controller::Fault;
 use controller::RequestAnswer;
 use controller::ResetAnswer;
@@ -30,7 +31,7 @@ fn fault(out: &mut [u8], why: Fault) -> usize {
 }
 
 // O, D, F or R.
-pub(crate) fn tick(out: &mut [u8], answer: TickAnswer) -> usize {
+fn tick(out: &mut [u8], answer: TickAnswer) -> usize {
     match answer {
         TickAnswer::Outputs(outputs) => put::one(out, b'O', outputs as u64),
         TickAnswer::Dose { outputs, record } => dose(out, outputs, record),
@@ -40,7 +41,7 @@ pub(crate) fn tick(out: &mut [u8], answer: TickAnswer) -> usize {
 }
 
 // A, R 3 or R 2 row.
-pub(crate) fn set(out: &mut [u8], answer: SetAnswer) -> usize {
+fn set(out: &mut [u8], answer: SetAnswer) -> usize {
     match answer {
         SetAnswer::Taken => put::bare(out, b'A'),
         SetAnswer::R3 => put::one(out, b'R', 3),
@@ -49,7 +50,7 @@ pub(crate) fn set(out: &mut [u8], answer: SetAnswer) -> usize {
 }
 
 // A or R 3.
-pub(crate) fn reset(out: &mut [u8], answer: ResetAnswer) -> usize {
+fn reset(out: &mut [u8], answer: ResetAnswer) -> usize {
     match answer {
         ResetAnswer::Done => put::bare(out, b'A'),
         ResetAnswer::R3 => put::one(out, b'R', 3),
@@ -57,12 +58,12 @@ pub(crate) fn reset(out: &mut [u8], answer: ResetAnswer) -> usize {
 }
 
 // Q, the count and the total.
-pub(crate) fn counters(out: &mut [u8], kept: Counters) -> usize {
+fn counters(out: &mut [u8], kept: Counters) -> usize {
     put::two(out, b'Q', kept.count as u64, kept.total as u64)
 }
 
 // A, R 2 row or R 15.
-pub(crate) fn restart(out: &mut [u8], answer: RestartAnswer) -> usize {
+fn restart(out: &mut [u8], answer: RestartAnswer) -> usize {
     match answer {
         RestartAnswer::Done => put::bare(out, b'A'),
         RestartAnswer::R2(row) => put::two(out, b'R', 2, row as u64),
@@ -83,5 +84,18 @@ pub(crate) fn reply(out: &mut [u8], answer: RequestAnswer, buffer: &[u8]) -> usi
         RequestAnswer::R3(place) => put::two_shown(out, b'R', 3, place as u64, buffer),
         RequestAnswer::R4(place) => put::two_shown(out, b'R', 4, place as u64, buffer),
         RequestAnswer::R8(place) => put::two_shown(out, b'R', 8, place as u64, buffer),
+    }
+}
+
+// The box's answer without a reply: that of a request, and of a call that needs no box, stands elsewhere.
+pub(crate) fn answer(out: &mut [u8], said: Answer) -> usize {
+    match said {
+        Answer::Tick(ticked) => tick(out, ticked),
+        Answer::Link => put::bare(out, b'A'),
+        Answer::Set(taken) => set(out, taken),
+        Answer::Reset(cleared) => reset(out, cleared),
+        Answer::Counters(kept) => counters(out, kept),
+        Answer::Restart(restarted) => restart(out, restarted),
+        _ => 0,
     }
 }

@@ -102,18 +102,25 @@ fn read_line(out: &mut [u8], bytes: &[u8]) -> usize {
     }
 }
 
-// The answer to a call that needs no box, on its bytes and with a buffer of its room; ? where the line is no call.
+// The answer of a reader, of the weight's writer, and of one hour; ? where the line is no call.
+fn read(out: &mut [u8], call: Call, bytes: &[u8]) -> usize {
+    match call {
+        Call::ReadFrame(_) => read_frame(out, bytes),
+        Call::WriteField(w) => write_field(out, w),
+        Call::ReadField(four) => read_field(out, four),
+        Call::ReadLine(_) => read_line(out, bytes),
+        Call::Hour(_, hour) => hours::ask(out, bytes, hour),
+        _ => put::bare(out, b'?'),
+    }
+}
+
+// The answer to a call that needs no box, on its bytes and with a buffer of its room.
 pub(crate) fn answer(out: &mut [u8], call: Call, bytes: &[u8], buffer: &mut [u8]) -> usize {
     put::blank(buffer);
     match call {
         Call::WriteFrame(_, _) => write_frame(out, bytes, buffer),
-        Call::ReadFrame(_) => read_frame(out, bytes),
-        Call::WriteField(w) => write_field(out, w),
-        Call::ReadField(four) => read_field(out, four),
         Call::WriteLine(line, _) => write_line(out, line, buffer),
-        Call::ReadLine(_) => read_line(out, bytes),
-        Call::Hour(_, hour) => hours::ask(out, bytes, hour),
         Call::Hours(_, _) => hours::print(out, bytes, buffer),
-        _ => put::bare(out, b'?'),
+        _ => read(out, call, bytes),
     }
 }

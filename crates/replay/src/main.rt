@@ -84,16 +84,13 @@ fn put_aside(out: &mut [u8], call: Call, bytes: &[u8], spare: &mut [u8]) -> usiz
 
 // The answer to a call.
 fn put_answer(out: &mut [u8], call: Call, said: Answer, bytes: &[u8], spare: &mut [u8]) -> usize {
-    match said {
-        Answer::Tick(ticked) => answers::tick(out, ticked),
-        Answer::Link => put::bare(out, b'A'),
-        Answer::Set(taken) => answers::set(out, taken),
-        Answer::Reset(cleared) => answers::reset(out, cleared),
-        Answer::Counters(kept) => answers::counters(out, kept),
-        Answer::Restart(restarted) => answers::restart(out, restarted),
-        Answer::Request(replied) => put_reply(out, call, replied, spare),
-        Answer::Aside => put_aside(out, call, bytes, spare),
+    if let Answer::Aside = said {
+        return put_aside(out, call, bytes, spare);
     }
+    if let Answer::Request(replied) = said {
+        return put_reply(out, call, replied, spare);
+    }
+    answers::answer(out, said)
 }
 
 // The answer, and how many bytes of the buffer it has.

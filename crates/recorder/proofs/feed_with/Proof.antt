@@ -6,9 +6,9 @@ use lib.ListN.{length, drop, length-drop}
 use lib.Seq.{length-take-le}
 use Rattle.lines.specs.Intake.{Behind}
 use Rattle.lines.specs.Places.{partOf}
+use Rattle.clock.specs.Part.{part-length}
 use borrow.Author.Needs.{needs}
 use Rattle.recorder.proofs.Feeding.{Feeding, feeding-none, feeding-full, over-fits, behind, taken-line, taken-more}
-use Rattle.recorder.proofs.Writing.{part-length}
 use Rattle.recorder.proofs.feed_with.Statement.{statement}
 use Rattle.recorder.proofs.feed_with.Tie as tie
 

@@ -1,8 +1,9 @@
 use mathlib.Core.Path.{refl}
 use denote.Ref.{now}
 use Rattle.recorder.specs.Recording.{noteBy, boxBy}
-use Rattle.recorder.specs.Noting.{writes-none}
-use Rattle.recorder.specs.declared.Stage.the-variants.{First, Recording, Over}
+use Rattle.clock.specs.Marking.{writes-none}
+use Rattle.clock.specs.Keeps.{opens-writes}
+use Rattle.clock.specs.declared.Stage.the-variants.{First, Recording, Over}
 use Rattle.recorder.proofs.Listening.{notes-by}
 use borrow.Author.Needs.{needs}
 use Rattle.recorder.proofs.note.Statement.{statement}
@@ -28,7 +29,7 @@ same-length c = search needs
 
 returns : tie.Need-returns
 unfolding noteBy boxBy
-returns c = let a = c .before .before .before .before .before .before .before .before .before .before .before .before .before .args in notes-by First (a .r) (now (a .line)) (c .before .before .before .before .before .before .enum-told .given .1) refl (c .before .before .before .before .first .ensures)
+returns c = let a = c .before .before .before .before .before .before .before .before .before .before .before .before .before .args in notes-by First (a .r) (now (a .line)) (c .before .before .before .before .before .before .enum-told .given .1) refl (opens-writes (c .before .before .before .before .before .before .before .before .before .before .before .before .before .pre .1 .1 .2) (c .before .before .before .before .first .ensures))
 
 same-length-2 : tie.Need-same-length-2
 same-length-2 c = search needs

@@ -1,5 +1,6 @@
-use mathlib.Core.Path.{sym, ap, subst}
+use mathlib.Core.Path.{sym, ap₂, subst}
 use Rattle.controller.specs.declared.Controller.{Controller}
+use Rattle.clock.specs.declared.Clock.{Clock}
 use Rattle.recorder.specs.Recording.{startOf, Carries}
 use Rattle.recorder.specs.Keeps.{start-carries}
 use Rattle.recorder.specs.declared.Recorder.{Recorder}
@@ -10,11 +11,14 @@ use Rattle.recorder.proofs.Recorder.start.Tie as tie
 fresh-requires : tie.Need-fresh-requires
 fresh-requires c κs = search needs
 
+start-requires : tie.Need-start-requires
+start-requires c κs = search needs
+
 returns : tie.Need-returns
 unfolding startOf
 returns c =
-    let is = ap {B = Recorder} (λ (b : Controller). record { controller = b; clock = startOf .clock }) (c .fresh .ensures .is) in
+    let is = ap₂ {C = Recorder} (λ (b : Controller) (k : Clock). record { controller = b; clock = k }) (c .before .fresh .ensures .is) (c .start .ensures .is) in
     record { is = is; carries = subst Carries (sym is) start-carries }
 
 pub start-spec : {M : Type 1} → statement M
-start-spec = tie.close (tie.spec fresh-requires returns)
+start-spec = tie.close (tie.spec fresh-requires start-requires returns)

@@ -1,0 +1,187 @@
+-- Lines put into a part of a lent buffer, and what a counted tick writes. Assumes nothing.
+use mathlib.Core.Path.{_≡_, refl, sym, ap, _∙_, subst}
+use mathlib.Core.Bool.{Bool, true, false, _&&_}
+use mathlib.Core.List.{List, [], _∷_, _++_, append-nil}
+use Prim.Native.Nat.{ℕ, _+_, _-_, _≤_, _<_}
+use native.Mathlib.Nat.{add-assoc, add-zero}
+use native.Mathlib.Omega.{arith}
+use types.Run.{OneOf, miss}
+use denote.Enum.Declared.{tagOf}
+use lib.Dec.{eqb}
+use lib.ListN.{length, length-append}
+use lib.Seq.{sets}
+use borrow.Author.Tests.{le-ltb, lt-ltb, eq-eqb, ne-eqb}
+use borrow.Rule.Slice.PartMut.{midOf, putMid}
+use Rattle.laws.specs.Pick.{pick, pick-t, pick-f}
+use Rattle.laws.specs.Over.{sets-append}
+use Rattle.laws.specs.Decimal.{numberAt, decimal, digitsOf, glyph}
+use Rattle.laws.specs.DecimalLaws.{decimal-small}
+use Rattle.paper.specs.Answer.{Answer, done, refused, told, leaves, Fills}
+use Rattle.paper.specs.AnswerLaws.{refused-done}
+use Rattle.journal.specs.Line.{textOf, inRange, writeOf}
+use Rattle.journal.specs.LineLaws.{text-most, write-fits}
+use Rattle.journal.specs.Journal.{journalText}
+use Rattle.journal.specs.declared.Line.{Line}
+use Rattle.journal.specs.declared.Line.the-variants.{On}
+use Rattle.entry.specs.Says.{saysWrote}
+use Rattle.entry.specs.declared.Wrote.{Wrote}
+use Rattle.entry.specs.declared.Wrote.the-variants as W
+use Rattle.clock.specs.Clock.{ticksAnHour, greatestHour, Note, note, refusalText, refuse, firstOf, closing, nextHour, withTicks, oneMore, counts, heardBy, Runs}
+use Rattle.clock.specs.Marking.{Prints, prints-over, Adds, Writable, Writes, writes-as, writes-none, roomed, fitsLine, fitted, Opens, Marks}
+use Rattle.clock.specs.Keeps.{first-runs, heard-runs, roomed-is, roomed-none, fitted-is}
+use Rattle.clock.specs.Part.{put-part, part-length}
+use Rattle.clock.specs.declared.Heard.{Heard}
+use Rattle.clock.specs.declared.Heard.the-variants.{Ticked, Dosed, Restarted, Lost, Other}
+use Rattle.clock.specs.declared.Clock.{Clock}
+use Rattle.clock.specs.declared.Marked.{Marked}
+use Rattle.clock.proofs.Heard.{the-type as heard-type}
+
+-- ---- a line in the part of a buffer from a place on
+
+module _ (old sub : List ℕ) (at : ℕ) (l : Line) (w : Wrote) (range : inRange l ≡ true) (room : at + 27 ≤ length old)
+    (f : Fills (saysWrote w) (writeOf l (length (midOf at (length old - at) old))) (midOf at (length old - at) old) sub) where
+  fits : writeOf l (length (midOf at (length old - at) old)) ≡ done (textOf l)
+  fits = write-fits l _ range (omega (arith, text-most l range, part-length old at))
+
+  -- a line in range is written
+  pub wrote-line : (n : ℕ) → w ≡ W.Line n → Prints 27 old at (textOf l) (putMid at (length old - at) old sub) (at + n)
+  unfolding told leaves
+  wrote-line n e =
+      let says : done n ≡ done (length (textOf l)) = sym (ap saysWrote e) ∙ f .says ∙ ap (told length) fits in
+      let same : n ≡ length (textOf l) = cc in
+      let most = text-most l range in
+      record {
+        left = put-part old at (textOf l) sub (omega arith) (omega arith) (f .left ∙ ap (λ (a : Answer (List ℕ)). leaves a (midOf at (length old - at) old)) fits);
+        next = ap (λ (k : ℕ). at + k) same;
+        short = most;
+      }
+
+  -- and never refused
+  pub wrote-always : {X : Type 0} (m : ℕ) (vs : List ℕ) → saysWrote w ≡ refused m vs → X
+  unfolding told
+  wrote-always m vs e = refused-done (sym e ∙ f .says ∙ ap (told length) fits)
+
+-- ---- a refusal
+
+ten : decimal 10 ≡ 49 ∷ 48 ∷ []
+unfolding decimal digitsOf glyph pick
+ten = refl
+
+refusal-text : (n : ℕ) → n < 10 → refusalText n ≡ 82 ∷ 9 ∷ 49 ∷ 48 ∷ 9 ∷ (48 + n) ∷ 10 ∷ []
+unfolding refusalText
+refusal-text n h =
+    ap (λ (d : List ℕ). 82 ∷ 9 ∷ (decimal 10 ++ 9 ∷ (d ++ 10 ∷ []))) (decimal-small n h)
+    ∙ ap (λ (d : List ℕ). 82 ∷ 9 ∷ (d ++ 9 ∷ (48 + n) ∷ 10 ∷ [])) ten
+
+pub refusal-put : (old : List ℕ) (n : ℕ) → n < 10 → Prints 7 old 0 (refusalText n) (sets old 0 (82 ∷ 9 ∷ 49 ∷ 48 ∷ 9 ∷ (48 + n) ∷ 10 ∷ [])) 7
+refusal-put old n h =
+    let e = refusal-text n h in
+    let size : length (refusalText n) ≡ 7 = ap length e in
+    record { left = ap (sets old 0) (sym e); next = omega (arith, size); short = omega (arith, size) }
+
+pub refuse-writes : {old new : List ℕ} {n : ℕ} {next : Clock} (k : Clock) (line : ℕ) → 64 ≤ length old → next ≡ refuse line k .next → Prints 7 old 0 (refusalText line) new n
+    → Writes (refuse line k) old new (record { next = next; len = n })
+unfolding refuse
+refuse-writes k line h e p = let o = prints-over (omega arith) p in record { next = e; left = o .0; len = o .1 }
+
+-- ---- one tick more
+
+-- nothing is put
+pub adds-none : {next : Clock} {n : Note} (at : ℕ) (old : List ℕ) → n ≡ note next [] → Adds at n old old (record { next = next; len = at })
+adds-none at old e =
+    record {
+      next = sym (ap (λ (m : Note). m .next) e);
+      prints = record { left = ap (λ (m : Note). sets old at (m .text)) (sym e); next = sym (ap (λ (m : Note). at + length (m .text)) e ∙ add-zero at); short = omega (arith, ap (λ (m : Note). length (m .text)) e) };
+    }
+
+pub adds-text : {next : Clock} {n : Note} {at r : ℕ} {old text new : List ℕ} → n ≡ note next text → Prints 27 old at text new r → Adds at n old new (record { next = next; len = r })
+adds-text {next} {n} {at} {r} {old} {text} {new} e p =
+    record {
+      next = sym (ap (λ (m : Note). m .next) e);
+      prints = record { left = p .left ∙ ap (λ (m : Note). sets old at (m .text)) (sym e); next = p .next ∙ ap (λ (m : Note). at + length (m .text)) (sym e); short = omega (arith, p .short, ap (λ (m : Note). length (m .text)) e) };
+    }
+
+pub more-same : (k : Clock) → (k .ticks + 1 ≡ ticksAnHour → ⊥) → oneMore k [] ≡ note (withTicks (k .ticks + 1) k) []
+unfolding oneMore journalText
+more-same k h = pick-f _ _ _ (ne-eqb (k .ticks + 1) ticksAnHour h)
+
+more-next : (k : Clock) → k .ticks + 1 ≡ ticksAnHour → oneMore k [] ≡ note (nextHour k) (journalText (closing k))
+unfolding oneMore
+more-next k h = pick-t _ _ _ (eq-eqb (k .ticks + 1) ticksAnHour h)
+
+pub more-broken : (k : Clock) → k .ticks + 1 ≡ ticksAnHour → (k .whole && k .known) ≡ false → oneMore k [] ≡ note (nextHour k) []
+unfolding closing journalText
+more-broken k h e = more-next k h ∙ ap (λ (ls : List Line). note (nextHour k) (journalText ls)) (pick-f _ _ _ e)
+
+pub more-closed : (k : Clock) → k .ticks + 1 ≡ ticksAnHour → (k .whole && k .known) ≡ true → oneMore k [] ≡ note (nextHour k) (textOf (On (k .hour)))
+unfolding closing journalText
+more-closed k h e = more-next k h ∙ ap (λ (ls : List Line). note (nextHour k) (journalText ls)) (pick-t _ _ _ e) ∙ ap (note (nextHour k)) (append-nil (textOf (On (k .hour))))
+
+-- ---- a counted tick
+
+-- a dose stands before what the tick adds else
+more-dosed : (k : Clock) (d : Line) → oneMore k (d ∷ []) ≡ note (oneMore k [] .next) (textOf d ++ oneMore k [] .text)
+unfolding oneMore journalText pick
+more-dosed k d = go (eqb (k .ticks + 1) ticksAnHour)
+  where
+    go : (b : Bool) → pick b (note (nextHour k) (textOf d ++ journalText (closing k))) (note (withTicks (k .ticks + 1) k) (textOf d ++ []))
+        ≡ note (pick b (note (nextHour k) (journalText (closing k))) (note (withTicks (k .ticks + 1) k) []) .next) (textOf d ++ pick b (note (nextHour k) (journalText (closing k))) (note (withTicks (k .ticks + 1) k) []) .text)
+    go true = refl
+    go false = refl
+
+counts-more : (k : Clock) (doses : List Line) → k .hour ≤ greatestHour → counts k doses ≡ oneMore k doses
+unfolding counts
+counts-more k doses h = pick-f _ _ _ (le-ltb greatestHour (k .hour) h)
+
+pub counts-refuses : (k : Clock) (doses : List Line) → greatestHour < k .hour → counts k doses ≡ refuse 0 k
+unfolding counts
+counts-refuses k doses h = pick-t _ _ _ (lt-ltb greatestHour (k .hour) h)
+
+pub ticked-writes : {old new : List ℕ} {r : Marked} (k : Clock) → k .hour ≤ greatestHour → 64 ≤ length old → Adds 0 (oneMore k []) old new r → Writes (counts k []) old new r
+ticked-writes k h room a =
+    let o = prints-over (omega arith) (a .prints) in
+    writes-as (counts-more k [] h) (record { next = a .next; left = o .0; len = o .1 })
+
+pub dosed-writes : {old mid new : List ℕ} {q : ℕ} {r : Marked} (k : Clock) (d : Line) → k .hour ≤ greatestHour → 64 ≤ length old
+    → Prints 27 old 0 (textOf d) mid q → Adds q (oneMore k []) mid new r → Writes (counts k (d ∷ [])) old new r
+dosed-writes {old} {mid} {new} {q} {r} k d h room p a =
+    let more = oneMore k [] .text in
+    let both : Prints 54 old 0 (textOf d ++ more) new (r .len) =
+    record {
+      left = a .prints .left ∙ ap (λ (x : List ℕ). sets x q more) (p .left) ∙ ap (λ (n : ℕ). sets (sets old 0 (textOf d)) n more) (p .next) ∙ sym (sets-append old 0 (textOf d) more);
+      next = a .prints .next ∙ ap (λ (n : ℕ). n + length more) (p .next) ∙ add-assoc 0 (length (textOf d)) (length more) ∙ ap (λ (n : ℕ). 0 + n) (sym (length-append (textOf d) more));
+      short = omega (arith, length-append (textOf d) more, p .short, a .prints .short);
+    } in
+    let o = prints-over (omega arith) both in
+    writes-as (counts-more k (d ∷ []) h ∙ more-dosed k d) (record { next = a .next; left = o .0; len = o .1 })
+
+-- ---- the calls
+
+-- a line that is no dose fits
+pub other-fits : (h : Heard) → OneOf (0 ∷ 2 ∷ 3 ∷ 4 ∷ []) (tagOf heard-type h) → true ≡ fitsLine h
+unfolding fitsLine
+other-fits Ticked e = refl
+other-fits (Dosed d) e = absurd (miss (0 ∷ 2 ∷ 3 ∷ 4 ∷ []) 1 tt e)
+other-fits Restarted e = refl
+other-fits Lost e = refl
+other-fits Other e = refl
+
+module _ {old : List ℕ} (k : Clock) (runs : Runs k) where
+  stays : (n : Note) → length old < 64 → Writes (roomed (length old) k n) old old (record { next = k; len = 0 })
+  stays n room = writes-none (sym (roomed-none (length old) k n room))
+
+  pub opens-none : (line : List ℕ) → length old < 64 → Opens k line old old (record { next = k; len = 0 })
+  opens-none line room = record { writes = stays _ room; runs = runs }
+
+  pub opens-first : {new : List ℕ} {r : Marked} (line : List ℕ) → 64 ≤ length old → Writes (firstOf k (numberAt greatestHour line)) old new r → Opens k line old new r
+  opens-first line room w = record { writes = writes-as (roomed-is (length old) k _ room) w; runs = subst Runs (sym (w .next)) (first-runs k line runs) }
+
+  pub marks-none : (h : Heard) → length old < 64 → Marks k h old old (record { next = k; len = 0 })
+  marks-none h room = record { writes = stays _ room; runs = runs }
+
+  pub marks-unfit : (h : Heard) → 64 ≤ length old → fitsLine h ≡ false → Marks k h old old (record { next = k; len = 0 })
+  unfolding fitted
+  marks-unfit h room e = record { writes = writes-none (sym (roomed-is (length old) k _ room ∙ pick-f _ _ _ e)); runs = runs }
+
+  pub marks-heard : {new : List ℕ} {r : Marked} (h : Heard) → 64 ≤ length old → Writable h → Writes (heardBy k h) old new r → Marks k h old new r
+  marks-heard h room f w = record { writes = writes-as (roomed-is (length old) k _ room ∙ fitted-is k h f) w; runs = subst Runs (sym (w .next)) (heard-runs k h runs) }

@@ -1,0 +1,125 @@
+-- What every line keeps: a clock within its bounds, and lines that can be written. Assumes nothing.
+use mathlib.Core.Path.{_≡_, refl, sym, _∙_}
+use mathlib.Core.Bool.{true, false}
+use mathlib.Core.List.{List, [], _∷_}
+use Prim.Native.Nat.{ℕ, _+_, _≤_, _<_}
+use native.Mathlib.Omega.{arith}
+use lib.Dec.{eqb, ltb}
+use lib.ListN.{length}
+use borrow.Author.Tests.{eqb-false, ltb-false, le-leb, lt-leb}
+use Rattle.laws.specs.Pick.{pick-t, pick-f, pick-if}
+use Rattle.laws.specs.Decimal.{Parsed, good, bad, numberAt}
+use Rattle.laws.specs.DecimalLaws.{number-only}
+use Rattle.journal.specs.Line.{inRange, within, mostOfD, mostOfH}
+use Rattle.journal.specs.LineLaws.{dose-range}
+use Rattle.journal.specs.declared.Line.{Line}
+use Rattle.journal.specs.declared.Line.the-variants.{On}
+use Rattle.counters.specs.declared.Record.{Record}
+use Rattle.counters.specs.Laws.{Recordable}
+use Rattle.clock.specs.Clock.{ticksAnHour, greatestHour, startOf, Note, note, withStage, withHour, withTicks, withWhole, withKnown, refuse, firstOf, doseIn, nextHour, oneMore, counts, restartedBy, lostBy, heardBy, Runs}
+use Rattle.clock.specs.Marking.{Writable, Writes, writes-as, roomed, fitsLine, fitted, Opens, Marks}
+use Rattle.clock.specs.declared.Heard.{Heard}
+use Rattle.clock.specs.declared.Heard.the-variants.{Ticked, Dosed, Restarted, Lost, Other}
+use Rattle.clock.specs.declared.Clock.{Clock}
+use Rattle.clock.specs.declared.Marked.{Marked}
+
+-- ---- lines in range
+
+pub on-in-range : (h : ℕ) → h ≤ greatestHour → inRange (On h) ≡ true
+unfolding inRange within mostOfH
+on-in-range h m = rw (le-leb h greatestHour m)
+
+pub dose-in-range : (h : ℕ) (d : Record) → h ≤ greatestHour → Recordable d → inRange (doseIn h d) ≡ true
+unfolding inRange within mostOfD doseIn
+dose-in-range h d m k =
+    rw (le-leb h greatestHour m, le-leb (d .count) 999999 (k .count), le-leb (d .amount) 1800000 (k .amount), le-leb (d .settled) 1 (k .settled))
+
+-- a dose that can be written is within the ranges of a D line, and the other way about
+pub writable-fits : (h : Heard) → Writable h → fitsLine h ≡ true
+unfolding fitsLine
+writable-fits Ticked w = refl
+writable-fits (Dosed d) w = dose-in-range 0 d (omega arith) w
+writable-fits Restarted w = refl
+writable-fits Lost w = refl
+writable-fits Other w = refl
+
+pub fits-writable : (h : Heard) → fitsLine h ≡ true → Writable h
+unfolding fitsLine doseIn
+fits-writable Ticked e = tt
+fits-writable (Dosed d) e = let r = dose-range 0 (d .count) (d .amount) (d .settled) e in record { count = r .1; amount = r .2; settled = r .3 }
+fits-writable Restarted e = tt
+fits-writable Lost e = tt
+fits-writable Other e = tt
+
+-- ---- the clock
+
+pub start-runs : Runs startOf
+unfolding startOf
+start-runs = record { ticks = omega arith; hour = omega arith }
+
+refuse-runs : (n : ℕ) (k : Clock) → Runs k → Runs (refuse n k .next)
+unfolding refuse withStage
+refuse-runs n k s = record { ticks = s .ticks; hour = s .hour }
+
+number-runs : (k : Clock) (p : Parsed ℕ) → Runs k → ((h : ℕ) (rest : List ℕ) → p ≡ good h rest → h ≤ greatestHour) → Runs (firstOf k p .next)
+unfolding firstOf withStage withHour
+number-runs k (good h []) s most = record { ticks = s .ticks; hour = omega (arith, most h [] refl) }
+number-runs k (good h (b ∷ bs)) s most = refuse-runs 1 k s
+number-runs k bad s most = refuse-runs 1 k s
+
+-- one tick more of an hour, and the hour that follows
+pub ticks-runs : (k : Clock) → Runs k → eqb (k .ticks + 1) ticksAnHour ≡ false → Runs (withTicks (k .ticks + 1) k)
+unfolding withTicks
+ticks-runs k s e = let d = eqb-false (k .ticks + 1) ticksAnHour e in record { ticks = omega (arith, s .ticks, d); hour = s .hour }
+
+pub next-runs : (k : Clock) → k .hour ≤ greatestHour → Runs (nextHour k)
+unfolding nextHour withWhole withTicks withHour
+next-runs k h = record { ticks = omega arith; hour = omega arith }
+
+counts-runs : (k : Clock) (doses : List Line) → Runs k → Runs (counts k doses .next)
+unfolding counts oneMore
+counts-runs k doses s =
+    pick-if (λ (n : Note). Runs (n .next)) (ltb greatestHour (k .hour))
+    (λ e. refuse-runs 0 k s)
+    (λ e. pick-if (λ (n : Note). Runs (n .next)) (eqb (k .ticks + 1) ticksAnHour) (λ f. next-runs k (ltb-false greatestHour (k .hour) e)) (λ f. ticks-runs k s f))
+
+pub restarted-runs : (k : Clock) → Runs k → Runs (restartedBy k)
+unfolding restartedBy withKnown withWhole
+restarted-runs k s = record { ticks = s .ticks; hour = s .hour }
+
+pub lost-runs : (k : Clock) → Runs k → Runs (lostBy k)
+unfolding lostBy withKnown withWhole
+lost-runs k s = record { ticks = s .ticks; hour = s .hour }
+
+pub heard-runs : (k : Clock) (h : Heard) → Runs k → Runs (heardBy k h .next)
+unfolding heardBy
+heard-runs k Ticked s = counts-runs k _ s
+heard-runs k (Dosed d) s = counts-runs k _ s
+heard-runs k Restarted s = restarted-runs k s
+heard-runs k Lost s = lost-runs k s
+heard-runs k Other s = s
+
+-- the first line is a number of at most 9,999,999 or none
+pub first-runs : (k : Clock) (l : List ℕ) → Runs k → Runs (firstOf k (numberAt greatestHour l) .next)
+first-runs k l s = number-runs k (numberAt greatestHour l) s (λ h rest e. number-only greatestHour l h rest e .1)
+
+-- ---- with room for a line
+
+pub roomed-is : (room : ℕ) (k : Clock) (n : Note) → 64 ≤ room → roomed room k n ≡ n
+unfolding roomed
+roomed-is room k n h = pick-t _ _ _ (le-leb 64 room h)
+
+pub roomed-none : (room : ℕ) (k : Clock) (n : Note) → room < 64 → roomed room k n ≡ note k []
+unfolding roomed
+roomed-none room k n h = pick-f _ _ _ (lt-leb 64 room h)
+
+-- and with a dose that can be written, the call does what the line adds
+pub fitted-is : (k : Clock) (h : Heard) → Writable h → fitted k h ≡ heardBy k h
+unfolding fitted
+fitted-is k h w = pick-t _ _ _ (writable-fits h w)
+
+pub opens-writes : {k : Clock} {line old new : List ℕ} {r : Marked} → 64 ≤ length old → Opens k line old new r → Writes (firstOf k (numberAt greatestHour line)) old new r
+opens-writes {k} {old = old} room o = writes-as (sym (roomed-is (length old) k _ room)) (o .writes)
+
+pub marks-writes : {k : Clock} {h : Heard} {old new : List ℕ} {r : Marked} → 64 ≤ length old → Writable h → Marks k h old new r → Writes (heardBy k h) old new r
+marks-writes {k} {h} {old} room w m = writes-as (sym (roomed-is (length old) k _ room ∙ fitted-is k h w)) (m .writes)

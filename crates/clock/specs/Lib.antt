@@ -1,0 +1,5 @@
+pub mod Clock
+pub mod Marking
+pub mod Keeps
+pub mod Part
+pub mod Cases
