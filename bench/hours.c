@@ -1,12 +1,12 @@
-/* The hour program in C: one pass over the journal, one tally an hour. */
+/* The hour program in C: one pass over the journal, one tally an hour, the hours of each hole marked. */
 #include <stdbool.h>
 #include "text.h"
 
-enum { ROOM = 65536, SPAN = 744 };
+enum { ROOM = 65536, SPAN = 744, LAST_COUNT = 999999 };
 
 struct tally {
     uint32_t doses;
-    bool on;
+    bool on, holed;
     uint64_t sum;
 };
 
@@ -32,8 +32,8 @@ static size_t read_all(void)
     return n;
 }
 
-/* The line at p: its letter, hour and amount; the place after its LF, or NULL. */
-static const unsigned char *line_at(const unsigned char *p, uint64_t *hour, uint64_t *amount)
+/* The line at p: its letter, hour, count and amount; the place after its LF, or NULL. */
+static const unsigned char *line_at(const unsigned char *p, uint64_t *hour, uint64_t *count, uint64_t *amount)
 {
     uint64_t other;
     bool dose = *p == 'D';
@@ -42,7 +42,7 @@ static const unsigned char *line_at(const unsigned char *p, uint64_t *hour, uint
     if (!(p = field(p + 1, 9999999, hour)))
         return NULL;
     if (dose) {
-        if (!(p = field(p, 999999, &other)))
+        if (!(p = field(p, LAST_COUNT, count)))
             return NULL;
         if (!(p = field(p, 1800000, amount)))
             return NULL;
@@ -50,6 +50,12 @@ static const unsigned char *line_at(const unsigned char *p, uint64_t *hour, uint
             return NULL;
     }
     return *p == '\n' ? p + 1 : NULL;
+}
+
+/* By one, 0 after 999,999; a 1 is always allowed. */
+static bool follows(uint64_t before, uint64_t count)
+{
+    return count == 1 || count == (before == LAST_COUNT ? 0 : before + 1);
 }
 
 static void put_hex(uint64_t bits)
@@ -63,7 +69,7 @@ static void put_hour(unsigned hour, const struct tally *t)
     room();
     put_number(hour);
     put('\t');
-    if (!t->on) {
+    if (t->holed || !t->on) {
         put('X');
     } else if (!t->doses) {
         put('I');
@@ -84,13 +90,14 @@ int main(void)
 {
     size_t n = read_all();
     const unsigned char *p = in, *end = in + n;
-    uint64_t hour = 0, first = 0, last = 0, amount = 0;
-    bool closed = false;
+    uint64_t hour = 0, first = 0, last = 0, count = 0, amount = 0;
+    uint64_t dose_hour = 0, dose_count = 0;
+    bool closed = false, dosed = false;
     if (n > ROOM)
         refuse(13, 0);
     for (unsigned line = 1; p < end; line++) {
         bool dose = *p == 'D';
-        if (!(p = line_at(p, &hour, &amount)))
+        if (!(p = line_at(p, &hour, &count, &amount)))
             refuse(10, line);
         if (line == 1)
             first = last = hour;
@@ -101,6 +108,12 @@ int main(void)
         if (dose) {
             hours[hour - first].doses++;
             hours[hour - first].sum += amount;
+            if (dosed && !follows(dose_count, count))
+                for (uint64_t h = dose_hour; h <= hour; h++)
+                    hours[h - first].holed = true;
+            dosed = true;
+            dose_hour = hour;
+            dose_count = count;
         } else {
             hours[hour - first].on = true;
         }

@@ -106,6 +106,30 @@ def month(size):
     return b''.join(lines)
 
 
+def holes(size):
+    """The same month, with a hole at every D line but the first."""
+    lines, count = [], 0
+    for line in month(size).splitlines(keepends=True):
+        cells = line.split(b'\t')
+        if cells[0] == b'D':
+            count += 2
+            cells[2] = b'%06d' % (500000 + count)
+        lines.append(b'\t'.join(cells))
+    return b''.join(lines)
+
+
+def one_hole(size):
+    """A hole over all hours: as many D lines before and behind it as there is room for."""
+    rng = random.Random(SEED)
+    hours, first = 744 * size // JOURNAL, 123456
+    between = b''.join(map(journals.h, range(first, first + hours)))
+    each = (size - len(between)) // 2 // 27
+    before = [dose(rng, first, n) for n in range(100000, 100000 + each)]
+    behind = [dose(rng, first + hours - 1, n) for n in range(200000, 200000 + each)]
+    last = journals.h(first + hours - 1)
+    return b''.join(before) + between[:-len(last)] + b''.join(behind) + last
+
+
 def one_hour(size):
     rng = random.Random(SEED)
     lines = [dose(rng, 123456, n) for n in range(size // 20)]
@@ -116,14 +140,14 @@ def made(name, tenth):
     size = lambda full: full // 10 if tenth else full
     program, kind = name.split('-')
     if program == 'hours':
-        return {'month': month, 'hour': one_hour}[kind](size(JOURNAL))
+        return {'month': month, 'hour': one_hour, 'holes': holes, 'hole': one_hole}[kind](size(JOURNAL))
     if kind == 'line':
         return line(size(LINE))
     s = {'al1': AL1, 'al2': AL2}[kind]
     return as_calls(s, ticks(s, size(TICKS)))
 
 
-NAMES = ['replay-al1', 'replay-al2', 'replay-line', 'hours-month', 'hours-hour']
+NAMES = ['replay-al1', 'replay-al2', 'replay-line', 'hours-month', 'hours-hour', 'hours-holes', 'hours-hole']
 
 
 def main(folder):

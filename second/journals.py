@@ -68,16 +68,67 @@ def dense(rng):
 
 def exact(rng, size=journal.LONGEST):
     """A good journal of exactly so many bytes, in one hour."""
-    hour = rng.randint(100, 999)
+    hour, count = rng.randint(100, 999), rng.randint(100000, 990000)
     text, longest, left = b'', 23, size - len(h(hour))
-    while left > 3 * longest:
-        text += d(hour, rng.randint(0, 999999), rng.randint(0, 1800000))
-        left = size - len(h(hour)) - len(text)
-    for part in (left // 3, left // 3, left - 2 * (left // 3)):
-        digits = part - 10          # of count and amount together
-        count = min(6, digits - 1)
-        text += d(hour, 10 ** count - 1, 10 ** (digits - count - 1))
+    while left > 4 * longest:
+        text += d(hour, count, rng.randint(0, 1800000))
+        left, count = size - len(h(hour)) - len(text), count + 1
+    for n in range(4, 0, -1):
+        digits = left // n - len(d(hour, count, 0)) + 1
+        text += d(hour, count, 10 ** (digits - 1))
+        left, count = size - len(h(hour)) - len(text), count + 1
     return text + h(hour)
+
+
+# Counts that follow and counts that do not.
+
+def next_count(rng, count):
+    """Most follow, by one or with a 1; some are skipped, stand still, go back,
+    or are 0 or 999,999."""
+    follow = (count + 1) % 1000000
+    return rng.choice([follow] * 12 + [
+        1, 1, 0, 999999, count, (count + 2) % 1000000, (count + 4) % 1000000,
+        (count - 1) % 1000000, rng.randint(0, 999999)])
+
+
+def holed(rng):
+    """Few hours, some of them without a line, and counts of every kind."""
+    lines, hour = [], rng.choice([0, 10, rng.randint(0, 9999900)])
+    count = rng.choice([0, 1, 5, 999997, 999999])
+    for _ in range(rng.randint(1, 10)):
+        for _ in range(rng.choice([0, 0, 1, 2, 4])):
+            lines.append(d(hour, count, rng.randint(0, 999), rng.randint(0, 1)))
+            count = next_count(rng, count)
+        if rng.random() < 0.8:
+            lines.append(h(hour))
+        hour += rng.choice([1, 1, 1, 2, 3])
+    return b''.join(lines)
+
+
+def lost(rng):
+    """A good journal that lost a run of lines: the mill's cable."""
+    lines = of_hours(rng, rng.randint(0, 99), rng.randint(2, 12), 5)
+    at = rng.randint(0, len(lines))
+    return b''.join(lines[:at] + lines[at + rng.randint(1, 4):])
+
+
+def holes_everywhere(rng):
+    """No count follows: hundreds of hours, the doses parted by most of them."""
+    lines, hour, count = [], rng.randint(0, 9999000), 500000
+    for _ in range(rng.randint(700, 744)):
+        for _ in range(rng.choice([0, 1, rng.randint(0, 9)])):
+            lines.append(d(hour, count, rng.randint(0, 1800000)))
+            count = (count + rng.randint(2, 9)) % 1000000
+        lines.append(h(hour))
+        hour += 1
+    return cut(lines)
+
+
+def one_hole(rng):
+    """744 hours, the first and the last dose not in a row, an H each."""
+    first = rng.randint(0, 9999256)
+    inner = b''.join(map(h, range(first, first + 743)))
+    return d(first, 7, 5) + inner + d(first + 743, 9, 5) + h(first + 743)
 
 
 def over(rng):
@@ -86,7 +137,8 @@ def over(rng):
 
 
 GOOD = {'small': small, 'empty': empty, 'one': one, 'large': large,
-        'month': month, 'dense': dense, 'exact': exact}
+        'month': month, 'dense': dense, 'exact': exact, 'holed': holed,
+        'lost': lost, 'holes-everywhere': holes_everywhere, 'one-hole': one_hole}
 
 # What is wrong with a line; %d is an hour that fits its place.
 BAD_LINES = {
@@ -183,7 +235,8 @@ for _kind in BAD_LINES:
 KINDS = dict(GOOD, **BAD)
 # Those that fit a line of `replay`.
 SHORT = [kind for kind in KINDS
-         if kind not in ('large', 'month', 'dense', 'exact', 'over')]
+         if kind not in ('large', 'month', 'dense', 'exact', 'over',
+                         'holes-everywhere', 'one-hole')]
 
 
 def make(rng, kind=None):

@@ -3,13 +3,13 @@ compares what they print, byte by byte:
 
 python3 tests/compare.py                            some of each
 python3 tests/compare.py replay [SEEDS [LINES]]     scripts of so many lines
-python3 tests/compare.py journals [SEEDS]           29 journals a seed
+python3 tests/compare.py journals [SEEDS]           33 journals a seed
 python3 tests/compare.py record [SEEDS [HOURS]]     hours of ticks, and their hours
 
 Each runs the stored cases first, then input from the seeds 1 to SEEDS. The
 journals are of every kind that the generator knows: small and empty ones, the
-largest (65,536 bytes), a month (744 hours), thousands of doses in one hour, one
-byte too many, and every kind of malformed line. For `record` a seed gives a
+largest (65,536 bytes), a month (744 hours), thousands of doses in one hour,
+holes in the counts, one byte too many, and every kind of malformed line. For `record` a seed gives a
 weigher at work, hours with something at their ends, eight hours around lines
 that are no call, a script of every call after a first hour, and first lines
 that are no hour. What `record` prints goes through `hours` too.

@@ -842,6 +842,13 @@ def journal_case():
             text = b''.join(d(7, n, amount) for n, amount in enumerate(amounts))
             case.say('u', text + h(7), 7)
             case.say('j', text + h(7) + h(9), 90)
+    case.head('counts that follow and counts that do not: W1')
+    for text in holes().values():
+        spoken = [int(cells.split(b'\t')[1]) for cells in text.splitlines()]
+        for hour in sorted({spoken[0] - 1, spoken[-1] + 1, *spoken[:9]} - {-1}):
+            case.say('u', text, hour)
+        if spoken[-1] - spoken[0] < 99:
+            case.say('j', text, 400)
     case.save('journal.replay')
 
 
@@ -977,28 +984,80 @@ def journals_cases():
           d(12, 3, 250, 0) + h(13))
     rng = random.Random(7)
     write('month.journal', b''.join(journals.of_hours(rng, 4000, 40, 6)) +
-          d(4743, 7, 1800000) + d(4743, 8, 0, 0) + h(4743))
+          d(4743, 1, 1800000) + d(4743, 2, 0, 0) + h(4743))
     write('refused-10.journal', d(10, 1, 500) + h(10) + b'H\t011\n' + h(3))
     write('refused-11.journal', d(10, 1, 500) + h(10) + d(10, 2, 500) + b'x\n')
     write('refused-12.journal', d(10, 1, 500) + h(753) + d(754, 2, 5) + h(3))
     write('no-lf.journal', d(10, 1, 500) + b'H\t10')
     write('empty.journal', b'')
+    for name, text in holes().items():
+        write('hole-%s.journal' % name, text)
+
+
+def of_counts(text):
+    """A journal by its hours: `10 1 2 H` is hour 10 with doses 1 and 2 and an
+    H."""
+    made = b''
+    for hour in text.split(','):
+        hour, *cells = hour.split()
+        for n, cell in enumerate(cells):
+            made += journals.h(int(hour)) if cell == 'H' else \
+                journals.d(int(hour), int(cell), 100 + n)
+    return made
+
+
+def holes():
+    """Counts that do not follow, and counts that do, by what they show."""
+    return {name: of_counts(text) for name, text in {
+        'in-one-hour': '10 1 2 6 7 H, 11 8 H, 12 H',
+        'in-one-hour-without-h': '10 1 5, 11 6 H',
+        'at-an-hour-border': '9 H, 10 1 2 H, 11 4 5 H, 12 6 H',
+        'at-a-border-without-h': '10 1 2, 11 4 5 H, 12 6 H',
+        'across-idle-hours': '10 1 H, 11 H, 12 H, 13 3 H, 14 H, 15 4 H',
+        'across-missing-hours': '9 H, 10 1 H, 14 3 H, 15 H',
+        'over-a-missing-hour': '10 1 H, 11 H, 13 H, 14 3 H, 15 4 H',
+        'none-across-idle-hours': '10 1 H, 11 H, 13 H, 14 2 H',
+        'at-the-wrap': '10 999998 H, 11 0 H, 12 1 H',
+        'over-the-wrap': '10 999999 H, 11 2 H, 12 3 H',
+        'none-at-the-wrap': '10 999998 999999 H, 11 0 1 H, 12 2 H',
+        'none-after-a-reset': '10 7 8 1 2 H, 11 1 H, 12 H, 13 2 H',
+        'none-where-1-comes-twice': '10 1 1 H, 11 1 H, 12 2 H',
+        'none-where-1-comes-late': '10 999999 1 H, 11 2 H, 12 500 H, 13 1 H, 14 2 H',
+        'of-2-after-a-lost-1': '10 7 H, 11 2 H, 12 3 H',
+        'of-0': '10 0 H, 11 5 H, 12 0 H, 13 1 H, 14 0 H, 15 0 H, 16 1 H',
+        'none-at-the-first-dose': '9 H, 10 500 H, 11 501 H',
+        'none-at-a-first-0': '10 0 1 H',
+        'at-the-second-line': '10 500 502 H, 11 503 H',
+        'at-the-last-line': '10 1 H, 11 2 H, 12 4',
+        'at-both-ends': '10 1 3 H, 11 4 H, 12 6',
+        'twice-in-a-row': '10 1 H, 11 3 H, 12 5 H, 13 6 H',
+        'and-its-far-end': '10 1 H, 11 5 H, 12 6 H, 13 7 H',
+        'and-the-count-before-it': '10 1 H, 11 5 H, 12 2 H, 13 3 H',
+        'of-an-equal-count': '9 4 H, 10 5 H, 11 5 H, 12 6 H',
+        'of-a-count-gone-back': '9 4 H, 10 5 H, 11 4 H, 12 5 H',
+        'of-a-count-far-back': '9 699 H, 10 700 H, 11 3 H, 12 4 H',
+        'after-another': '10 1 3 H, 11 4 H, 12 5 H, 13 7 H, 14 8 H',
+        'over-all-hours': '0 1 H, 1 H, 743 3 H',
+    }.items()}
 
 
 def largest_journal():
     """What `hours` gets in the gate: 65,536 bytes, 744 hours, every kind of
-    hour. The last hour's doses take what is left, one of them a shorter line."""
+    hour, some of them in a hole. The last hour's doses take what is left, one
+    of them a shorter line."""
     d, h, rng = journals.d, journals.h, random.Random(11)
     text, count = b'', 990000
     for hour in range(9999256, 9999999):
         for _ in range(0 if hour % 7 == 3 else rng.randint(1, 5)):
-            count += 1
+            count += 2 if hour % 50 == 1 else 1
             text += d(hour, count, rng.randint(1000000, 1800000), count % 2)
         if hour % 11 != 5:
             text += h(hour)
     left = 65536 - len(text) - len(h(9999999))
     whole, rest = divmod(left, len(d(9999999, count, 1800000)))
-    text += d(9999999, count, 10 ** (rest - 21)) + d(9999999, count, 1800000) * whole
+    text += d(9999999, count + 1, 10 ** (rest - 21))
+    for n in range(whole):
+        text += d(9999999, count + 2 + n, 1800000)
     with open(os.path.join(ROOT, 'crates', 'hours', 'stdin'), 'wb') as file:
         file.write(text + h(9999999))
 

@@ -1,4 +1,4 @@
-"""Checks of the second implementation, from document 01 and docs/REPLAY.md:
+"""Checks of the second implementation, from documents 01 and 02 and docs/REPLAY.md:
 python3 tests/second_test.py"""
 
 import io
@@ -140,11 +140,45 @@ def journal_checks():
     same('D', journal.write('D', (10, 1, 500, 1), 64), b'D\t10\t1\t500\t1\n')
     same('third', hours.bits(hours.mean([0, 0, 1])), '3FD5555555555555')
     same('outside', hours.one(example, 9), ('X',))
+    hole_checks()
     for kind in journals.BAD_LINES:
         for line in journals.BAD_LINES[kind]:
             line = line % 20 if '%' in line else line
             data = b'H\t10\n' + line.encode('latin-1') + b'H\t30\n'
             same(kind, hours.printed(data), b'R\t10\t2\n')
+
+
+# The kinds of the hours of each stored hole, from first to last.
+HOLES = {
+    'in-one-hour': 'XMI', 'in-one-hour-without-h': 'XM',
+    'at-an-hour-border': 'IXXM', 'at-a-border-without-h': 'XXM',
+    'across-idle-hours': 'XXXXIM', 'across-missing-hours': 'IXXXXXI',
+    'over-a-missing-hour': 'XXXXXM', 'none-across-idle-hours': 'MIXIM',
+    'at-the-wrap': 'XXM', 'over-the-wrap': 'XXM', 'none-at-the-wrap': 'MMM',
+    'none-after-a-reset': 'MMIM', 'none-where-1-comes-twice': 'MMM',
+    'none-where-1-comes-late': 'MXXMM', 'of-2-after-a-lost-1': 'XXM',
+    'of-0': 'XXXXXXM', 'none-at-the-first-dose': 'IMM', 'none-at-a-first-0': 'M',
+    'at-the-second-line': 'XM', 'at-the-last-line': 'MXX', 'at-both-ends': 'XXX',
+    'twice-in-a-row': 'XXXM', 'and-its-far-end': 'XXMM',
+    'and-the-count-before-it': 'XXXM', 'of-an-equal-count': 'MXXM',
+    'of-a-count-gone-back': 'MXXM', 'of-a-count-far-back': 'MXXM',
+    'after-another': 'XMXXM', 'over-all-hours': 'X' * 744,
+}
+
+
+def hole_checks():
+    """Document 02, W1, by hand."""
+    for name, wanted in HOLES.items():
+        printed = hours.printed(case('hole-%s.journal' % name)).decode()
+        same('hole ' + name, ''.join(row.split('\t')[1] for row in printed.splitlines()),
+             wanted)
+    stored = {name for name in os.listdir(CASES) if name.startswith('hole-')}
+    same('holes', stored, {'hole-%s.journal' % name for name in HOLES})
+    for before, count in ((0, 1), (5, 6), (999998, 999999), (999999, 0), (7, 1), (1, 1)):
+        same('follows', hours.follows(before, count), True)
+    for before, count in ((5, 5), (5, 7), (5, 4), (5, 0), (999999, 999999), (999998, 0),
+                          (999999, 2), (0, 0), (1, 0)):
+        same('does not follow', hours.follows(before, count), False)
 
 
 def replay_checks():

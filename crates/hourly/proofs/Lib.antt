@@ -1,3 +1,4 @@
 pub mod Tallying
+pub mod Marking
 pub mod Passing
 pub mod Among

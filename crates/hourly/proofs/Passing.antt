@@ -16,15 +16,21 @@ use Rattle.journal.specs.LineLaws.{Stands, text-only, text-least}
 use Rattle.journal.specs.Journal.{hourIn, outOfOrder, tooFar, noPast, pastAfter, ordered, journalOf, firstHour, lastHour}
 use Rattle.journal.specs.JournalLaws.{linesFrom, journal-lines, told-none, told-bad, told-good, order-broken, order-far, order-kept}
 use Rattle.journal.specs.declared.Line.{Line}
+use Rattle.journal.specs.declared.Line.the-variants.{Dose, On}
 use Rattle.journal.specs.declared.Past.{Past}
 use Rattle.journal.specs.declared.Refusal.{Refusal}
 use Rattle.journal.specs.Says.{saysRefusal, refusal-done, refusal-told}
 use Rattle.hourly.specs.Accepted.{InRange, Ranged}
-use Rattle.hourly.specs.Tally.{outside, noTally, counted, summaryOf, Tells, acceptedAfter, refusedBy}
+use Rattle.hourly.specs.Holes.{doseBefore}
+use Rattle.hourly.specs.HoleLaws.{lastDose, last-dose-more}
+use Rattle.hourly.specs.Tally.{outside, noTally, counted, summaryOf, Unmarked, Marks, Placed, AddsHole, Sets, Tells, acceptedAfter, refusedBy}
 use Rattle.hourly.specs.Contracts.{Counts}
+use Rattle.hourly.specs.declared.Before.{Before}
+use Rattle.hourly.specs.declared.Before.the-variants.{Nothing, At}
 use Rattle.hourly.specs.declared.Tally.{Tally}
 use Rattle.hourly.specs.declared.Tallied.{Tallied}
-use Rattle.hourly.proofs.Tallying.{tells-none, tells-start, tells-more, old-few}
+use Rattle.hourly.proofs.Tallying.{unmarked-none, unmarked-start, unmarked-more, old-few}
+use Rattle.hourly.proofs.Marking.{marks-none, marks-start, marks-more, sets-tell}
 
 -- whether there is a line
 abbrev some : List Line → Bool
@@ -50,8 +56,12 @@ ranged-more : (ls : List Line) (l : Line) → Ranged ls → InRange l → Ranged
 ranged-more [] l r i = (i, tt)
 ranged-more (m ∷ ls) l r i = (r .0, ranged-more ls l (r .1) i)
 
--- n lines are taken: what they say of the hours is past, table holds their tallies, and the journal is they and the lines from `at` on
-pub record Passed (s : List ℕ) (past : Past) (at n : ℕ) (table : List Tally) : Type 0 where
+-- the D line before the next is of no earlier hour than the first line's
+abbrev Later : ℕ → Before → Type 0
+Later first before = (x c : ℕ) → before ≡ At x c → first ≤ x
+
+-- n lines are taken: what they say of the hours is past, table holds their tallies, holed the hours of their holes, before is the last D line of them, and the journal is they and the lines from `at` on
+pub record Passed (s : List ℕ) (past : Past) (at n : ℕ) (table : List Tally) (holed : List Bool) (before : Before) : Type 0 where
   pub lines : List Line
   pub number : length lines ≡ n
   pub inside : at ≤ length s
@@ -62,7 +72,10 @@ pub record Passed (s : List ℕ) (past : Past) (at n : ℕ) (table : List Tally)
   pub first : past .first ≡ firstHour lines
   pub last : past .last ≡ lastHour lines
   pub order : past .first ≤ past .last
-  pub tells : Tells table (past .first) lines
+  pub tallies : Unmarked table (past .first) lines
+  pub marks : Marks holed (past .first) lines
+  pub dosed : before ≡ lastDose Nothing lines
+  pub later : Later (past .first) before
 
 told-id : {A : Type 0} (a : Answer A) → told (λ x. x) a ≡ a
 unfolding told
@@ -71,11 +84,11 @@ told-id (refused n vs) = refl
 told-id (fault n vs) = refl
 
 -- before the first line
-pub passed-none : (s : List ℕ) (past : Past) (table : List Tally) → length s ≤ 65536 → past ≡ noPast → table ≡ replicate 744 noTally → Passed s past 0 0 table
-unfolding noPast firstHour lastHour
-passed-none s past table h p e = subst (λ (q : Past). Passed s q 0 0 table) (sym p) start
+pub passed-none : (s : List ℕ) (past : Past) (table : List Tally) (holed : List Bool) → length s ≤ 65536 → past ≡ noPast → table ≡ replicate 744 noTally → holed ≡ replicate 744 false → Passed s past 0 0 table holed Nothing
+unfolding noPast firstHour lastHour lastDose
+passed-none s past table holed h p e f = subst (λ (q : Past). Passed s q 0 0 table holed Nothing) (sym p) start
   where
-    start : Passed s noPast 0 0 table
+    start : Passed s noPast 0 0 table holed Nothing
     start =
         record {
           lines = [];
@@ -88,15 +101,20 @@ passed-none s past table h p e = subst (λ (q : Past). Passed s q 0 0 table) (sy
           first = refl;
           last = refl;
           order = omega arith;
-          tells = tells-start table 0 e;
+          tallies = unmarked-start table 0 e;
+          marks = marks-start holed 0 f;
+          dosed = refl;
+          later = λ x c q. let z : _≡_ {A = ℕ} 0 1 = cc in absurd (omega arith);
         }
 
--- the line whose turn it is, of this hour, leaves after: it has a place in the table, and is counted in there
-pub record Turn (s : List ℕ) (after : Past) (n : ℕ) (table : List Tally) (l : Line) (hour next : ℕ) : Type 0 where
+-- the line whose turn it is, of this hour, leaves after: it has a place in the table, is counted in there, and the hours of its hole are marked
+pub record Turn (s : List ℕ) (after : Past) (n : ℕ) (table : List Tally) (holed : List Bool) (before : Before) (l : Line) (hour next : ℕ) : Type 0 where
   pub low : after .first ≤ hour
   pub high : hour - after .first < 744
   pub few : getD table (hour - after .first) outside .doses < 16384
-  pub again : Passed s after next (n + 1) (set table (hour - after .first) (counted (getD table (hour - after .first) outside) l))
+  pub placed : Placed holed (after .first) before l
+  pub again : (new : List Bool) (last : Before) → AddsHole holed (after .first) before l new → last ≡ doseBefore before l
+      → Passed s after next (n + 1) (set table (hour - after .first) (counted (getD table (hour - after .first) outside) l)) new last
 
 -- an hour in order is among the 744 from the first on
 near : (begun closed : Bool) (first last h : ℕ) → first ≤ last → (begun && outOfOrder last closed h) ≡ false → (begun && tooFar first h) ≡ false
@@ -107,11 +125,23 @@ near true false first last h o b f = (omega (arith, ltb-false h last b), omega (
 near false closed first last h o b f = (omega arith, omega arith)
 
 -- the first line's hour is the table's first
-tells-from : (table : List Tally) (begun : Bool) (first h : ℕ) (ls : List Line) → begun ≡ some ls → Tells table first ls → Tells table (pick begun first h) ls
+first-from : (P : ℕ → List Line → Type 0) → ((f g : ℕ) → P f [] → P g []) → (begun : Bool) (first h : ℕ) (ls : List Line) → begun ≡ some ls → P first ls → P (pick begun first h) ls
 unfolding pick
-tells-from table true first h ls e t = t
-tells-from table false first h [] e t = tells-none table first h t
-tells-from table false first h (l ∷ ls) e t = false-true e
+first-from P none true first h ls e t = t
+first-from P none false first h [] e t = none first h t
+first-from P none false first h (l ∷ ls) e t = false-true e
+
+-- and no D line's is earlier
+later-from : (begun : Bool) (first h : ℕ) (before : Before) (ls : List Line) → begun ≡ some ls → before ≡ lastDose Nothing ls → Later first before → Later (pick begun first h) before
+unfolding pick lastDose
+later-from true first h before ls e d t = t
+later-from false first h before [] e d t = λ x c q. let z : _≡_ {A = ℕ} 0 1 = cc in absurd (omega arith)
+later-from false first h before (l ∷ ls) e d t = false-true e
+
+later-next : (first : ℕ) (before last : Before) (l : Line) → Later first before → first ≤ hourIn l → last ≡ doseBefore before l → Later first last
+unfolding doseBefore hourIn
+later-next first before last (Dose y d a s) t h e x c q = let z : y ≡ x = cc in omega arith
+later-next first before last (On y) t h e x c q = t x c (sym e ∙ q)
 
 -- ---- what the pass answers
 
@@ -126,7 +156,7 @@ counts-refused s t r e j =
       none = λ q f. refl;
     })
 
-module _ {s : List ℕ} {past : Past} {at n : ℕ} {table : List Tally} (p : Passed s past at n table) where
+module _ {s : List ℕ} {past : Past} {at n : ℕ} {table : List Tally} {holed : List Bool} {before : Before} (p : Passed s past at n table holed before) where
   -- the last line is taken
   ended : length s ≤ at → journalOf s ≡ done (p .lines)
   ended h =
@@ -135,13 +165,13 @@ module _ {s : List ℕ} {past : Past} {at n : ℕ} {table : List Tally} (p : Pas
       ∙ told-none (λ (ms : List Line). p .lines ++ ms) past (n + 1)
       ∙ ap done (append-nil (p .lines))
 
-  pub counts-all : length s ≤ at → Counts s (acceptedAfter n past table)
+  pub counts-all : length s ≤ at → (all : List Tally) → Sets table holed all → Counts s (acceptedAfter n past all)
   unfolding told summaryOf acceptedAfter
-  counts-all h =
+  counts-all h all t =
       let e = ended h in
       record {
         judged = rw (sym (p .number), p .first, p .last) refl ∙ sym (ap (told summaryOf) e);
-        tells = λ ls d. let q : p .lines ≡ ls = cc in subst (λ (ms : List Line). Tells table (firstHour ms) ms) q (subst (λ (f : ℕ). Tells table f (p .lines)) (p .first) (p .tells));
+        tells = λ ls d. let q : p .lines ≡ ls = cc in subst (λ (ms : List Line). Tells all (firstHour ms) ms) q (subst (λ (f : ℕ). Tells all f (p .lines)) (p .first) (sets-tell table all holed (past .first) (p .lines) (p .tallies) (p .marks) t));
         none = λ r f. let z : _≡_ {A = ℕ} 0 1 = cc in absurd (omega arith);
       }
 
@@ -176,18 +206,21 @@ module _ {s : List ℕ} {past : Past} {at n : ℕ} {table : List Tally} (p : Pas
         omega (arith, ap length o, length-append (textOf l) (drop next s), text-least l, length-drop at s, length-drop next s, w .inside)
 
     -- it has a place in the table, and is counted in there
-    placed-in : length s ≤ 65536 → back ≡ false → far ≡ false → Turn s (pastAfter past l) n table l (hourIn l) next
+    placed-in : length s ≤ 65536 → back ≡ false → far ≡ false → Turn s (pastAfter past l) n table holed before l (hourIn l) next
     unfolding pastAfter
     placed-in h b f =
         let q = near (past .begun) (past .closed) (past .first) (past .last) (hourIn l) (p .order) b f in
-        let t = tells-from table (past .begun) (past .first) (hourIn l) (p .lines) (p .begun) (p .tells) in
+        let t = first-from (Unmarked table) (unmarked-none table) (past .begun) (past .first) (hourIn l) (p .lines) (p .begun) (p .tallies) in
+        let m = first-from (Marks holed) (marks-none holed) (past .begun) (past .first) (hourIn l) (p .lines) (p .begun) (p .marks) in
+        let d = later-from (past .begun) (past .first) (hourIn l) before (p .lines) (p .begun) (p .dosed) (p .later) in
         let o = text-only (drop at s) l (drop next s) (w .line) .range in
         let first = pick (past .begun) (past .first) (hourIn l) in
         record {
           low = q .0;
           high = q .1;
           few = omega (arith, old-few (p .lines) first table l t (q .0) (q .1) (p .ranged), p .number, p .few, w .onward, w .inside);
-          again =
+          placed = record { size = m .size; low = q .0; high = q .1; earlier = d };
+          again = λ new last a e.
               record {
                 lines = p .lines ++ l ∷ [];
                 number = omega (arith, length-append (p .lines) (l ∷ []), p .number);
@@ -199,9 +232,12 @@ module _ {s : List ℕ} {past : Past} {at n : ℕ} {table : List Tally} (p : Pas
                 first = ap (λ (x : Bool). pick x (past .first) (hourIn l)) (p .begun) ∙ ap (λ (x : ℕ). pick (some (p .lines)) x (hourIn l)) (p .first) ∙ sym (first-more (p .lines) l);
                 last = sym (last-more (p .lines) l);
                 order = q .0;
-                tells = tells-more (p .lines) first table l t (q .0) (q .1) (p .ranged) o (omega (arith, p .number, p .few, w .onward, w .inside));
+                tallies = unmarked-more (p .lines) first table l t (q .0) (q .1) (p .ranged) o (omega (arith, p .number, p .few, w .onward, w .inside));
+                marks = marks-more holed new first (p .lines) l m (subst (λ (x : Before). AddsHole holed first x l new) (p .dosed) a);
+                dosed = e ∙ ap (λ (x : Before). doseBefore x l) (p .dosed) ∙ sym (last-dose-more Nothing (p .lines) l);
+                later = later-next first before last l d (q .0) e;
               };
         }
 
-    pub turn : (after : Past) (hour : ℕ) → after ≡ pastAfter past l → hour ≡ hourIn l → length s ≤ 65536 → back ≡ false → far ≡ false → Turn s after n table l hour next
+    pub turn : (after : Past) (hour : ℕ) → after ≡ pastAfter past l → hour ≡ hourIn l → length s ≤ 65536 → back ≡ false → far ≡ false → Turn s after n table holed before l hour next
     turn after hour a e h b f = rw (a, e) (placed-in h b f)

@@ -1,6 +1,6 @@
 -- One line more, and what it does to the tally of each hour. Assumes nothing.
 use mathlib.Core.Path.{_≡_, refl, sym, ap, _∙_}
-use mathlib.Core.Bool.{Bool, true, _||_, or-true, or-false, or-assoc}
+use mathlib.Core.Bool.{Bool, true, false, _||_, or-true, or-false, or-assoc}
 use mathlib.Core.List.{List, [], _∷_, _++_, append-assoc, append-nil}
 use Prim.Native.Nat.{ℕ, _+_, _-_, _^_, _≤_, _<_, max}
 use native.Mathlib.Omega.{arith}
@@ -15,10 +15,10 @@ use Rattle.journal.specs.Journal.{hourIn}
 use Rattle.journal.specs.LineLaws.{dose-range}
 use Rattle.journal.specs.declared.Line.{Line}
 use Rattle.journal.specs.declared.Line.the-variants.{Dose, On}
-use Rattle.hourly.specs.Hours.{doseAt, amountsAt, isOn, hasOn, total, greatest, asF64}
+use Rattle.hourly.specs.Hours.{doseAt, amountsAt, isOn, hasOn, total, greatest}
 use Rattle.hourly.specs.Accepted.{Ranged}
 use Rattle.hourly.specs.Bounds.{modest}
-use Rattle.hourly.specs.Tally.{outside, noTally, withDose, withOn, counted, tallyOf, Tells}
+use Rattle.hourly.specs.Tally.{outside, noTally, withDose, withOn, counted, tallyBy, unmarkedOf, Unmarked}
 use Rattle.hourly.specs.declared.Tally.{Tally}
 use Rattle.hourly.specs.Floats.{add-whole}
 
@@ -44,22 +44,18 @@ unfolding greatest
 greatest-more [] a = omega arith
 greatest-more (x ∷ xs) a = omega (arith, greatest-more xs a)
 
--- the tally of an hour with these amounts
-abbrev tallyBy : List ℕ → Bool → Tally
-tallyBy amounts on = record { doses = length amounts; sum = asF64 (total amounts); largest = greatest amounts; on = on }
-
-tally-is : (ls : List Line) (h : ℕ) (amounts : List ℕ) (on : Bool) → amountsAt h ls ≡ amounts → hasOn h ls ≡ on → tallyOf ls h ≡ tallyBy amounts on
-unfolding tallyOf
+tally-is : (ls : List Line) (h : ℕ) (amounts : List ℕ) (on : Bool) → amountsAt h ls ≡ amounts → hasOn h ls ≡ on → unmarkedOf ls h ≡ tallyBy amounts on false
+unfolding unmarkedOf
 tally-is ls h amounts on a o = rw (a, o)
 
 -- one amount more is added up exactly
-dose-more : (amounts : List ℕ) (on : Bool) (a : ℕ) → total amounts ≤ 2 ^ 53 → a ≤ 2 ^ 53 → tallyBy (amounts ++ a ∷ []) on ≡ withDose (tallyBy amounts on) a
+dose-more : (amounts : List ℕ) (on : Bool) (a : ℕ) → total amounts ≤ 2 ^ 53 → a ≤ 2 ^ 53 → tallyBy (amounts ++ a ∷ []) on false ≡ withDose (tallyBy amounts on false) a
 unfolding withDose
 dose-more amounts on a h k = rw (length-append amounts (a ∷ []), total-more amounts a, greatest-more amounts a, sym (add-whole (total amounts) a h k))
 
 -- a line of the hour is counted in
-pub tally-here : (ls : List Line) (l : Line) → Ranged ls → inRange l ≡ true → length ls ≤ 16384 → tallyOf (ls ++ l ∷ []) (hourIn l) ≡ counted (tallyOf ls (hourIn l)) l
-unfolding tallyOf counted withOn hourIn doseAt isOn
+pub tally-here : (ls : List Line) (l : Line) → Ranged ls → inRange l ≡ true → length ls ≤ 16384 → unmarkedOf (ls ++ l ∷ []) (hourIn l) ≡ counted (unmarkedOf ls (hourIn l)) l
+unfolding unmarkedOf counted withOn hourIn doseAt isOn
 tally-here ls (Dose x c a s) r i n =
     let m = modest x ls r in
     tally-is (ls ++ Dose x c a s ∷ []) x (amountsAt x ls ++ a ∷ []) (hasOn x ls)
@@ -72,8 +68,8 @@ tally-here ls (On x) r i n =
     (on-more x ls (On x) ∙ ap (λ (b : Bool). hasOn x ls || b) (eq-eqb x x refl) ∙ or-true (hasOn x ls))
 
 -- a line of another hour is not
-pub tally-there : (ls : List Line) (l : Line) (h : ℕ) → (hourIn l ≡ h → ⊥) → tallyOf (ls ++ l ∷ []) h ≡ tallyOf ls h
-unfolding tallyOf hourIn doseAt isOn
+pub tally-there : (ls : List Line) (l : Line) (h : ℕ) → (hourIn l ≡ h → ⊥) → unmarkedOf (ls ++ l ∷ []) h ≡ unmarkedOf ls h
+unfolding unmarkedOf hourIn doseAt isOn
 tally-there ls (Dose x c a s) h d =
     tally-is (ls ++ Dose x c a s ∷ []) h (amountsAt h ls) (hasOn h ls)
     (amounts-more h ls (Dose x c a s) ∙ ap (λ (d : List ℕ). amountsAt h ls ++ d) (pick-f (eqb x h) (a ∷ []) [] (ne-eqb x h d)) ∙ append-nil (amountsAt h ls))
@@ -86,16 +82,16 @@ tally-there ls (On x) h d =
 -- ---- a table with one line more
 
 -- an hour of no line has no tally, whatever the first
-pub tells-none : (table : List Tally) (f g : ℕ) → Tells table f [] → Tells table g []
-unfolding tallyOf amountsAt total greatest hasOn
-tells-none table f g t = record { size = t .size; at = λ k b. t .at k b }
+pub unmarked-none : (table : List Tally) (f g : ℕ) → Unmarked table f [] → Unmarked table g []
+unfolding unmarkedOf amountsAt total greatest hasOn
+unmarked-none table f g t = record { size = t .size; at = λ k b. t .at k b }
 
-pub tells-start : (table : List Tally) (first : ℕ) → table ≡ replicate 744 noTally → Tells table first []
-unfolding noTally tallyOf amountsAt total greatest hasOn
-tells-start table first e =
+pub unmarked-start : (table : List Tally) (first : ℕ) → table ≡ replicate 744 noTally → Unmarked table first []
+unfolding noTally unmarkedOf amountsAt total greatest hasOn
+unmarked-start table first e =
     record { size = ap length e ∙ length-replicate 744 noTally; at = λ k b. ap (λ (t : List Tally). getD t k outside) e ∙ getD-replicate 744 k noTally outside b }
 
-module _ (ls : List Line) (first : ℕ) (table : List Tally) (l : Line) (tells : Tells table first ls) (low : first ≤ hourIn l) (high : hourIn l - first < 744) where
+module _ (ls : List Line) (first : ℕ) (table : List Tally) (l : Line) (holds : Unmarked table first ls) (low : first ≤ hourIn l) (high : hourIn l - first < 744) where
   abbrev pub spot : ℕ
   spot = hourIn l - first
 
@@ -103,27 +99,27 @@ module _ (ls : List Line) (first : ℕ) (table : List Tally) (l : Line) (tells :
   abbrev pub after : List Tally
   after = set table spot (counted (getD table spot outside) l)
 
-  old : getD table spot outside ≡ tallyOf ls (hourIn l)
-  old = tells .at spot high ∙ ap (tallyOf ls) (omega arith)
+  old : getD table spot outside ≡ unmarkedOf ls (hourIn l)
+  old = holds .at spot high ∙ ap (unmarkedOf ls) (omega arith)
 
   pub old-few : Ranged ls → getD table spot outside .doses ≤ length ls
-  unfolding tallyOf
+  unfolding unmarkedOf
   old-few ranged =
       let e : getD table spot outside .doses ≡ length (amountsAt (hourIn l) ls) = ap (λ (t : Tally). t .doses) old in
       omega (arith, modest (hourIn l) ls ranged .few)
 
-  pub tells-more : Ranged ls → inRange l ≡ true → length ls ≤ 16384 → Tells after first (ls ++ l ∷ [])
-  tells-more ranged range few = record { size = length-set table spot _ ∙ tells .size; at = λ k b. go k b (ℕ-discrete (hourIn l) (first + k)) }
+  pub unmarked-more : Ranged ls → inRange l ≡ true → length ls ≤ 16384 → Unmarked after first (ls ++ l ∷ [])
+  unmarked-more ranged range few = record { size = length-set table spot _ ∙ holds .size; at = λ k b. go k b (ℕ-discrete (hourIn l) (first + k)) }
     where
-      go : (k : ℕ) → k < 744 → Dec (hourIn l ≡ first + k) → getD after k outside ≡ tallyOf (ls ++ l ∷ []) (first + k)
+      go : (k : ℕ) → k < 744 → Dec (hourIn l ≡ first + k) → getD after k outside ≡ unmarkedOf (ls ++ l ∷ []) (first + k)
       go k b (yes e) =
           let p : spot ≡ k = omega arith in
           ap (λ (i : ℕ). getD after i outside) (sym p)
-          ∙ getD-set-same table spot (counted (getD table spot outside) l) outside (omega (arith, tells .size))
+          ∙ getD-set-same table spot (counted (getD table spot outside) l) outside (omega (arith, holds .size))
           ∙ ap (λ (t : Tally). counted t l) old
           ∙ sym (tally-here ls l ranged range few)
-          ∙ ap (tallyOf (ls ++ l ∷ [])) e
+          ∙ ap (unmarkedOf (ls ++ l ∷ [])) e
       go k b (no e) =
           getD-set-other table spot k (counted (getD table spot outside) l) outside (λ p. e (omega arith))
-          ∙ tells .at k b
+          ∙ holds .at k b
           ∙ sym (tally-there ls l (first + k) e)

@@ -8,7 +8,7 @@ use native.Mathlib.Omega.{arith}
 use lib.Dec.{leb, eqb}
 use lib.ListN.{length, length-append}
 use borrow.Author.Tests.{le-leb, ne-eqb}
-use Rattle.laws.specs.Pick.{pick, pick-t, pick-all, pick-false}
+use Rattle.laws.specs.Pick.{pick, pick-t, pick-all, pick-false, pick-same}
 use Rattle.laws.specs.Decimal.{decimal, hexOf}
 use Rattle.laws.specs.DecimalLaws.{decimal-length, hex-length}
 use Rattle.paper.specs.Answer.{done, refused, onDone, inRoom}
@@ -20,6 +20,7 @@ use Rattle.journal.specs.JournalLaws.{Each, hour-range}
 use Rattle.journal.specs.Order.{Within}
 use Rattle.journal.specs.declared.Line.{Line}
 use Rattle.journal.specs.declared.Line.the-variants.{Dose, On}
+use Rattle.hourly.specs.Holes.{inHole, holeFrom}
 use Rattle.hourly.specs.Hours.{HourAnswer, missing, doseAt, amountsAt, isOn, hasOn, total, greatest, measuredOrIdle, hourOf}
 use Rattle.hourly.specs.Text.{Row, rowM, rowI, rowX, letterM, letterI, letterX, rowFrom, rowOf, rowText, rowsOf, rowsText, hoursFrom, spanOf, hoursText, printOf}
 use Rattle.hourly.specs.Accepted.{Ranged, Accepted, accepted}
@@ -40,12 +41,12 @@ outside-off whole (On x ∷ ls) h o w = rw (ne-eqb x h (apart (firstHour whole) 
 -- an hour before the first line's or after the last line's is missing
 pub outside-missing : {s : List ℕ} (ls : List Line) (h : ℕ) → Accepted s ls → (h < firstHour ls) ⊎ (lastHour ls < h) → hourOf ls h ≡ missing
 unfolding hourOf
-outside-missing ls h a o = rw (outside-off ls ls h o (a .within)) (pick-false _ _)
+outside-missing ls h a o = rw (outside-off ls ls h o (a .within), pick-false (measuredOrIdle (amountsAt h ls)) missing) (pick-same (inHole h ls) missing)
 
 -- of an empty journal every hour is missing
 pub empty-missing : (h : ℕ) → hourOf [] h ≡ missing
-unfolding hourOf hasOn
-empty-missing h = pick-false _ _
+unfolding hourOf inHole holeFrom hasOn pick
+empty-missing h = refl
 
 -- ---- what an hour's lines come to
 
@@ -100,9 +101,12 @@ row-short h (rowM doses sum bits) a b =
 row-short h rowI a b = omega (arith, decimal-length 7 h a (omega arith), idle-length h)
 row-short h rowX a b = omega (arith, decimal-length 7 h a (omega arith), missing-length h)
 
+abbrev ShortOf : List ℕ → HourAnswer → Type 0
+ShortOf amounts x = RowShort (rowFrom x amounts)
+
 row-of-short : (h : ℕ) (ls : List Line) → length (amountsAt h ls) < 100000 → total (amountsAt h ls) < 100000000000 → RowShort (rowOf ls h)
 unfolding rowOf hourOf rowFrom measuredOrIdle
-row-of-short h ls d t = pick-all (λ (x : HourAnswer). RowShort (rowFrom x (amountsAt h ls))) (hasOn h ls) (either (amountsAt h ls) d t) tt
+row-of-short h ls d t = pick-all (ShortOf (amountsAt h ls)) (inHole h ls) tt (pick-all (ShortOf (amountsAt h ls)) (hasOn h ls) (either (amountsAt h ls) d t) tt)
   where
     either : (amounts : List ℕ) → length amounts < 100000 → total amounts < 100000000000 → RowShort (rowFrom (measuredOrIdle amounts) amounts)
     either [] d t = tt

@@ -13,6 +13,7 @@ use Rattle.laws.specs.Pick.{pick}
 use Rattle.paper.specs.Answer.{Answer, done, refused, fault, told}
 use Rattle.journal.specs.Journal.{journalOf}
 use Rattle.journal.specs.declared.Line.{Line}
+use Rattle.hourly.specs.Holes.{inHole}
 use Rattle.hourly.specs.Hours.{HourAnswer, measured, idle, missing, amountsAt, hasOn, total, greatest, asF64, sumOf, largestOf, meanOf, measuredOrIdle, hourOf, askOf}
 use Rattle.hourly.specs.Accepted.{Accepted, accepted}
 use Rattle.hourly.specs.Bounds.{modest}
@@ -37,12 +38,13 @@ record Figured (amounts : List ℕ) (s l m : Float) : Type 0 where
 
 measured-figures : (ls : List Line) (h : ℕ) (s l m : Float) → hourOf ls h ≡ measured s l m → Figured (amountsAt h ls) s l m
 unfolding hourOf measuredOrIdle pick
-measured-figures ls h s l m = go (hasOn h ls) (amountsAt h ls)
+measured-figures ls h s l m = go (inHole h ls) (hasOn h ls) (amountsAt h ls)
   where
-    go : (on : Bool) (amounts : List ℕ) → pick on (measuredOrIdle amounts) missing ≡ measured s l m → Figured amounts s l m
-    go true [] e = let z : _≡_ {A = ℕ} 0 1 = cc in absurd (omega arith)
-    go true (a ∷ as') e = record { sum = cc; largest = cc; mean = cc; some = omega arith }
-    go false amounts e = let z : _≡_ {A = ℕ} 0 1 = cc in absurd (omega arith)
+    go : (hole on : Bool) (amounts : List ℕ) → pick hole missing (pick on (measuredOrIdle amounts) missing) ≡ measured s l m → Figured amounts s l m
+    go true on amounts e = let z : _≡_ {A = ℕ} 0 1 = cc in absurd (omega arith)
+    go false true [] e = let z : _≡_ {A = ℕ} 0 1 = cc in absurd (omega arith)
+    go false true (a ∷ as') e = record { sum = cc; largest = cc; mean = cc; some = omega arith }
+    go false false amounts e = let z : _≡_ {A = ℕ} 0 1 = cc in absurd (omega arith)
 
 -- so it is of every measured hour of an accepted journal
 pub figures-exact : {b : List ℕ} (ls : List Line) (h : ℕ) (s l m : Float) → Accepted b ls → hourOf ls h ≡ measured s l m → Exact (amountsAt h ls) s l m

@@ -1,4 +1,4 @@
--- An hour's answer (document 01, "Journal and hours"). Assumes nothing.
+-- An hour's answer (document 01, "Journal and hours", and document 02, W1). Assumes nothing.
 use mathlib.Core.Bool.{Bool, false, _||_}
 use mathlib.Core.List.{List, [], _∷_, _++_}
 use Prim.Native.Nat.{ℕ, _+_, max}
@@ -11,6 +11,7 @@ use Rattle.paper.specs.Answer.{Answer, told}
 use Rattle.journal.specs.Journal.{journalOf}
 use Rattle.journal.specs.declared.Line.{Line}
 use Rattle.journal.specs.declared.Line.the-variants.{Dose, On}
+use Rattle.hourly.specs.Holes.{inHole}
 
 -- A measured hour carries its sum, largest amount and mean as f64; an idle and a missing one carry none
 pub data HourAnswer : Type 0 where
@@ -65,9 +66,9 @@ unfoldable pub measuredOrIdle : List ℕ → HourAnswer
 measuredOrIdle [] = idle
 measuredOrIdle (a ∷ as') = measured (sumOf (a ∷ as')) (largestOf (a ∷ as')) (meanOf (a ∷ as'))
 
--- without an H it is missing, whatever D lines it has
+-- Where the count does not follow, every hour from the earlier D line's hour to the later one's is missing, H lines or not; else without an H it is missing, whatever D lines it has
 unfoldable pub hourOf : List Line → ℕ → HourAnswer
-hourOf ls h = pick (hasOn h ls) (measuredOrIdle (amountsAt h ls)) missing
+hourOf ls h = pick (inHole h ls) missing (pick (hasOn h ls) (measuredOrIdle (amountsAt h ls)) missing)
 
 -- the hour of a journal's bytes, or the journal's refusal
 unfoldable pub askOf : List ℕ → ℕ → Answer HourAnswer

@@ -9,10 +9,11 @@ use lib.Dec.{eqb}
 use lib.ListN.{length}
 use lib.Ieee.{binary64, toBits}
 use borrow.Author.Tests.{eqb-true, eq-eqb}
-use Rattle.laws.specs.Pick.{pick}
+use Rattle.laws.specs.Pick.{pick, pick-t, pick-f}
 use Rattle.laws.specs.Whole.{false-true}
 use Rattle.journal.specs.declared.Line.{Line}
 use Rattle.journal.specs.declared.Line.the-variants.{Dose, On}
+use Rattle.hourly.specs.Holes.{inHole}
 use Rattle.hourly.specs.Hours.{missing, doseAt, amountsAt, isOn, hasOn, total, meanOf, measuredOrIdle, hourOf}
 use Rattle.hourly.specs.Text.{Row, rowM, rowI, rowX, rowFrom, rowOf}
 
@@ -20,57 +21,76 @@ use Rattle.hourly.specs.Text.{Row, rowM, rowI, rowX, rowFrom, rowOf}
 abbrev pub Exactly : Type 0 → Type 0 → Type 0
 Exactly a b = (a → b) × (b → a)
 
--- what is printed of an hour that has an H or has none, with the amounts of its D lines
-abbrev rowBy : Bool → List ℕ → Row
-rowBy on amounts = rowFrom (pick on (measuredOrIdle amounts) missing) amounts
+-- what is printed of an hour that lies in a hole or in none, has an H or has none, with the amounts of its D lines
+abbrev rowBy : Bool → Bool → List ℕ → Row
+rowBy hole on amounts = rowFrom (pick hole missing (pick on (measuredOrIdle amounts) missing)) amounts
 
--- an hour prints I exactly if the journal has its H and no D of it
-pub idle-exactly : (ls : List Line) (h : ℕ) → Exactly (rowOf ls h ≡ rowI) ((hasOn h ls ≡ true) × (amountsAt h ls ≡ []))
+-- an hour prints I exactly if it lies in no hole, and the journal has its H and no D of it
+pub idle-exactly : (ls : List Line) (h : ℕ) → Exactly (rowOf ls h ≡ rowI) ((inHole h ls ≡ false) × (hasOn h ls ≡ true) × (amountsAt h ls ≡ []))
 unfolding rowOf rowFrom hourOf measuredOrIdle pick
-idle-exactly ls h = (only (hasOn h ls) (amountsAt h ls), λ e. rw (e .0, e .1))
+idle-exactly ls h = (only (inHole h ls) (hasOn h ls) (amountsAt h ls), λ e. rw (e .0, e .1, e .2))
   where
-    only : (on : Bool) (amounts : List ℕ) → rowBy on amounts ≡ rowI → (on ≡ true) × (amounts ≡ [])
-    only true [] e = (refl, refl)
-    only true (a ∷ as') e = let z : _≡_ {A = ℕ} 0 1 = cc in absurd (omega arith)
-    only false amounts e = let z : _≡_ {A = ℕ} 0 1 = cc in absurd (omega arith)
+    only : (hole on : Bool) (amounts : List ℕ) → rowBy hole on amounts ≡ rowI → (hole ≡ false) × (on ≡ true) × (amounts ≡ [])
+    only true on amounts e = let z : _≡_ {A = ℕ} 0 1 = cc in absurd (omega arith)
+    only false true [] e = (refl, refl, refl)
+    only false true (a ∷ as') e = let z : _≡_ {A = ℕ} 0 1 = cc in absurd (omega arith)
+    only false false amounts e = let z : _≡_ {A = ℕ} 0 1 = cc in absurd (omega arith)
 
--- X exactly if it has no H of it
-pub missing-exactly : (ls : List Line) (h : ℕ) → Exactly (rowOf ls h ≡ rowX) (hasOn h ls ≡ false)
+-- X exactly if it lies in a hole or has no H of it
+pub missing-exactly : (ls : List Line) (h : ℕ) → Exactly (rowOf ls h ≡ rowX) ((inHole h ls ≡ true) ⊎ (hasOn h ls ≡ false))
 unfolding rowOf rowFrom hourOf measuredOrIdle pick
-missing-exactly ls h = (only (hasOn h ls) (amountsAt h ls), λ e. rw e)
+missing-exactly ls h = (only (inHole h ls) (hasOn h ls) (amountsAt h ls), made (inHole h ls) (hasOn h ls) (amountsAt h ls))
   where
-    only : (on : Bool) (amounts : List ℕ) → rowBy on amounts ≡ rowX → on ≡ false
-    only true [] e = let z : _≡_ {A = ℕ} 0 1 = cc in absurd (omega arith)
-    only true (a ∷ as') e = let z : _≡_ {A = ℕ} 0 1 = cc in absurd (omega arith)
-    only false amounts e = refl
+    only : (hole on : Bool) (amounts : List ℕ) → rowBy hole on amounts ≡ rowX → (hole ≡ true) ⊎ (on ≡ false)
+    only true on amounts e = inl refl
+    only false true [] e = let z : _≡_ {A = ℕ} 0 1 = cc in absurd (omega arith)
+    only false true (a ∷ as') e = let z : _≡_ {A = ℕ} 0 1 = cc in absurd (omega arith)
+    only false false amounts e = inr refl
+
+    made : (hole on : Bool) (amounts : List ℕ) → (hole ≡ true) ⊎ (on ≡ false) → rowBy hole on amounts ≡ rowX
+    made true on amounts e = refl
+    made false on amounts (inl e) = false-true e
+    made false on amounts (inr e) = rw e
 
 -- what is printed of a measured hour
 abbrev pub measuredRow : List ℕ → Row
 measuredRow amounts = rowM (length amounts) (total amounts) (toBits binary64 (meanOf amounts))
 
--- M, with the number of its doses, their sum and the mean's bits, exactly if it has its H and a D of it
-pub measured-exactly : (ls : List Line) (h : ℕ) → Exactly (rowOf ls h ≡ measuredRow (amountsAt h ls)) ((hasOn h ls ≡ true) × (amountsAt h ls ≡ [] → ⊥))
+-- M, with the number of its doses, their sum and the mean's bits, exactly if it lies in no hole and has its H and a D of it
+pub measured-exactly : (ls : List Line) (h : ℕ) → Exactly (rowOf ls h ≡ measuredRow (amountsAt h ls)) ((inHole h ls ≡ false) × (hasOn h ls ≡ true) × (amountsAt h ls ≡ [] → ⊥))
 unfolding rowOf rowFrom hourOf measuredOrIdle pick
-measured-exactly ls h = (only (hasOn h ls) (amountsAt h ls), λ e. rw (e .0) (made (amountsAt h ls) (e .1)))
+measured-exactly ls h = (only (inHole h ls) (hasOn h ls) (amountsAt h ls), λ e. rw (e .0, e .1) (made (amountsAt h ls) (e .2)))
   where
-    only : (on : Bool) (amounts : List ℕ) → rowBy on amounts ≡ measuredRow amounts → (on ≡ true) × (amounts ≡ [] → ⊥)
-    only true [] e = let z : _≡_ {A = ℕ} 0 1 = cc in absurd (omega arith)
-    only true (a ∷ as') e = (refl, λ f. let z : _≡_ {A = ℕ} 0 1 = cc in omega arith)
-    only false amounts e = let z : _≡_ {A = ℕ} 0 1 = cc in absurd (omega arith)
+    only : (hole on : Bool) (amounts : List ℕ) → rowBy hole on amounts ≡ measuredRow amounts → (hole ≡ false) × (on ≡ true) × (amounts ≡ [] → ⊥)
+    only true on amounts e = let z : _≡_ {A = ℕ} 0 1 = cc in absurd (omega arith)
+    only false true [] e = let z : _≡_ {A = ℕ} 0 1 = cc in absurd (omega arith)
+    only false true (a ∷ as') e = (refl, refl, λ f. let z : _≡_ {A = ℕ} 0 1 = cc in omega arith)
+    only false false amounts e = let z : _≡_ {A = ℕ} 0 1 = cc in absurd (omega arith)
 
-    made : (amounts : List ℕ) → (amounts ≡ [] → ⊥) → rowBy true amounts ≡ measuredRow amounts
+    made : (amounts : List ℕ) → (amounts ≡ [] → ⊥) → rowBy false true amounts ≡ measuredRow amounts
     made [] f = absurd (f refl)
     made (a ∷ as') f = refl
 
 -- an M is printed of no other hour, and with no other numbers
 pub measured-only : (ls : List Line) (h doses sum bits : ℕ) → rowOf ls h ≡ rowM doses sum bits → rowM doses sum bits ≡ measuredRow (amountsAt h ls)
 unfolding rowOf rowFrom hourOf measuredOrIdle pick
-measured-only ls h doses sum bits = only (hasOn h ls) (amountsAt h ls)
+measured-only ls h doses sum bits = only (inHole h ls) (hasOn h ls) (amountsAt h ls)
   where
-    only : (on : Bool) (amounts : List ℕ) → rowBy on amounts ≡ rowM doses sum bits → rowM doses sum bits ≡ measuredRow amounts
-    only true [] e = let z : _≡_ {A = ℕ} 0 1 = cc in absurd (omega arith)
-    only true (a ∷ as') e = sym e
-    only false amounts e = let z : _≡_ {A = ℕ} 0 1 = cc in absurd (omega arith)
+    only : (hole on : Bool) (amounts : List ℕ) → rowBy hole on amounts ≡ rowM doses sum bits → rowM doses sum bits ≡ measuredRow amounts
+    only true on amounts e = let z : _≡_ {A = ℕ} 0 1 = cc in absurd (omega arith)
+    only false true [] e = let z : _≡_ {A = ℕ} 0 1 = cc in absurd (omega arith)
+    only false true (a ∷ as') e = sym e
+    only false false amounts e = let z : _≡_ {A = ℕ} 0 1 = cc in absurd (omega arith)
+
+-- no hour in a hole is measured or idle
+pub hole-missing : (ls : List Line) (h : ℕ) → inHole h ls ≡ true → hourOf ls h ≡ missing
+unfolding hourOf
+hole-missing ls h e = pick-t (inHole h ls) missing _ e
+
+-- an hour in no hole is as document 01 has it
+pub hole-free : (ls : List Line) (h : ℕ) → inHole h ls ≡ false → hourOf ls h ≡ pick (hasOn h ls) (measuredOrIdle (amountsAt h ls)) missing
+unfolding hourOf
+hole-free ls h e = pick-f (inHole h ls) missing _ e
 
 is-on : (h : ℕ) (l : Line) → isOn h l ≡ true → On h ≡ l
 unfolding isOn

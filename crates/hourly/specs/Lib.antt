@@ -1,8 +1,10 @@
+pub mod Holes
 pub mod Hours
 pub mod Text
 pub mod Says
 pub mod Tally
 pub mod Contracts
+pub mod HoleLaws
 pub mod Kinds
 pub mod Accepted
 pub mod Bounds

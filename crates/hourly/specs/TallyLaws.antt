@@ -10,6 +10,7 @@ use Rattle.paper.specs.Answer.{done, told}
 use Rattle.journal.specs.Journal.{journalOf, firstHour, lastHour}
 use Rattle.journal.specs.declared.Line.{Line}
 use Rattle.hourly.specs.Hours.{HourAnswer, measured, idle, missing, amountsAt, hasOn, total, greatest, sumOf, largestOf, meanOf, measuredOrIdle, hourOf, asF64}
+use Rattle.hourly.specs.Holes.{inHole}
 use Rattle.hourly.specs.Accepted.{Accepted, accepted}
 use Rattle.hourly.specs.Tally.{tallyOf, hourFrom, Tells, linesIn, linesOf, summaryOf}
 use Rattle.hourly.specs.Contracts.{Counts, judged-lines}
@@ -19,7 +20,7 @@ use Rattle.hourly.specs.declared.Summary.{Summary}
 -- the tally of an hour answers as the hour does
 pub hour-tally : (ls : List Line) (h : ℕ) → hourFrom (tallyOf ls h) ≡ hourOf ls h
 unfolding hourFrom tallyOf hourOf measuredOrIdle sumOf largestOf meanOf pick
-hour-tally ls h = ap (λ (x : HourAnswer). pick (hasOn h ls) x missing) (go (amountsAt h ls))
+hour-tally ls h = ap (λ (x : HourAnswer). pick (inHole h ls) missing (pick (hasOn h ls) x missing)) (go (amountsAt h ls))
   where
     go : (amounts : List ℕ) → pick (eqb (length amounts) 0) idle (measured (asF64 (total amounts)) (asF64 (greatest amounts)) (div binary64 (asF64 (total amounts)) (asF64 (length amounts)))) ≡ measuredOrIdle amounts
     go [] = refl

@@ -12,6 +12,7 @@ use Rattle.text.specs.Scan.{LF, TAB}
 use Rattle.journal.specs.Journal.{journalOf, firstHour, lastHour, hourIn, example}
 use Rattle.journal.specs.declared.Line.{Line}
 use Rattle.journal.specs.declared.Line.the-variants.{Dose, On}
+use Rattle.hourly.specs.Holes.{nextCount, follows, doseBefore, endsHole, holeFrom, inHole}
 use Rattle.hourly.specs.Hours.{HourAnswer, measured, idle, missing, hourOf, measuredOrIdle, hasOn, isOn, amountsAt, doseAt, total, greatest, sumOf, largestOf, meanOf, asF64}
 
 abbrev pub letterM : ℕ
@@ -79,7 +80,7 @@ printed h r = record { hour = h; row = r }
 
 -- document 01's example, and its first and last row as bytes
 pub example-rows : rowsOf example ≡ printed 10 (rowM 2 998 0x407F300000000000) ∷ printed 11 rowI ∷ printed 12 rowX ∷ printed 13 rowI ∷ []
-unfolding rowsOf spanOf hoursFrom firstHour lastHour hourIn rowOf rowFrom hourOf measuredOrIdle hasOn isOn amountsAt doseAt total greatest sumOf largestOf meanOf asF64 toBits div ofInt pick
+unfolding rowsOf spanOf hoursFrom firstHour lastHour hourIn rowOf rowFrom hourOf inHole holeFrom endsHole doseBefore follows nextCount measuredOrIdle hasOn isOn amountsAt doseAt total greatest sumOf largestOf meanOf asF64 toBits div ofInt pick
 example-rows = refl
 
 pub row-bytes :
@@ -92,8 +93,14 @@ row-bytes = (refl, refl)
 -- a closing D without its H is missing; two D lines of an hour without an H too; hour 0; the mean of three amounts, rounded once
 pub closing-rows : rowsOf (On 0 ∷ Dose 2 1 1 1 ∷ Dose 2 2 1 1 ∷ Dose 2 3 0 1 ∷ On 2 ∷ Dose 3 4 9 1 ∷ Dose 3 5 9 1 ∷ [])
     ≡ printed 0 rowI ∷ printed 1 rowX ∷ printed 2 (rowM 3 2 0x3FE5555555555555) ∷ printed 3 rowX ∷ []
-unfolding rowsOf spanOf hoursFrom firstHour lastHour hourIn rowOf rowFrom hourOf measuredOrIdle hasOn isOn amountsAt doseAt total greatest sumOf largestOf meanOf asF64 toBits div ofInt pick
+unfolding rowsOf spanOf hoursFrom firstHour lastHour hourIn rowOf rowFrom hourOf inHole holeFrom endsHole doseBefore follows nextCount measuredOrIdle hasOn isOn amountsAt doseAt total greatest sumOf largestOf meanOf asF64 toBits div ofInt pick
 closing-rows = refl
+
+-- three lines lost: the hours of the D lines around them and the one between are missing, H lines or not, and those beside them are as they were
+pub hole-rows : rowsOf (On 9 ∷ Dose 10 1 7 1 ∷ On 10 ∷ On 11 ∷ Dose 12 5 7 1 ∷ On 12 ∷ Dose 13 6 7 1 ∷ On 13 ∷ On 14 ∷ [])
+    ≡ printed 9 rowI ∷ printed 10 rowX ∷ printed 11 rowX ∷ printed 12 rowX ∷ printed 13 (rowM 1 7 0x401C000000000000) ∷ printed 14 rowI ∷ []
+unfolding rowsOf spanOf hoursFrom firstHour lastHour hourIn rowOf rowFrom hourOf inHole holeFrom endsHole doseBefore follows nextCount measuredOrIdle hasOn isOn amountsAt doseAt total greatest sumOf largestOf meanOf asF64 toBits div ofInt pick
+hole-rows = refl
 
 -- the sum, the largest amount and the mean of the example's hour 10: 998, 500 and 499; an hour outside is missing
 pub example-figures :
@@ -101,5 +108,5 @@ pub example-figures :
     × (largestOf (498 ∷ 500 ∷ 2 ∷ []) ≡ ofInt binary64 (pos 500))
     × (hourOf example 9 ≡ missing)
     × (hourOf example 14 ≡ missing)
-unfolding firstHour lastHour hourIn hourOf measuredOrIdle hasOn isOn amountsAt doseAt total greatest sumOf largestOf meanOf asF64 div ofInt pick
+unfolding firstHour lastHour hourIn hourOf inHole holeFrom endsHole doseBefore follows nextCount measuredOrIdle hasOn isOn amountsAt doseAt total greatest sumOf largestOf meanOf asF64 div ofInt pick
 example-figures = (refl, refl, refl, refl)

@@ -4,10 +4,12 @@ use journal::Past;
 use journal::Refusal;
 use text::Num;
 ghost use mathlib.Core.Path.{_≡_};
+ghost use mathlib.Core.Bool.{false};
 ghost use Prim.Native.Nat.{_-_, _<_, max};
-ghost use lib.ListN.{replicate};
+ghost use lib.ListN.{length, replicate};
+ghost use Rattle.hourly.specs.Holes.{follows, doseBefore};
 ghost use Rattle.hourly.specs.Says.{saysHour};
-ghost use Rattle.hourly.specs.Tally.{noTally, withDose, counted, acceptedAfter, refusedBy, hourAmong};
+ghost use Rattle.hourly.specs.Tally.{noTally, withDose, counted, Placed, Adds, AddsHole, Sets, acceptedAfter, refusedBy, hourAmong};
 ghost use Rattle.hourly.specs.Contracts.{Counts, AnswersTally, AnswersHour};
 
 // What a measured hour hands to the predictor: the sum and the largest amount, both exact, and the mean.
@@ -32,12 +34,22 @@ pub enum Asked {
 
 const LF: u8 = 10;
 
-// What the lines so far tell of one hour: the number of its doses, their sum, the largest amount, and whether its H was there.
+// The count that 0 follows.
+const LAST_COUNT: u32 = 999999;
+
+// What the lines tell of one hour: the number of its doses, their sum, the largest amount, whether its H was there, and whether it lies in a hole.
 pub struct Tally {
     pub doses: u32,
     pub sum: f64,
     pub largest: u32,
     pub on: bool,
+    pub holed: bool,
+}
+
+// The D line before the next line: none yet, or its hour and count.
+enum Before {
+    Nothing,
+    At(u32, u32),
 }
 
 // What an accepted journal holds: the number of its lines, and the hours of the first and the last.
@@ -68,6 +80,7 @@ fn no_tallies() -> [Tally; journal::SPAN]
         sum: 0.0f64,
         largest: 0,
         on: false,
+        holed: false,
     }; journal::SPAN]
 }
 
@@ -91,6 +104,7 @@ fn with_dose(t: Tally, amount: u32) -> Tally
         sum: t.sum + amount as f64,
         largest: larger(t.largest, amount),
         on: t.on,
+        holed: t.holed,
     }
 }
 
@@ -108,6 +122,96 @@ fn with_line(t: Tally, line: Line) -> Tally
         } => with_dose(t, amount),
         Line::On { hour: _ } => Tally { on: true, ..t },
     }
+}
+
+// No hour in a hole.
+fn no_holes() -> [bool; journal::SPAN]
+    ensures { λ r. ⌜ r ≡ replicate 744 false ⌝ }
+{
+    [false; journal::SPAN]
+}
+
+// Whether a count follows the one before it: by one, 0 after 999,999, or as a 1.
+fn in_turn(before: u32, count: u32) -> bool
+    ensures { λ r. ⌜ r ≡ follows before count ⌝ }
+{
+    if count == 1 {
+        return true;
+    }
+    if before == LAST_COUNT {
+        return count == 0;
+    }
+    if count == 0 {
+        return false;
+    }
+    count - 1 == before
+}
+
+// Marks the places from one to another, both included.
+fn mark(holed: &mut [bool], from: usize, to: usize)
+    requires { ⌜ to < length (now holed) ⌝ }
+    ensures { λ _. ⌜ Adds (now (holed .entry)) from to (now (holed .exit)) ⌝ }
+{
+    let mut k = from;
+    while k <= to {
+        holed[k] = true;
+        k += 1;
+    }
+}
+
+// Marks the hours of the hole that a line ends, if it is a D line whose count does not follow.
+fn mark_hole(holed: &mut [bool], first: u32, before: Before, line: Line)
+    requires { ⌜ Placed (now holed) first before line ⌝ }
+    ensures { λ _. ⌜ AddsHole (now (holed .entry)) first before line (now (holed .exit)) ⌝ }
+{
+    let Line::Dose {
+        hour,
+        count,
+        amount: _,
+        settled: _,
+    } = line
+    else {
+        return;
+    };
+    let Before::At(earlier, last) = before else {
+        return;
+    };
+    if in_turn(last, count) {
+        return;
+    }
+    mark(holed, (earlier - first) as usize, (hour - first) as usize);
+}
+
+// The D line before the line that comes after this one.
+fn before_next(before: Before, line: Line) -> Before
+    ensures { λ r. ⌜ r ≡ doseBefore before line ⌝ }
+{
+    match line {
+        Line::Dose {
+            hour,
+            count,
+            amount: _,
+            settled: _,
+        } => Before::At(hour, count),
+        Line::On { hour: _ } => before,
+    }
+}
+
+// The tallies with the marks set in them.
+fn with_holes(table: [Tally; journal::SPAN], holed: [bool; journal::SPAN]) -> [Tally; journal::SPAN]
+    ensures { λ r. ⌜ Sets table holed r ⌝ }
+{
+    let mut marked = table;
+    let mut k: usize = 0;
+    while k < journal::SPAN {
+        let tally = marked[k];
+        marked[k] = Tally {
+            holed: holed[k],
+            ..tally
+        };
+        k += 1;
+    }
+    marked
 }
 
 // A journal that is refused: it has no tallies.
@@ -135,7 +239,7 @@ fn accepted(lines: usize, past: Past, table: [Tally; journal::SPAN]) -> Tallied
     }
 }
 
-// A whole journal in one pass: R13, then line by line R10, R11, R12; each line that is taken is counted at its hour.
+// A whole journal in one pass: R13, then line by line R10, R11, R12; each line that is taken is counted at its hour, and the hours of the hole that it ends are marked.
 pub fn tallies(bytes: &[u8]) -> Tallied
     ensures { λ r. ⌜ Counts (now (bytes .entry)) r ⌝ }
 {
@@ -144,12 +248,14 @@ pub fn tallies(bytes: &[u8]) -> Tallied
         return refused(Refusal::R13);
     }
     let mut table = no_tallies();
+    let mut holed = no_holes();
+    let mut last = Before::Nothing;
     let mut past = journal::no_past();
     let mut at: usize = 0;
     let mut lines: usize = 0;
     'lines: loop {
         if at >= size {
-            break 'lines accepted(lines, past, table);
+            break 'lines accepted(lines, past, with_holes(table, holed));
         }
         let number = lines + 1;
         let fields = journal::fields_after(bytes[at]);
@@ -182,15 +288,20 @@ pub fn tallies(bytes: &[u8]) -> Tallied
         let place = (hour - past.first) as usize;
         let tally = table[place];
         table[place] = with_line(tally, line);
+        mark_hole(&mut holed, past.first, last, line);
+        last = before_next(last, line);
         at = p + 1;
         lines = number;
     }
 }
 
-// With an H the hour is measured if it has a dose, else idle; without one it is missing.
+// In a hole the hour is missing; else with an H it is measured if it has a dose, else idle, and without one it is missing.
 pub fn hour_from(t: Tally) -> Hour
     ensures { λ r. ⌜ AnswersTally t r ⌝ }
 {
+    if t.holed {
+        return Hour::Missing;
+    }
     if !t.on {
         return Hour::Missing;
     }

@@ -18,7 +18,8 @@ use Rattle.journal.specs.Line.{textOf, inRange, lineOf}
 use Rattle.journal.specs.LineLaws.{read-text}
 use Rattle.journal.specs.Journal.{journalOf, journalText}
 use Rattle.journal.specs.JournalLaws.{Each, journal-text, journal-range}
-use Rattle.hourly.specs.Hours.{measured, idle, missing, doseAt, amountsAt, isOn, hasOn, sumOf, largestOf, meanOf, measuredOrIdle, hourOf}
+use Rattle.hourly.specs.Holes.{inHole}
+use Rattle.hourly.specs.Hours.{HourAnswer, measured, idle, missing, doseAt, amountsAt, isOn, hasOn, sumOf, largestOf, meanOf, measuredOrIdle, hourOf}
 use Rattle.controller.specs.declared.Controller.{Controller}
 use Rattle.counters.specs.declared.Record.{Record}
 use Rattle.controller.specs.Calls.{freshOf}
@@ -497,31 +498,36 @@ module _ (input : List ℕ) (s : Script input) (ls : List Line) (accepted : jour
       script-lines (s .script) freshOf fresh-sound (opens (s .first) true) ls refl (record { ticks = omega arith; hour = omega (arith, most) }) (journal-range (recordOf input) ls accepted)
       (sym begins ∙ journal-text (recordOf input) ls accepted)
 
-  -- the hour number k after the first: measured or idle exactly if it was seen in full, by the doses that its ticks completed; else missing
-  pub consumption : (k : ℕ) → hourOf ls (s .first + k) ≡ hourWith (seenInFull k (heardIn s)) (dosesIn (hourLines k (heardIn s)))
+  -- the hour number k after the first: missing in a hole of the dose numbers; else measured or idle exactly if it was seen in full, by the doses that its ticks completed; else missing
+  pub consumption : (k : ℕ) → hourOf ls (s .first + k) ≡ hourWith (inHole (s .first + k) ls) (seenInFull k (heardIn s)) (dosesIn (hourLines k (heardIn s)))
   unfolding hourOf hourWith seenInFull seenFrom
   consumption k =
       let t = hour-tells k (s .first) true (heardIn s) in
-      ap (λ (m : List Line). hourOf m (s .first + k)) lines-are
-      ∙ ap₂ (λ (on : Bool) (amounts : List ℕ). pick on (measuredOrIdle amounts) missing) (t .on) (t .amounts)
+      let h = s .first + k in
+      ap₂ (λ (on : Bool) (amounts : List ℕ). pick (inHole h ls) missing (pick on (measuredOrIdle amounts) missing))
+      (ap (hasOn h) lines-are ∙ t .on) (ap (amountsAt h) lines-are ∙ t .amounts)
 
   -- no hour before the first is anything but missing
   pub before-first : (h : ℕ) → h < s .first → hourOf ls h ≡ missing
   unfolding hourOf
   before-first h b =
-      ap (λ (m : List Line). hourOf m h) lines-are
-      ∙ pick-f _ _ _ (later-none (heardIn s) (opens (s .first) true) h b .0)
+      pick-all (λ (x : HourAnswer). x ≡ missing) (inHole h ls) refl
+      (pick-f _ _ _ (ap (hasOn h) lines-are ∙ later-none (heardIn s) (opens (s .first) true) h b .0))
 
-  -- so it is measured if it was seen in full and a dose completed in it, idle if it was seen in full and none did, missing else
-  pub is-measured : (k : ℕ) (d : Record) (ds : List Record) → seenInFull k (heardIn s) ≡ true → dosesIn (hourLines k (heardIn s)) ≡ d ∷ ds
+  -- so it is measured if it was seen in full and a dose completed in it, idle if it was seen in full and none did, missing else; and missing in a hole
+  pub is-measured : (k : ℕ) (d : Record) (ds : List Record) → inHole (s .first + k) ls ≡ false → seenInFull k (heardIn s) ≡ true → dosesIn (hourLines k (heardIn s)) ≡ d ∷ ds
       → hourOf ls (s .first + k) ≡ measured (sumOf (amountsOf (d ∷ ds))) (largestOf (amountsOf (d ∷ ds))) (meanOf (amountsOf (d ∷ ds)))
   unfolding hourWith measuredOrIdle
-  is-measured k d ds e f = consumption k ∙ pick-t _ _ _ e ∙ ap (λ (rs : List Record). measuredOrIdle (amountsOf rs)) f
+  is-measured k d ds w e f = consumption k ∙ pick-f _ _ _ w ∙ pick-t _ _ _ e ∙ ap (λ (rs : List Record). measuredOrIdle (amountsOf rs)) f
 
-  pub is-idle : (k : ℕ) → seenInFull k (heardIn s) ≡ true → dosesIn (hourLines k (heardIn s)) ≡ [] → hourOf ls (s .first + k) ≡ idle
+  pub is-idle : (k : ℕ) → inHole (s .first + k) ls ≡ false → seenInFull k (heardIn s) ≡ true → dosesIn (hourLines k (heardIn s)) ≡ [] → hourOf ls (s .first + k) ≡ idle
   unfolding hourWith measuredOrIdle
-  is-idle k e f = consumption k ∙ pick-t _ _ _ e ∙ ap (λ (rs : List Record). measuredOrIdle (amountsOf rs)) f
+  is-idle k w e f = consumption k ∙ pick-f _ _ _ w ∙ pick-t _ _ _ e ∙ ap (λ (rs : List Record). measuredOrIdle (amountsOf rs)) f
 
   pub is-missing : (k : ℕ) → seenInFull k (heardIn s) ≡ false → hourOf ls (s .first + k) ≡ missing
   unfolding hourWith
-  is-missing k e = consumption k ∙ pick-f _ _ _ e
+  is-missing k e = consumption k ∙ pick-all (λ (x : HourAnswer). x ≡ missing) (inHole (s .first + k) ls) refl (pick-f _ _ _ e)
+
+  pub is-holed : (k : ℕ) → inHole (s .first + k) ls ≡ true → hourOf ls (s .first + k) ≡ missing
+  unfolding hourWith
+  is-holed k w = consumption k ∙ pick-t _ _ _ w

@@ -18,11 +18,12 @@ use Rattle.text.specs.Put.{Puts}
 use Rattle.text.specs.PutLaws.{room-is, puts-fit, puts-length}
 use Rattle.journal.specs.Journal.{firstHour}
 use Rattle.journal.specs.declared.Line.{Line}
-use Rattle.hourly.specs.Hours.{HourAnswer, missing, amountsAt, hasOn, total, greatest, sumOf, meanOf, measuredOrIdle, hourOf, asF64}
+use Rattle.hourly.specs.Holes.{inHole}
+use Rattle.hourly.specs.Hours.{HourAnswer, missing, amountsAt, hasOn, total, sumOf, meanOf, measuredOrIdle, hourOf}
 use Rattle.hourly.specs.Text.{Row, rowFrom, rowOf, rowText, rowsOf, rowsText, hoursFrom, spanOf, hoursText, printOf}
 use Rattle.hourly.specs.Accepted.{Accepted}
 use Rattle.hourly.specs.Bounds.{modest, text-short}
-use Rattle.hourly.specs.Tally.{outside, tallyOf, linesOf, summaryOf, Tells}
+use Rattle.hourly.specs.Tally.{outside, tallyBy, tallyOf, linesOf, summaryOf, Tells}
 use Rattle.hourly.specs.TallyLaws.{hour-tally, Found, found-accepted}
 use Rattle.report.specs.Table.{shownBy, shownOf, rowsBy, textBy, Printable, hoursIn}
 use Rattle.hourly.specs.declared.Summary.{Summary}
@@ -96,13 +97,14 @@ fills-text old new text n h m e =
 -- the tally of an hour is shown as its row
 shown-tally : (ls : List Line) (h : ℕ) → total (amountsAt h ls) ≤ 2 ^ 53 → shownOf (tallyOf ls h) ≡ rowOf ls h
 unfolding shownOf rowOf rowFrom hourOf measuredOrIdle sumOf meanOf tallyOf pick
-shown-tally ls h b = ap (λ (x : HourAnswer). shownBy x (tallyOf ls h)) (hour-tally ls h) ∙ go (hasOn h ls) (amountsAt h ls) b
+shown-tally ls h b = ap (λ (x : HourAnswer). shownBy x (tallyOf ls h)) (hour-tally ls h) ∙ go (inHole h ls) (hasOn h ls) (amountsAt h ls) b
   where
-    go : (on : Bool) (amounts : List ℕ) → total amounts ≤ 2 ^ 53
-        → shownBy (pick on (measuredOrIdle amounts) missing) (record { doses = length amounts; sum = asF64 (total amounts); largest = greatest amounts; on = on }) ≡ rowFrom (pick on (measuredOrIdle amounts) missing) amounts
-    go true [] b = refl
-    go true (a ∷ as') b = rw (whole-back (total (a ∷ as')) b .1)
-    go false amounts b = refl
+    go : (hole on : Bool) (amounts : List ℕ) → total amounts ≤ 2 ^ 53
+        → shownBy (pick hole missing (pick on (measuredOrIdle amounts) missing)) (tallyBy amounts on hole) ≡ rowFrom (pick hole missing (pick on (measuredOrIdle amounts) missing)) amounts
+    go true on amounts b = refl
+    go false true [] b = refl
+    go false true (a ∷ as') b = rw (whole-back (total (a ∷ as')) b .1)
+    go false false amounts b = refl
 
 rows-tell : (ls : List Line) (ts : List Tally) (h : ℕ) → ((k : ℕ) → k < length ts → shownOf (getD ts k outside) ≡ rowOf ls (h + k))
     → rowsBy ts h ≡ map (λ k. record { hour = k; row = rowOf ls k }) (hoursFrom h (length ts))

@@ -21,12 +21,13 @@ record FromTally (t : Tally) (s m : Float) : Type 0 where
 
 measured-from : (t : Tally) (s l m : Float) → measured s l m ≡ hourFrom t → FromTally t s m
 unfolding hourFrom pick
-measured-from t s l m e = go (t .on) (eqb (t .doses) 0) refl e
+measured-from t s l m e = go (t .holed) (t .on) (eqb (t .doses) 0) refl e
   where
-    go : (on none : Bool) → eqb (t .doses) 0 ≡ none → measured s l m ≡ pick on (pick none idle (measured (t .sum) (asF64 (t .largest)) (div binary64 (t .sum) (asF64 (t .doses))))) missing → FromTally t s m
-    go true true p e = let z : _≡_ {A = ℕ} 0 1 = cc in absurd (omega arith)
-    go true false p e = record { sum = cc; mean = cc; some = omega (arith, eqb-false (t .doses) 0 p) }
-    go false none p e = let z : _≡_ {A = ℕ} 0 1 = cc in absurd (omega arith)
+    go : (hole on none : Bool) → eqb (t .doses) 0 ≡ none → measured s l m ≡ pick hole missing (pick on (pick none idle (measured (t .sum) (asF64 (t .largest)) (div binary64 (t .sum) (asF64 (t .doses))))) missing) → FromTally t s m
+    go true on none p e = let z : _≡_ {A = ℕ} 0 1 = cc in absurd (omega arith)
+    go false true true p e = let z : _≡_ {A = ℕ} 0 1 = cc in absurd (omega arith)
+    go false true false p e = record { sum = cc; mean = cc; some = omega (arith, eqb-false (t .doses) 0 p) }
+    go false false none p e = let z : _≡_ {A = ℕ} 0 1 = cc in absurd (omega arith)
 
 -- its sum goes back to a whole number, and its mean is a number
 pub sum-whole : (t : Tally) (s l m : Float) → Summed t → measured s l m ≡ hourFrom t → T (inUnsigned binary64 64 s)

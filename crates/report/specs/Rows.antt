@@ -13,6 +13,7 @@ use Rattle.laws.specs.Decimal.{decimal, hexOf}
 use Rattle.laws.specs.DecimalLaws.{decimal-apart, hex-apart, hex-length}
 use Rattle.text.specs.Scan.{LF, TAB}
 use Rattle.journal.specs.declared.Line.{Line}
+use Rattle.hourly.specs.Holes.{inHole}
 use Rattle.hourly.specs.Hours.{HourAnswer, amountsAt, hasOn, sumOf, meanOf, measuredOrIdle, hourOf, asF64}
 use Rattle.hourly.specs.Text.{Row, rowM, rowI, rowX, letterM, letterI, letterX, HourRow, rowFrom, rowOf, rowText, rowsOf, rowsText, hoursText, spanOf}
 
@@ -97,10 +98,13 @@ rows-apart (p ∷ ps) (q ∷ qs) h k e =
     same-row : (p q : HourRow) → p .hour ≡ q .hour → p .row ≡ q .row → p ≡ q
     same-row p q u v = ap (λ (h : ℕ). record { hour = h; row = p .row }) u ∙ ap (λ (r : Row). record { hour = q .hour; row = r }) v
 
+abbrev FitsOf : List ℕ → HourAnswer → Type 0
+FitsOf amounts x = RowFits (rowFrom x amounts)
+
 -- every row of a journal has 64 bits
 row-fits : (ls : List Line) (h : ℕ) → RowFits (rowOf ls h)
 unfolding rowOf hourOf rowFrom measuredOrIdle meanOf
-row-fits ls h = pick-all (λ (x : HourAnswer). RowFits (rowFrom x (amountsAt h ls))) (hasOn h ls) (either (amountsAt h ls)) tt
+row-fits ls h = pick-all (FitsOf (amountsAt h ls)) (inHole h ls) tt (pick-all (FitsOf (amountsAt h ls)) (hasOn h ls) (either (amountsAt h ls)) tt)
   where
     either : (amounts : List ℕ) → RowFits (rowFrom (measuredOrIdle amounts) amounts)
     either [] = tt

@@ -1,13 +1,12 @@
 -- No hole in the dose numbers comes from the box itself: the counts of the dose records of a series follow each other. Assumes nothing.
 use mathlib.Core.Path.{_≡_, refl, sym, subst}
-use mathlib.Core.Bool.{Bool, true, false, _&&_, _||_, or-true}
+use mathlib.Core.Bool.{true}
 use mathlib.Core.List.{List, [], _∷_, _++_, map, map-append}
 use Prim.Native.Nat.{ℕ, _+_, _%_, _≤_}
 use native.Mathlib.Omega.{arith}
-use lib.Dec.{eqb}
-use borrow.Author.Tests.{eqb-true, eqb-false, eq-eqb}
 use Rattle.laws.specs.Bools.{and-left, and-right}
-use Rattle.laws.specs.Pick.{pick, pick-if}
+use Rattle.hourly.specs.Holes.{follows}
+use Rattle.hourly.specs.HoleLaws.{followOn, allFollow, first-free, counted-follows, one-follows}
 use Rattle.controller.specs.declared.Controller.{Controller}
 use Rattle.counters.specs.declared.Counters.{Counters}
 use Rattle.counters.specs.declared.Record.{Record}
@@ -21,34 +20,6 @@ use Rattle.series.specs.Kept.{countersFrom, sound-kept, run-sound}
 use Rattle.series.specs.Walk.{given-same}
 use Rattle.series.specs.Records.{records-append}
 
--- by one (0 after 999,999)
-unfoldable pub nextCount : ℕ → ℕ
-nextCount before = pick (eqb before 999999) 0 (before + 1)
-
--- The count in a D line must follow the count of the D line before it by one; a 1 is always allowed, since it follows a counter reset
-unfoldable pub follows : ℕ → ℕ → Bool
-follows before count = eqb count 1 || eqb count (nextCount before)
-
--- 6 and 1 follow 5, and nothing else near it
-pub follows-cases : map (follows 5) (6 ∷ 1 ∷ 0 ∷ 5 ∷ 7 ∷ []) ≡ true ∷ true ∷ false ∷ false ∷ false ∷ []
-unfolding follows nextCount pick
-follows-cases = refl
-
--- 0 and 1 follow 999,999
-pub follows-last : map (follows 999999) (0 ∷ 1 ∷ 999999 ∷ 1000000 ∷ []) ≡ true ∷ true ∷ false ∷ false ∷ []
-unfolding follows nextCount pick
-follows-last = refl
-
--- each count follows the one before it, the first this one
-unfoldable pub followOn : ℕ → List ℕ → Bool
-followOn before [] = true
-followOn before (count ∷ counts) = follows before count && followOn count counts
-
--- The first D line of a journal is not tested
-unfoldable pub allFollow : List ℕ → Bool
-allFollow [] = true
-allFollow (count ∷ counts) = followOn count counts
-
 -- the counts of dose records
 abbrev pub countsOf : List Record → List ℕ
 countsOf rs = map (λ r. r .count) rs
@@ -59,20 +30,14 @@ countsOf rs = map (λ r. r .count) rs
 abbrev Next : ℕ → Counters → Type 0
 Next before n = follows before ((n .count + 1) % 1000000) ≡ true
 
-next-is : (k : ℕ) → k ≤ 999999 → (k + 1) % 1000000 ≡ nextCount k
-unfolding nextCount
-next-is k h =
-    pick-if (λ (x : ℕ). (k + 1) % 1000000 ≡ x) (eqb k 999999) (λ e. omega (arith, eqb-true k 999999 e)) (λ e. let other = eqb-false k 999999 e in omega arith)
-
 next-count : (n : Counters) → n .count ≤ 999999 → Next (n .count) n
-unfolding follows
-next-count n h = rw (eq-eqb _ _ (next-is (n .count) h)) (or-true (eqb ((n .count + 1) % 1000000) 1))
+next-count n h = counted-follows (n .count) h
 
 -- also after a reset, and after a restart that hands back the counters as they were
 next-from : (before : ℕ) (k : Counting) (n : Counters) → handedBack k n ≡ true → Next before n → Next before (countersFrom k n)
-unfolding countersFrom follows
+unfolding countersFrom
 next-from before goesOn n h e = e
-next-from before cleared n h e = refl
+next-from before cleared n h e = one-follows before
 next-from before (given count total) n h e = subst (Next before) (sym (given-same count total n h)) e
 
 counted-range : (n : Counters) (amount : ℕ) → countedOf n amount .count ≤ 999999
@@ -106,12 +71,6 @@ run-follow (e ∷ es) c before s h n =
 -- where every accepted restart hands back the counters as they were, each record's count follows the one before it, and the first the controller's own
 pub records-follow-on : (es : List Event) (c : Controller) → Sound c → handsBack c es ≡ true → followOn (c .counters .count) (countsOf (records c es)) ≡ true
 records-follow-on es c s h = run-follow es c (c .counters .count) s h (next-count (c .counters) (s .count))
-
--- what follows this one also follows with the first untested
-first-free : (before : ℕ) (counts : List ℕ) → followOn before counts ≡ true → allFollow counts ≡ true
-unfolding followOn allFollow
-first-free before [] h = refl
-first-free before (count ∷ counts) h = and-right (follows before count) _ h
 
 -- from any sound controller, also where restarts before the first record brought other numbers: the count of each record but the first follows
 pub records-follow : (before es : List Event) (c : Controller) → Sound c → records c before ≡ [] → handsBack (run c before) es ≡ true → allFollow (countsOf (records c (before ++ es))) ≡ true

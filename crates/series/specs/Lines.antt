@@ -1,6 +1,6 @@
--- What the doses of a series become: a journal whose D lines carry them is read back as exactly those doses, and each hour's answer is of the doses completed in it. Assumes nothing.
+-- What the doses of a series become: a journal whose D lines carry them is read back as exactly those doses, each hour's answer is of the doses completed in it, and the box leaves no hole in it. Assumes nothing.
 use mathlib.Core.Path.{_≡_, refl, sym, ap, ap₂, subst, _∙_}
-use mathlib.Core.Bool.{Bool, true}
+use mathlib.Core.Bool.{Bool, true, false}
 use mathlib.Core.List.{List, [], _∷_, _++_, map, map-append}
 use Prim.Native.Nat.{ℕ, _≤_}
 use native.Mathlib.Omega.{arith}
@@ -15,14 +15,17 @@ use Rattle.journal.specs.Line.{mostOfD, mostOfH, within, inRange}
 use Rattle.journal.specs.Journal.{hourIn, journalOf, journalText}
 use Rattle.journal.specs.JournalLaws.{Each}
 use Rattle.journal.specs.Order.{Ordered, ordered-journal}
+use Rattle.hourly.specs.Holes.{inHole}
+use Rattle.hourly.specs.HoleLaws.{countsIn, allFollow, follow-no-hole}
 use Rattle.hourly.specs.Hours.{HourAnswer, missing, doseAt, amountsAt, hasOn, measuredOrIdle, hourOf, askOf}
 use Rattle.hourly.specs.Text.{hoursText, rowFrom, rowOf, printOf}
 use Rattle.counters.specs.declared.Record.{Record}
 use Rattle.controller.specs.declared.Controller.{Controller}
 use Rattle.controller.specs.Sound.{Sound}
 use Rattle.counters.specs.Laws.{AllRecordable}
-use Rattle.series.specs.Events.{Event, records}
+use Rattle.series.specs.Events.{Event, run, handsBack, records}
 use Rattle.series.specs.Records.{records-recordable}
+use Rattle.series.specs.Holes.{countsOf, records-follow}
 
 -- ---- a journal of a series
 
@@ -100,29 +103,61 @@ stamped-amounts h (s ∷ more) =
     ap₂ (λ (a b : List ℕ). a ++ b) (sym (pick-map amountsOf (eqb (s .hour) h) (s .dose ∷ []) [])) (stamped-amounts h more)
     ∙ sym (map-append (λ (r : Record). r .amount) (pick (eqb (s .hour) h) (s .dose ∷ []) []) (completedIn h more))
 
--- an hour by whether it has an H, and by the doses completed in it
-unfoldable pub hourWith : Bool → List Record → HourAnswer
-hourWith on rs = pick on (measuredOrIdle (amountsOf rs)) missing
+-- its counts
+
+doses-counts : (ls : List Line) → countsIn ls ≡ countsIn (doseLines ls)
+unfolding countsIn doseLines
+doses-counts [] = refl
+doses-counts (Dose x c a s ∷ ls) = ap (λ (l : List ℕ). c ∷ l) (doses-counts ls)
+doses-counts (On x ∷ ls) = doses-counts ls
+
+stamped-counts : (stamps : List Stamped) → countsIn (map lineFor stamps) ≡ countsOf (map doseOf stamps)
+unfolding countsIn lineFor
+stamped-counts [] = refl
+stamped-counts (s ∷ more) = ap (λ (l : List ℕ). s .dose .count ∷ l) (stamped-counts more)
+
+-- an hour by whether it lies in a hole and whether it has an H, and by the doses completed in it
+unfoldable pub hourWith : Bool → Bool → List Record → HourAnswer
+hourWith hole on rs = pick hole missing (pick on (measuredOrIdle (amountsOf rs)) missing)
 
 module _ (c : Controller) (es : List Event) (stamps : List Stamped) (ls : List Line) (j : JournalOf c es stamps ls) where
   -- the amounts of an hour are those of the doses completed in it: so its number of doses and its sum are theirs
   pub hour-amounts : (h : ℕ) → amountsAt h ls ≡ amountsOf (completedIn h stamps)
   hour-amounts h = doses-amounts h ls ∙ ap (amountsAt h) (j .doses) ∙ stamped-amounts h stamps
 
-  hour-kind : (h : ℕ) → hourOf ls h ≡ hourWith (hasOn h ls) (completedIn h stamps)
+  -- the counts of its D lines are those of the records
+  line-counts : countsIn ls ≡ countsOf (records c es)
+  line-counts = doses-counts ls ∙ ap countsIn (j .doses) ∙ stamped-counts stamps ∙ ap countsOf (j .whole)
+
+  hour-kind : (h : ℕ) → hourOf ls h ≡ hourWith (inHole h ls) (hasOn h ls) (completedIn h stamps)
   unfolding hourOf hourWith
-  hour-kind h = ap (λ (l : List ℕ). pick (hasOn h ls) (measuredOrIdle l) missing) (hour-amounts h)
+  hour-kind h = ap (λ (l : List ℕ). pick (inHole h ls) missing (pick (hasOn h ls) (measuredOrIdle l) missing)) (hour-amounts h)
 
   -- and so are its kind, its figures and its row in print
-  pub hour-answer : Sound c → (h : ℕ) → askOf (journalText ls) h ≡ done (hourWith (hasOn h ls) (completedIn h stamps))
+  pub hour-answer : Sound c → (h : ℕ) → askOf (journalText ls) h ≡ done (hourWith (inHole h ls) (hasOn h ls) (completedIn h stamps))
   unfolding askOf told
   hour-answer s h =
       ap (told (λ (m : List Line). hourOf m h)) (lines-read c es stamps ls s j) ∙ ap done (hour-kind h)
 
-  pub hour-row : (h : ℕ) → rowOf ls h ≡ rowFrom (hourWith (hasOn h ls) (completedIn h stamps)) (amountsOf (completedIn h stamps))
+  pub hour-row : (h : ℕ) → rowOf ls h ≡ rowFrom (hourWith (inHole h ls) (hasOn h ls) (completedIn h stamps)) (amountsOf (completedIn h stamps))
   unfolding rowOf
   hour-row h = ap₂ rowFrom (hour-kind h) (hour-amounts h)
 
   pub hours-printed : Sound c → (room : ℕ) → printOf (journalText ls) room ≡ inRoom [] room (hoursText ls)
   unfolding printOf onDone
   hours-printed s room = ap (λ (a : Answer (List Line)). onDone a (λ m. inRoom [] room (hoursText m))) (lines-read c es stamps ls s j)
+
+-- ---- the box makes no holes
+
+-- from any sound controller: no hour of a journal of a series lies in a hole, where every accepted restart from the first record on hands back the counters as they were; those before it may bring any numbers
+pub journal-no-hole : (before es : List Event) (c : Controller) (stamps : List Stamped) (ls : List Line) → Sound c → records c before ≡ [] → handsBack (run c before) es ≡ true
+    → JournalOf c (before ++ es) stamps ls → (h : ℕ) → inHole h ls ≡ false
+journal-no-hole before es c stamps ls s none back j h =
+    follow-no-hole h ls (ap allFollow (line-counts c (before ++ es) stamps ls j) ∙ records-follow before es c s none back)
+
+-- so each hour of it is as its H and the doses completed in it say
+pub hour-kept : (before es : List Event) (c : Controller) (stamps : List Stamped) (ls : List Line) → Sound c → records c before ≡ [] → handsBack (run c before) es ≡ true
+    → JournalOf c (before ++ es) stamps ls → (h : ℕ) → askOf (journalText ls) h ≡ done (hourWith false (hasOn h ls) (completedIn h stamps))
+hour-kept before es c stamps ls s none back j h =
+    hour-answer c (before ++ es) stamps ls j s h
+    ∙ ap (λ (b : Bool). done (hourWith b (hasOn h ls) (completedIn h stamps))) (journal-no-hole before es c stamps ls s none back j h)

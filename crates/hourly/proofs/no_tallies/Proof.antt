@@ -11,7 +11,7 @@ use Rattle.hourly.proofs.no_tallies.Statement.{statement}
 use Rattle.hourly.proofs.no_tallies.Tie as tie
 
 table : Float → List Tally
-table x = replicate 744 (record { doses = 0; sum = x; largest = 0; on = false })
+table x = replicate 744 (record { doses = 0; sum = x; largest = 0; on = false; holed = false })
 
 returns : tie.Need-returns
 unfolding table noTally

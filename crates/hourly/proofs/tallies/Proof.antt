@@ -22,19 +22,19 @@ use Rattle.hourly.proofs.tallies.Statement.{statement}
 use Rattle.hourly.proofs.tallies.Tie as tie
 
 abbrev Inv-fields : tie.InvT-fields
-Inv-fields bytes size table past at lines number fields got₀ k₀ p₀ got k p = Fielded bytes at fields got k p
+Inv-fields bytes size table holed last past at lines number fields got₀ k₀ p₀ got k p = Fielded bytes at fields got k p
 
 abbrev μ-fields : tie.MeasureT-fields
-μ-fields bytes size table past at lines number fields got₀ k₀ p₀ got k p = fields - k
+μ-fields bytes size table holed last past at lines number fields got₀ k₀ p₀ got k p = fields - k
 
 abbrev Inv-lines : tie.InvT-lines
-Inv-lines bytes size table₀ past₀ at₀ lines₀ table past at lines = Passed bytes past at lines table
+Inv-lines bytes size table₀ holed₀ last₀ past₀ at₀ lines₀ table holed last past at lines = Passed bytes past at lines table holed last
 
 abbrev μ-lines : tie.MeasureT-lines
-μ-lines bytes size table₀ past₀ at₀ lines₀ table past at lines = length bytes - at
+μ-lines bytes size table₀ holed₀ last₀ past₀ at₀ lines₀ table holed last past at lines = length bytes - at
 
 abbrev S : tie.At-lines Inv-fields μ-fields Inv-lines μ-lines → List ℕ
-S c = now (c .before .before .before .before .before .args .bytes)
+S c = now (c .before .before .before .before .before .before .args .bytes)
 
 abbrev top : tie.After-fields-after Inv-fields μ-fields Inv-lines μ-lines → tie.At-lines Inv-fields μ-fields Inv-lines μ-lines
 top c = c .before .before .before
@@ -49,7 +49,7 @@ abbrev top-of : tie.After-line-from Inv-fields μ-fields Inv-lines μ-lines → 
 top-of c = top (letter (fields-of c))
 
 small : (c : tie.At-lines Inv-fields μ-fields Inv-lines μ-lines) → length (S c) ≤ 65536
-small c = omega (arith, c .before .before .before .if1 .left)
+small c = omega (arith, c .before .before .before .before .if1 .left)
 
 -- no line stands where one should
 broken : (c : tie.After-fields-after Inv-fields μ-fields Inv-lines μ-lines) → lineOf (drop (top c .lines .at) (S (top c))) ≡ bad → journalOf (S (top c)) ≡ refused R10 ((top c .lines .lines + 1) ∷ [])
@@ -81,7 +81,7 @@ far-is c b e =
 abbrev line-of : tie.After-past-after Inv-fields μ-fields Inv-lines μ-lines → tie.After-line-from Inv-fields μ-fields Inv-lines μ-lines
 line-of c = c .before .before .before .before .before .before
 
-turned : (c : tie.After-past-after Inv-fields μ-fields Inv-lines μ-lines) → Turn (S (top-of (line-of c))) (c .past-after .result) (top-of (line-of c) .lines .lines) (top-of (line-of c) .lines .table) (line-of c .line-from .result) (c .before .before .before .before .before .hour-in .result) (next (line-of c))
+turned : (c : tie.After-past-after Inv-fields μ-fields Inv-lines μ-lines) → Turn (S (top-of (line-of c))) (c .past-after .result) (top-of (line-of c) .lines .lines) (top-of (line-of c) .lines .table) (top-of (line-of c) .lines .holed) (top-of (line-of c) .lines .last) (line-of c .line-from .result) (c .before .before .before .before .before .hour-in .result) (next (line-of c))
 turned c =
     turn (top-of (line-of c) .lines .inv) (line-of c .line-from .result) (next (line-of c)) (here (line-of c)) _ _ (c .past-after .ensures) (c .before .before .before .before .before .hour-in .ensures) (small (top-of (line-of c)))
     (order-is (c .before .before .before .before) false (c .before .before .before .if5 .left))
@@ -98,13 +98,19 @@ returns c =
 no-tallies-requires : tie.Need-no-tallies-requires Inv-fields μ-fields Inv-lines μ-lines
 no-tallies-requires c κs = search needs
 
+no-holes-requires : tie.Need-no-holes-requires Inv-fields μ-fields Inv-lines μ-lines
+no-holes-requires c κs = search needs
+
 no-past-requires : tie.Need-no-past-requires Inv-fields μ-fields Inv-lines μ-lines
 no-past-requires c κs = search needs
 
 lines-holds : tie.Need-lines-holds Inv-fields μ-fields Inv-lines μ-lines
 lines-holds c =
-    let s = now (c .before .before .before .before .args .bytes) in
-    passed-none s (c .no-past .result) (c .before .no-tallies .result) (omega (arith, c .before .before .if1 .left)) (c .no-past .ensures) (c .before .no-tallies .ensures)
+    let s = now (c .before .before .before .before .before .args .bytes) in
+    passed-none s (c .no-past .result) (c .before .before .no-tallies .result) (c .before .no-holes .result) (omega (arith, c .before .before .before .if1 .left)) (c .no-past .ensures) (c .before .before .no-tallies .ensures) (c .before .no-holes .ensures)
+
+with-holes-requires : tie.Need-with-holes-requires Inv-fields μ-fields Inv-lines μ-lines
+with-holes-requires c κs = search needs
 
 accepted-requires : tie.Need-accepted-requires Inv-fields μ-fields Inv-lines μ-lines
 accepted-requires c κs = search needs
@@ -209,17 +215,26 @@ mul-table c = omega (arith, turned (c .before .before .before) .high)
 array-set-from-table : tie.Need-array-set-from-table Inv-fields μ-fields Inv-lines μ-lines
 array-set-from-table c = omega (arith, turned (c .before .before .before) .high)
 
+slice-aggregate-mark-hole : tie.Need-slice-aggregate-mark-hole Inv-fields μ-fields Inv-lines μ-lines
+slice-aggregate-mark-hole c = search needs
+
+mark-hole-requires : tie.Need-mark-hole-requires Inv-fields μ-fields Inv-lines μ-lines
+mark-hole-requires c κs = turned (c .before .before .before .before) .placed
+
+before-next-requires : tie.Need-before-next-requires Inv-fields μ-fields Inv-lines μ-lines
+before-next-requires c κs = search needs
+
 add-at : tie.Need-add-at Inv-fields μ-fields Inv-lines μ-lines
-add-at c = omega (arith, here (line-of (c .before .before .before)) .inside)
+add-at c = omega (arith, here (line-of (c .before .before .before .before .before .before .before)) .inside, small (top-of (line-of (c .before .before .before .before .before .before .before))))
 
 lines-less : tie.Need-lines-less Inv-fields μ-fields Inv-lines μ-lines
-lines-less c = omega (arith, here (line-of (c .before .before .before)) .onward, here (line-of (c .before .before .before)) .inside)
+lines-less c = omega (arith, here (line-of (c .before .before .before .before .before .before .before)) .onward, here (line-of (c .before .before .before .before .before .before .before)) .inside)
 
 lines-again : tie.Need-lines-again Inv-fields μ-fields Inv-lines μ-lines
-lines-again c = rw (c .with-line .ensures) (turned (c .before .before .before) .again)
+lines-again c = rw (c .before .before .before .before .with-line .ensures) (turned (c .before .before .before .before .before .before .before) .again _ _ (c .before .before .mark-hole .ensures) (c .before-next .ensures))
 
 returns-2 : tie.Need-returns-2 Inv-fields μ-fields Inv-lines μ-lines
-returns-2 c = subst (Counts (S (c .before .before))) (sym (c .accepted .ensures)) (counts-all (c .before .before .lines .inv) (omega (arith, c .before .if2 .taken)))
+returns-2 c = subst (Counts (S (c .before .before .before))) (sym (c .accepted .ensures)) (counts-all (c .before .before .before .lines .inv) (omega (arith, c .before .before .if2 .taken)) _ (c .before .with-holes .ensures))
 
 returns-3 : tie.Need-returns-3 Inv-fields μ-fields Inv-lines μ-lines
 returns-3 c =
@@ -262,8 +277,10 @@ tallies-spec =
     refused-requires
     returns
     no-tallies-requires
+    no-holes-requires
     no-past-requires
     lines-holds
+    with-holes-requires
     accepted-requires
     add-number
     shared-slice-read-fields-after
@@ -298,6 +315,9 @@ tallies-spec =
     with-line-requires
     mul-table
     array-set-from-table
+    slice-aggregate-mark-hole
+    mark-hole-requires
+    before-next-requires
     add-at
     lines-less
     lines-again
