@@ -5,7 +5,7 @@ ghost use lib.Dec.{ltb};
 ghost use lib.IntN.{natAbs};
 ghost use lib.ListN.{take};
 ghost use Rattle.laws.specs.Pick.{pick};
-ghost use Rattle.window.specs.Mean.{roundAway};
+ghost use Rattle.window.specs.Mean.{halfUp, roundAway};
 ghost use Rattle.window.specs.Range.{Total};
 ghost use Rattle.window.specs.Window.{places};
 ghost use Rattle.window.specs.Calls.{IsEmpty, Pushes, Means};
@@ -106,17 +106,23 @@ fn total(w: Window, n: usize) -> i64
     s
 }
 
-// s / n to the nearest, a half away from zero: the signed division and its correction.
+// m / n to the nearest, a half up.
+fn half_up(m: u64, n: usize) -> u64
+    requires { ⌜ (0 < n) × (n ≤ places) × (m ≤ places * 2147483648) ⌝ }
+    ensures { λ r. ⌜ r ≡ halfUp m n ⌝ }
+{
+    let d = n as u64;
+    (2 * m + d) / (2 * d)
+}
+
+// s / n to the nearest, a half away from zero: the magnitude rounded, then given its sign.
 fn rounded(s: i64, n: usize) -> i64
     requires { ⌜ (0 < n) × (n ≤ places) × (natAbs s ≤ places * 2147483648) ⌝ }
     ensures { λ r. ⌜ r ≡ roundAway s n ⌝ }
 {
-    let d = n as i64;
-    let q = s / d;
-    let r = s % d;
     if s < 0 {
-        if d <= 2 * (0 - r) { q - 1 } else { q }
+        0 - half_up((0 - s) as u64, n) as i64
     } else {
-        if d <= 2 * r { q + 1 } else { q }
+        half_up(s as u64, n) as i64
     }
 }

@@ -1,128 +1,97 @@
 -- Each signed value is read back from its bits, since it fits; then the laws of `Round`.
-use mathlib.Core.Path.{_≡_}
+use mathlib.Core.Path.{_≡_, sym, ap, _∙_}
 use mathlib.Core.Bool.{true, false}
-use Prim.Native.Nat.{ℕ, _≤_}
-use native.Mathlib.Nat.{mod-le}
+use Prim.Native.Nat.{ℕ, _^_, _≤_, _<_}
 use native.Mathlib.Omega.{arith}
 use borrow.Author.Needs.{needs}
-use borrow.Author.Tests.{leb-true, leb-false, ltb-true, ltb-false}
-use lib.IntN.{ℤ, pos, _+ℤ_, natAbs}
-use lib.Signed.{quotZ, remZ, ltZ}
+use lib.IntN.{ℤ, pos, _-ℤ_, natAbs}
+use lib.Signed.{ltZ}
 use mir.Syntax.{w64}
 use mir.Val.{toZ, ofZ, SFits}
 use mir.Facts.{toZ-ofZ, toZ-pos}
-use Rattle.laws.specs.Whole.{fits64, abs-add, abs-quot, abs-rem}
-use Rattle.window.proofs.Round.{rem-down, down-more, down-same, rem-up, up-more, up-same}
+use Rattle.laws.specs.Whole.{fits64, abs-sub, from-zero-nonNeg}
+use Rattle.window.specs.Mean.{halfUp}
+use Rattle.window.proofs.Round.{turned, round-below, round-from, half-small}
 use Rattle.window.proofs.rounded.Statement.{statement}
 use Rattle.window.proofs.rounded.Tie as tie
 
-module _ (c : tie.Start) where
-  abbrev s : ℤ
-  s = c .args .s
+back : (c : tie.Start) → toZ w64 (ofZ w64 (c .args .s)) ≡ c .args .s
+back c = toZ-ofZ (c .fits .s)
 
-  abbrev n : ℕ
-  n = c .args .n
+neg : (c : tie.Then1) → ltZ (c .before .args .s) (pos 0) ≡ true
+neg c = rw (back (c .before)) at (c .if1 .taken)
 
-  s-back : toZ w64 (ofZ w64 s) ≡ s
-  s-back = toZ-ofZ (c .fits .s)
+not-neg : (c : tie.Else1) → ltZ (c .before .args .s) (pos 0) ≡ false
+not-neg c = rw (back (c .before)) at (c .if1 .left)
 
-  n-back : toZ w64 n ≡ pos n
-  n-back = toZ-pos w64 (omega arith)
+-- the magnitude of a sum below 0, as it is handed on
+size-back : (c : tie.Then1) → toZ w64 (ofZ w64 (pos 0 -ℤ toZ w64 (ofZ w64 (c .before .args .s)))) ≡ pos (natAbs (c .before .args .s))
+size-back c =
+    let s = c .before .args .s in
+    let f : SFits w64 (pos (natAbs s)) = fits64 (pos (natAbs s)) (omega arith) in
+    rw (back (c .before), turned s (neg c)) (toZ-ofZ f)
 
-  q-fits : SFits w64 (quotZ s (pos n))
-  q-fits = fits64 (quotZ s (pos n)) (omega (arith, abs-quot s n))
+sub-half-up : tie.Need-sub-half-up
+sub-half-up c =
+    let s = c .before .args .s in
+    rw (back (c .before), turned s (neg c)) (fits64 (pos (natAbs s)) (omega arith))
 
-  q-back : toZ w64 (ofZ w64 (quotZ s (pos n))) ≡ quotZ s (pos n)
-  q-back = toZ-ofZ q-fits
+cast-half-up : tie.Need-cast-half-up
+cast-half-up c = rw (size-back c) (tt, omega arith)
 
-  near-q : (z : ℤ) → natAbs z ≤ 1 → SFits w64 (quotZ s (pos n) +ℤ z)
-  near-q z h = fits64 (quotZ s (pos n) +ℤ z) (omega (arith, abs-add (quotZ s (pos n)) z, abs-quot s n))
+half-up-requires : tie.Need-half-up-requires
+half-up-requires c κs = rw (size-back c) (omega arith, omega arith, omega arith)
 
-  r-back : toZ w64 (ofZ w64 (remZ s (pos n))) ≡ remZ s (pos n)
-  r-back = toZ-ofZ (fits64 (remZ s (pos n)) (omega (arith, abs-rem s n)))
+-- the rounded magnitude of a sum below 0, and of one from 0 on
+module _ (c : tie.After-half-up) where
+  below : c .half-up .result ≡ halfUp (natAbs (c .before .before .args .s)) (c .before .before .args .n)
+  below = rw (size-back (c .before)) at (c .half-up .ensures)
 
-neg : (c : tie.Then1) → ltZ (s (c .before)) (pos 0) ≡ true
-neg c = rw (s-back (c .before)) at (c .if1 .taken)
+  below-small : c .half-up .result < 2 ^ 63
+  below-small = rw below (half-small _ _ (omega arith) (omega arith))
 
-not-neg : (c : tie.Else1) → ltZ (s (c .before)) (pos 0) ≡ false
-not-neg c = rw (s-back (c .before)) at (c .if1 .left)
+  signed : SFits w64 (pos 0 -ℤ pos (c .half-up .result))
+  signed = fits64 _ (omega (arith, below-small, abs-sub (pos 0) (pos (c .half-up .result))))
 
-cast-d : tie.Need-cast-d
-cast-d c = search needs
+module _ (c : tie.After-half-up2) where
+  above : c .half-up2 .result ≡ halfUp (natAbs (c .before .before .args .s)) (c .before .before .args .n)
+  above = rw (back (c .before .before)) at (c .half-up2 .ensures)
 
-div-q : tie.Need-div-q
-div-q c = (c .pre .0, rw (s-back c, n-back c) (q-fits c))
+  above-small : c .half-up2 .result < 2 ^ 63
+  above-small = rw above (half-small _ _ (omega arith) (omega arith))
 
-rem-r : tie.Need-rem-r
-rem-r c = (c .pre .0, rw (s-back c, n-back c) (q-fits c))
-
-sub-if2 : tie.Need-sub-if2
-sub-if2 c =
-    let d = c .before in
-    rw (s-back d, n-back d, r-back d, rem-down (s d) (n d) (neg c)) (fits64 _ (omega (arith, mod-le (natAbs (s d)) (n d))))
-
-mul-if2 : tie.Need-mul-if2
-mul-if2 c =
-    let d = c .before in
-    rw (toZ-ofZ (sub-if2 c), s-back d, n-back d, r-back d, rem-down (s d) (n d) (neg c))
-    (fits64 _ (omega (arith, mod-le (natAbs (s d)) (n d))))
+cast-result : tie.Need-cast-result
+cast-result c = fits64 _ (below-small c)
 
 sub-result : tie.Need-sub-result
-sub-result c = let d = c .before .before in rw (s-back d, n-back d, q-back d) (near-q d _ (omega arith))
+sub-result c = rw (toZ-pos w64 (below-small c)) (signed c)
 
-mul-if3 : tie.Need-mul-if3
-mul-if3 c =
-    let d = c .before in
-    rw (s-back d, n-back d, r-back d, rem-up (s d) (n d) (not-neg c)) (fits64 _ (omega (arith, mod-le (natAbs (s d)) (n d))))
+cast-half-up-2 : tie.Need-cast-half-up-2
+cast-half-up-2 c = rw (back (c .before)) (from-zero-nonNeg (c .before .args .s) (not-neg c), omega arith)
 
-add-result : tie.Need-add-result
-add-result c = let d = c .before .before in rw (s-back d, n-back d, q-back d) (near-q d _ (omega arith))
+half-up-requires-2 : tie.Need-half-up-requires-2
+half-up-requires-2 c κs = search needs
+
+cast-result-2 : tie.Need-cast-result-2
+cast-result-2 c = fits64 _ (above-small c)
 
 returns : tie.Need-returns
-returns c =
-    let b = c .before in
-    let d = b .before in
-    let t =
-    rw (toZ-ofZ (mul-if2 b), toZ-ofZ (sub-if2 b), s-back d, n-back d, r-back d, rem-down (s d) (n d) (neg b)) at (c .if2 .taken) in
-    rw (toZ-ofZ (sub-result c), s-back d, n-back d, q-back d)
-    (down-more (s d) (n d) (neg b) (d .pre .0) (omega (arith, leb-true, ltb-true)))
+returns c = rw (toZ-pos w64 (below-small c), toZ-ofZ (signed c), below c) (round-below _ _ (neg (c .before)))
 
 returns-2 : tie.Need-returns-2
-returns-2 c =
-    let b = c .before in
-    let d = b .before in
-    let t =
-    rw (toZ-ofZ (mul-if2 b), toZ-ofZ (sub-if2 b), s-back d, n-back d, r-back d, rem-down (s d) (n d) (neg b)) at (c .if2 .left) in
-    rw (s-back d, n-back d, q-back d) (down-same (s d) (n d) (neg b) (d .pre .0) (omega (arith, leb-false, ltb-false)))
-
-returns-3 : tie.Need-returns-3
-returns-3 c =
-    let b = c .before in
-    let d = b .before in
-    let t = rw (toZ-ofZ (mul-if3 b), s-back d, n-back d, r-back d, rem-up (s d) (n d) (not-neg b)) at (c .if3 .taken) in
-    rw (toZ-ofZ (add-result c), s-back d, n-back d, q-back d)
-    (up-more (s d) (n d) (not-neg b) (d .pre .0) (omega (arith, leb-true, ltb-true)))
-
-returns-4 : tie.Need-returns-4
-returns-4 c =
-    let b = c .before in
-    let d = b .before in
-    let t = rw (toZ-ofZ (mul-if3 b), s-back d, n-back d, r-back d, rem-up (s d) (n d) (not-neg b)) at (c .if3 .left) in
-    rw (s-back d, n-back d, q-back d) (up-same (s d) (n d) (not-neg b) (d .pre .0) (omega (arith, leb-false, ltb-false)))
+returns-2 c = rw (toZ-pos w64 (above-small c), above c) (round-from _ _ (not-neg (c .before)))
 
 pub rounded-spec : {M : Type 1} → statement M
 rounded-spec =
     tie.close
     (tie.spec
-    cast-d
-    div-q
-    rem-r
-    sub-if2
-    mul-if2
+    sub-half-up
+    cast-half-up
+    half-up-requires
+    cast-result
     sub-result
-    mul-if3
-    add-result
+    cast-half-up-2
+    half-up-requires-2
+    cast-result-2
     returns
-    returns-2
-    returns-3
-    returns-4)
+    returns-2)
