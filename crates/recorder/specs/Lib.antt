@@ -4,4 +4,3 @@ pub mod Keeps
 pub mod Feed
 pub mod Readable
 pub mod Cases
-pub mod Consumption

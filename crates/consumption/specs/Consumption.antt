@@ -5,12 +5,13 @@ use mathlib.Core.List.{List, [], _∷_, _++_, map, append-assoc, append-nil}
 use Prim.Native.Nat.{ℕ, zero, suc, _+_, _≤_, _<_}
 use native.Mathlib.Omega.{arith}
 use lib.Dec.{eqb, ltb}
+use lib.IntN.{ℤ}
 use lib.ListN.{length}
 use borrow.Author.Tests.{eq-eqb, ne-eqb, eqb-true, eqb-false, ltb-false}
 use Rattle.laws.specs.Pick.{pick, pick-t, pick-f, pick-all, pick-if}
-use Rattle.laws.specs.Decimal.{Parsed, good, numberAt}
+use Rattle.laws.specs.Decimal.{Parsed, good, bad, numberAt}
 use Rattle.laws.specs.DecimalLaws.{number-only}
-use Rattle.paper.specs.Answer.{done}
+use Rattle.paper.specs.Answer.{Answer, done, refused, fault}
 use Rattle.text.specs.ScanLaws.{bad-good}
 use Rattle.journal.specs.declared.Line.{Line}
 use Rattle.journal.specs.declared.Line.the-variants.{Dose, On}
@@ -20,27 +21,37 @@ use Rattle.journal.specs.Journal.{journalOf, journalText}
 use Rattle.journal.specs.JournalLaws.{Each, journal-text, journal-range}
 use Rattle.hourly.specs.Holes.{inHole}
 use Rattle.hourly.specs.Hours.{HourAnswer, measured, idle, missing, doseAt, amountsAt, isOn, hasOn, sumOf, largestOf, meanOf, measuredOrIdle, hourOf}
+use Rattle.dosing.specs.declared.Dose as dosing
+use Rattle.dosing.specs.declared.Dose.the-variants.{Nothing, Complete}
 use Rattle.controller.specs.declared.Controller.{Controller}
+use Rattle.controller.specs.declared.Fault.{Fault}
+use Rattle.controller.specs.declared.Fault.the-variants as F
+use Rattle.controller.specs.Tick.{Result, Told, saysFault, faulted, step8, step7, tickOf}
+use Rattle.controller.specs.Ways.{tick-ways}
+use Rattle.counters.specs.declared.Counters.{Counters}
 use Rattle.counters.specs.declared.Record.{Record}
+use Rattle.counters.specs.Counters.{recordsOf}
 use Rattle.controller.specs.Calls.{freshOf}
 use Rattle.controller.specs.Sound.{Sound}
 use Rattle.controller.specs.Keeps.{fresh-sound}
+use Rattle.series.specs.Events.{Event, tick, link, request, settings, reset, restart, recordsIn, recordsAt, records}
+use Rattle.series.specs.Records.{records-append}
 use Rattle.series.specs.Lines.{amountsOf, hourWith}
 use Rattle.lines.specs.Lines.{linesOf}
-use Rattle.calls.specs.Call.{callOf}
-use Rattle.acts.specs.Acts.{madeBy}
+use Rattle.calls.specs.Call.{Call, callOf}
+use Rattle.acts.specs.Acts.{Ask, event, counters, nothing, askOf, askBy, eventsIn, madeBy, saidAt, saidTo}
 use Rattle.clock.specs.Clock.{ticksAnHour, greatestHour, Note, note, withStage, withHour, withTicks, withWhole, withKnown, refusalText, refuse, firstOf, doseIn, closing, nextHour, oneMore, counts, restartedBy, lostBy, heardBy, Runs}
-use Rattle.recorder.specs.Recording.{heardOf, noteBy, noteOf, boxBy, nextOf, startOf, notesOf, recordOf}
+use Rattle.recorder.specs.Recording.{heardDoses, heardTick, heardRestart, heardSaid, heardOf, noteBy, noteOf, boxBy, nextOf, startOf, notesOf, recordOf}
 use Rattle.clock.specs.Clock as clock
 use Rattle.clock.specs.Marking.{Writable}
 use Rattle.clock.specs.Keeps.{on-in-range, dose-in-range, ticks-runs, next-runs, restarted-runs, lost-runs}
 use Rattle.recorder.specs.Keeps.{made-sound, heard-writable}
 use Rattle.clock.specs.declared.Heard.{Heard}
 use Rattle.clock.specs.declared.Heard.the-variants.{Ticked, Dosed, Restarted, Lost, Other}
 use Rattle.clock.specs.declared.Stage.{Stage}
 use Rattle.clock.specs.declared.Stage.the-variants.{Recording}
 use Rattle.clock.specs.declared.Clock.{Clock}
 use Rattle.recorder.specs.declared.Recorder.{Recorder}
 
 -- ---- the lines of an hour
 
@@ -118,6 +129,77 @@ dosesIn (Dosed d ∷ hs) = d ∷ dosesIn hs
 dosesIn (Restarted ∷ hs) = dosesIn hs
 dosesIn (Lost ∷ hs) = dosesIn hs
 dosesIn (Other ∷ hs) = dosesIn hs
+
+-- ---- these doses are the dose records of the series of calls that the lines make
+
+-- the events of a script: a line makes one call of a series, or none
+unfoldable pub eventsOf : List (List ℕ) → List Event
+eventsOf [] = []
+eventsOf (l ∷ ls) = eventsIn (askBy (callOf l)) ++ eventsOf ls
+
+-- a tick tells of one dose or of none
+one-dose : (after : Counters) (d : dosing.Dose) → dosesIn (heardDoses (recordsOf after d) ∷ []) ≡ recordsOf after d
+unfolding dosesIn heardDoses recordsOf
+one-dose after Nothing = refl
+one-dose after (Complete amount settled) = refl
+
+fault-none : (why : Fault) → dosesIn (heardTick (saysFault why) ∷ []) ≡ recordsIn (saysFault why)
+unfolding dosesIn heardTick saysFault recordsIn
+fault-none (F.F14 channel) = refl
+fault-none F.F21 = refl
+
+tick-doses : (c : Controller) (x : ℤ) (i : ℕ) → Sound c → dosesIn (heardTick (tickOf c x i .answer) ∷ []) ≡ recordsIn (tickOf c x i .answer)
+unfolding dosesIn heardTick recordsIn faulted step7 step8
+tick-doses c x i s =
+    tick-ways (λ (r : Result Told). dosesIn (heardTick (r .answer) ∷ []) ≡ recordsIn (r .answer))
+    (λ why d sound. fault-none why)
+    c x i s
+    (λ a. refl)
+    (λ why e. fault-none why)
+    (λ d start r. one-dose _ _)
+
+restart-none : (a : Answer (Unit {0})) → dosesIn (heardRestart a ∷ []) ≡ []
+unfolding dosesIn heardRestart
+restart-none (done x) = refl
+restart-none (refused n vs) = refl
+restart-none (fault n vs) = refl
+
+event-doses : (c : Controller) (e : Event) → Sound c → dosesIn (heardSaid (saidAt c e) ∷ []) ≡ recordsAt c e
+unfolding dosesIn heardSaid saidAt recordsAt
+event-doses c (tick x i) s = tick-doses c x i s
+event-doses c (link on) s = refl
+event-doses c (request b reply) s = refl
+event-doses c (settings set) s = refl
+event-doses c reset s = refl
+event-doses c (restart set count total) s = restart-none _
+
+ask-doses : (c : Controller) (a : Ask) → Sound c → dosesIn (heardSaid (saidTo c a) ∷ []) ≡ records c (eventsIn a)
+unfolding dosesIn heardSaid saidTo eventsIn records
+ask-doses c (event e) s = event-doses c e s ∙ sym (append-nil (recordsAt c e))
+ask-doses c counters s = refl
+ask-doses c nothing s = refl
+
+line-doses : (c : Controller) (p : Parsed Call) → Sound c → dosesIn (heardOf c p ∷ []) ≡ records c (eventsIn (askBy p))
+unfolding dosesIn heardOf askBy eventsIn records
+line-doses c (good call rest) s = ask-doses c (askOf call) s
+line-doses c bad s = refl
+
+doses-cons : (h : Heard) (hs : List Heard) → dosesIn (h ∷ hs) ≡ dosesIn (h ∷ []) ++ dosesIn hs
+unfolding dosesIn
+doses-cons Ticked hs = refl
+doses-cons (Dosed d) hs = refl
+doses-cons Restarted hs = refl
+doses-cons Lost hs = refl
+doses-cons Other hs = refl
+
+pub doses-are : (script : List (List ℕ)) (c : Controller) → Sound c → dosesIn (heardAll c script) ≡ records c (eventsOf script)
+unfolding heardAll eventsOf dosesIn records madeBy
+doses-are [] c s = refl
+doses-are (l ∷ script) c s =
+    let p = callOf l in
+    doses-cons (heardOf c p) (heardAll (madeBy c p) script)
+    ∙ ap₂ (λ (a b : List Record). a ++ b) (line-doses c p s) (doses-are script (madeBy c p) (made-sound c p s))
+    ∙ sym (records-append (eventsIn (askBy p)) (eventsOf script) c)
 
 -- ---- the journal's lines, where none is refused
 
