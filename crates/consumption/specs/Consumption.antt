@@ -20,6 +20,7 @@ use Rattle.journal.specs.LineLaws.{read-text}
 use Rattle.journal.specs.Journal.{journalOf, journalText}
 use Rattle.journal.specs.JournalLaws.{Each, journal-text, journal-range}
 use Rattle.hourly.specs.Holes.{inHole}
+use Rattle.hourly.specs.HoleLaws.{countsIn, allFollow, follow-no-hole}
 use Rattle.hourly.specs.Hours.{HourAnswer, measured, idle, missing, doseAt, amountsAt, isOn, hasOn, sumOf, largestOf, meanOf, measuredOrIdle, hourOf}
 use Rattle.dosing.specs.declared.Dose as dosing
 use Rattle.dosing.specs.declared.Dose.the-variants.{Nothing, Complete}
@@ -34,7 +35,9 @@ use Rattle.counters.specs.Counters.{recordsOf}
 use Rattle.controller.specs.Calls.{freshOf}
 use Rattle.controller.specs.Sound.{Sound}
 use Rattle.controller.specs.Keeps.{fresh-sound}
-use Rattle.series.specs.Events.{Event, tick, link, request, settings, reset, restart, recordsIn, recordsAt, records}
+use Rattle.hourly.specs.Text.{rowFrom, rowOf}
+use Rattle.series.specs.Events.{Event, tick, link, request, settings, reset, restart, run, handsBack, recordsIn, recordsAt, records}
+use Rattle.series.specs.Holes.{countsOf, records-follow}
 use Rattle.series.specs.Records.{records-append}
 use Rattle.series.specs.Lines.{amountsOf, hourWith}
 use Rattle.lines.specs.Lines.{linesOf}
@@ -556,6 +559,38 @@ script-lines (l ∷ script) c a = λ k ms s r g e.
     (sym (ap (λ (t : Stage). noteBy t (with c k) l .text ++ notesOf (with (boxBy t c l) (noteBy t (with c k) l .next)) script) s) ∙ e)
     (script-lines script d (made-sound c (callOf l) a))
 
+-- ---- the counts of the D lines are those of the doses
+
+counts-append : (a b : List Line) → countsIn (a ++ b) ≡ countsIn a ++ countsIn b
+unfolding countsIn
+counts-append [] b = refl
+counts-append (Dose x c m t ∷ a) b = ap (λ (l : List ℕ). c ∷ l) (counts-append a b)
+counts-append (On x ∷ a) b = counts-append a b
+
+closing-counts : (k : Clock) → countsIn (closing k) ≡ []
+unfolding closing countsIn
+closing-counts k = pick-all (λ (l : List Line). countsIn l ≡ []) (k .whole && k .known) refl refl
+
+tick-counts : (k : Clock) (ds : List Line) → countsIn (tickLines k ds) ≡ countsIn ds
+unfolding tickLines
+tick-counts k ds =
+    pick-all (λ (l : List Line). countsIn l ≡ countsIn ds) (eqb (k .ticks + 1) ticksAnHour)
+    (counts-append ds (closing k) ∙ ap (λ (l : List ℕ). countsIn ds ++ l) (closing-counts k) ∙ append-nil (countsIn ds))
+    refl
+
+lines-counts : (hs : List Heard) (k : Clock) → countsIn (linesBy k hs) ≡ countsOf (dosesIn hs)
+unfolding linesBy dosesIn countsIn doseIn
+lines-counts [] k = refl
+lines-counts (Ticked ∷ hs) k =
+    counts-append (tickLines k []) (linesBy (oneMore k [] .next) hs)
+    ∙ ap₂ (λ (a b : List ℕ). a ++ b) (tick-counts k []) (lines-counts hs (oneMore k [] .next))
+lines-counts (Dosed d ∷ hs) k =
+    counts-append (tickLines k (doseIn (k .hour) d ∷ [])) (linesBy (oneMore k [] .next) hs)
+    ∙ ap₂ (λ (a b : List ℕ). a ++ b) (tick-counts k (doseIn (k .hour) d ∷ [])) (lines-counts hs (oneMore k [] .next))
+lines-counts (Restarted ∷ hs) k = lines-counts hs (restartedBy k)
+lines-counts (Lost ∷ hs) k = lines-counts hs (lostBy k)
+lines-counts (Other ∷ hs) k = lines-counts hs k
+
 -- ---- the statement
 
 -- an input: the hour of the first tick alone on the first line, and then a script
@@ -613,3 +648,19 @@ module _ (input : List ℕ) (s : Script input) (ls : List Line) (accepted : jour
   pub is-holed : (k : ℕ) → inHole (s .first + k) ls ≡ true → hourOf ls (s .first + k) ≡ missing
   unfolding hourWith
   is-holed k w = consumption k ∙ pick-t _ _ _ w
+
+  -- what is printed of it: M with the number and the sum of those doses, I or X
+  pub printed : (k : ℕ) → rowOf ls (s .first + k)
+      ≡ rowFrom (hourWith (inHole (s .first + k) ls) (seenInFull k (heardIn s)) (dosesIn (hourLines k (heardIn s)))) (amountsOf (dosesIn (hourLines k (heardIn s))))
+  unfolding rowOf
+  printed k = ap₂ rowFrom (consumption k) (ap (amountsAt (s .first + k)) lines-are ∙ hour-tells k (s .first) true (heardIn s) .amounts)
+
+  -- where from the first dose on the script's restarts hand the counters back, no hour lies in a hole
+  pub no-hole : (before es : List Event) → eventsOf (s .script) ≡ before ++ es → records freshOf before ≡ [] → handsBack (run freshOf before) es ≡ true → (h : ℕ) → inHole h ls ≡ false
+  no-hole before es w none e h =
+      follow-no-hole h ls
+      (ap allFollow
+      (ap countsIn lines-are
+      ∙ lines-counts (heardIn s) (opens (s .first) true)
+      ∙ ap countsOf (doses-are (s .script) freshOf fresh-sound ∙ ap (records freshOf) w))
+      ∙ records-follow before es freshOf fresh-sound none e)
