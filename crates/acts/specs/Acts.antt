@@ -34,6 +34,7 @@ askOf calls.reset = event reset
 askOf calls.counters = counters
 askOf (calls.restart set count total) = event (restart set count total)
 askOf (calls.request s room) = event (request s (blank room))
+askOf (calls.modbus s room) = nothing
 askOf (calls.writeFrame s room) = nothing
 askOf (calls.readFrame s) = nothing
 askOf (calls.writeField w) = nothing

@@ -118,6 +118,7 @@ lent-read most bytes C.Reset w h = refl
 lent-read most bytes C.Counters w h = refl
 lent-read most bytes (C.Restart set count total) w h = refl
 lent-read most bytes (C.Request n room) w h = ap (λ (reply : List ℕ). event (request (take n bytes) reply)) (lent-blank most room (omega (arith, w .1)))
+lent-read most bytes (C.Modbus n room) w h = refl
 lent-read most bytes (C.WriteFrame n room) w h = refl
 lent-read most bytes (C.ReadFrame n) w h = refl
 lent-read most bytes (C.WriteField v) w h = refl

@@ -3,8 +3,8 @@ use Prim.Native.Nat.{_-_}
 use native.Mathlib.Omega.{arith}
 use lib.ListN.{length}
 use borrow.Author.Needs.{needs}
-use Rattle.replay.proofs.put.digits.Statement.{statement}
-use Rattle.replay.proofs.put.digits.Tie as tie
+use Rattle.pieces.proofs.digits.Statement.{statement}
+use Rattle.pieces.proofs.digits.Tie as tie
 
 abbrev Inv-loop : tie.InvT-loop
 Inv-loop out₀ at bytes p₀ i₀ i-end out p i = (length out ≡ length out₀) × (i-end ≡ length bytes)

@@ -2,8 +2,8 @@ use mathlib.Core.Path.{_≡_, refl, _∙_}
 use Prim.Native.Nat.{_-_}
 use lib.ListN.{length, length-set}
 use borrow.Author.Needs.{needs}
-use Rattle.replay.proofs.put.blank.Statement.{statement}
-use Rattle.replay.proofs.put.blank.Tie as tie
+use Rattle.pieces.proofs.blank.Statement.{statement}
+use Rattle.pieces.proofs.blank.Tie as tie
 
 abbrev Inv-loop : tie.InvT-loop
 Inv-loop buffer₀ i₀ i-end buffer i = (length buffer ≡ length buffer₀) × (i-end ≡ length buffer₀)
