@@ -44,6 +44,11 @@ pub made-call : (c : Controller) (call : read.Call) (bytes : List ℕ) {old new 
 unfolding madeBy
 made-call c call bytes {old} w h p = record { next = p .makes .next ∙ ap (λ (a : Ask). run c (eventsIn a)) (lent-read (length old) bytes call w h); sound = p .makes .sound }
 
+-- and a line of a fitting length, read with room for its bytes, is its call
+pub made-read : {c d : Controller} {call : read.Call} {line old new : List ℕ} → Reads line old new call → 2048 ≤ length old → length line ≤ 4095
+    → Made c (asCall new call) d → Made c (callOf line) d
+made-read {c} {d} p h k m = subst (λ (q : Parsed Call). Made c q d) (read-call p h k) m
+
 -- ---- a step over the lines
 
 pub brings-none : {c : Controller} {i : Intake} {input : List ℕ} → Sound c → Brings c i input c i
@@ -81,8 +86,3 @@ module _ (input : List ℕ) (held : Intake) (t : Taken) (e : t ≡ nextOf held i
     sound = g .sound;
     made = λ future. g .made future ∙ ap (madeByAll c) (steps .comes future ∙ ap (λ (x : Next). handed input x ++ comes (t .intake) input future) n);
   }
-
-  -- a line that was read is the call of its bytes
-  pub made-line : {from to : ℕ} {c d : Controller} {call : read.Call} {old new : List ℕ} → t .next ≡ Line from to
-      → Reads (take (to - from) (drop from input)) old new call → 2048 ≤ length old → Made c (asCall new call) d → Made c (callOf (take (to - from) (drop from input))) d
-  made-line {c = c} {d = d} n p h m = subst (λ (q : Parsed Call). Made c q d) (read-call p h (line-short n)) m

@@ -1,6 +1,7 @@
 // The answers of the box.
 use acts::Answer;
 use controller::Fault;
+use controller::PollAnswer;
 use controller::RequestAnswer;
 use controller::ResetAnswer;
 use controller::RestartAnswer;
@@ -78,6 +79,15 @@ fn request(answer: RequestAnswer) -> Words {
     }
 }
 
+// P length, or R number.
+fn modbus(answer: PollAnswer) -> Words {
+    match answer {
+        PollAnswer::Sent(len) => Words::one(b'P', len as u64),
+        PollAnswer::R17 => Words::one(b'R', 17),
+        PollAnswer::R8 => Words::one(b'R', 8),
+    }
+}
+
 // What the box answered; ? where the call needs no box.
 pub(crate) fn words(said: Answer) -> Words {
     match said {
@@ -88,6 +98,7 @@ pub(crate) fn words(said: Answer) -> Words {
         Answer::Counters(kept) => Words::two(b'Q', kept.count as u64, kept.total as u64),
         Answer::Restart(restarted) => restart(restarted),
         Answer::Request(replied) => request(replied),
+        Answer::Modbus(polled) => modbus(polled),
         Answer::Aside => Words::none(b'?'),
     }
 }

@@ -10,6 +10,7 @@ ghost use lib.ListN.{length};
 fn room_of(call: Call) -> usize {
     match call {
         Call::Request(_, room) => room,
+        Call::Modbus(_, room) => room,
         Call::WriteFrame(_, room) => room,
         Call::WriteLine(_, room) => room,
         Call::Hours(_, room) => room,
@@ -17,10 +18,20 @@ fn room_of(call: Call) -> usize {
     }
 }
 
-// Makes each byte A5 of the buffer that a call asks for, at the start of `spare`.
-pub fn lend(call: Call, spare: &mut [u8]) {
-    let n = pieces::within(room_of(call), spare);
+// Makes the first bytes of `spare` A5: a buffer of so much room.
+fn blank(spare: &mut [u8], room: usize) {
+    let n = pieces::within(room, spare);
     pieces::blank(&mut spare[..n]);
+}
+
+// The buffer that a call of the box is lent, at the start of `spare`.
+pub fn lend(call: Call, spare: &mut [u8]) {
+    if let Call::Request(_, room) = call {
+        blank(spare, room);
+    }
+    if let Call::Modbus(_, room) = call {
+        blank(spare, room);
+    }
 }
 
 // The box's reply, with the buffer that it was lent.
@@ -32,7 +43,9 @@ fn put_reply(out: &mut [u8], call: Call, said: Answer, spare: &[u8]) -> usize {
 // The answer of a writer or reader on the bytes of its call, with the buffer that it is lent.
 fn put_aside(out: &mut [u8], call: Call, bytes: &[u8], spare: &mut [u8]) -> usize {
     let size = pieces::within(calls::size_of(call), bytes);
-    let n = pieces::within(room_of(call), spare);
+    let room = room_of(call);
+    blank(spare, room);
+    let n = pieces::within(room, spare);
     asides::answer(out, call, &bytes[..size], &mut spare[..n])
 }
 
@@ -41,6 +54,7 @@ fn put_answer(out: &mut [u8], call: Call, said: Answer, bytes: &[u8], spare: &mu
     match said {
         Answer::Aside => put_aside(out, call, bytes, spare),
         Answer::Request(_) => put_reply(out, call, said, spare),
+        Answer::Modbus(_) => put_reply(out, call, said, spare),
         _ => pieces::line(out, boxed::words(said)),
     }
 }

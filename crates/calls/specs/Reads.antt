@@ -12,6 +12,7 @@ use borrow.Author.Tests.{le-leb, lt-leb}
 use Rattle.laws.specs.Pick.{pick, pick-t, pick-f}
 use Rattle.laws.specs.Over.{over}
 use Rattle.laws.specs.Decimal.{Parsed, good, bad}
+use Rattle.paper.specs.Answer.{same}
 use Rattle.text.specs.ScanLaws.{bad-good}
 use Rattle.calls.specs.Call.{Call, tick, link, settings, reset, counters, restart, request, modbus, writeFrame, readFrame, writeField, readField, writeLine, readLine, hour, hours, callOf}
 use Rattle.calls.specs.declared.Call as declared
@@ -76,6 +77,12 @@ sizeOf (C.ReadLine n) = n
 sizeOf (C.Hour n h) = n
 sizeOf (C.Hours n room) = n
 sizeOf C.Unknown = 0
+
+abbrev pub Sizes : declared.Call → ℕ → Type 0
+Sizes call r = r ≡ sizeOf call
+
+pub size-determined : (call : declared.Call) {r s : ℕ} → Sizes call r → Sizes call s → r ≡ s
+size-determined call p q = same p q
 
 -- a line of at most 4,095 bytes, its LF left out, read with room for the bytes of every line; else nothing is asked
 unfoldable pub readIn : ℕ → List ℕ → Parsed Call

@@ -10,7 +10,7 @@ ghost use mathlib.Core.Path.{_≡_};
 ghost use Prim.Native.Nat.{_≤_};
 ghost use lib.ListN.{length, drop, getD};
 ghost use Rattle.calls.specs.Call.{callBy};
-ghost use Rattle.calls.specs.Reads.{sizeOf, Reads};
+ghost use Rattle.calls.specs.Reads.{Sizes, Reads};
 ghost use Rattle.calls.specs.Reading.{Asks};
 
 // A number that may be below 0, read at a place: its value and the place after it, or none.
@@ -98,7 +98,7 @@ fn call_of(line: &[u8]) -> Call
 
 // How many bytes a call carries.
 pub fn size_of(call: Call) -> usize
-    ensures { λ r. ⌜ r ≡ sizeOf call ⌝ }
+    ensures { λ r. ⌜ Sizes call r ⌝ }
 {
     match call {
         Call::Request(n, _) => n,

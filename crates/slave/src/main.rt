@@ -94,7 +94,11 @@ fn set_up(input: &mut [u8], bytes: &mut [u8], spare: &mut [u8]) -> Brought
         let refilled = refill::refill(held, input);
         held = refilled.intake;
         if !refilled.more {
-            break;
+            return Brought {
+                controller: c,
+                intake: held,
+                open: false,
+            };
         }
         let brought = bring(c, held, input, bytes, spare);
         if brought.open {

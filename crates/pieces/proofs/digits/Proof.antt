@@ -15,29 +15,8 @@ abbrev μ-loop : tie.MeasureT-loop
 loop-holds : tie.Need-loop-holds Inv-loop μ-loop
 loop-holds c = (refl, refl)
 
-shared-slice-read-put-hex : tie.Need-shared-slice-read-put-hex Inv-loop μ-loop
-shared-slice-read-put-hex c = search needs
-
 cast-put-hex : tie.Need-cast-put-hex Inv-loop μ-loop
 cast-put-hex c = omega (arith, c .shared-slice-known2 .given (c .before .before .before .loop .i))
-
-put-hex-requires : tie.Need-put-hex-requires Inv-loop μ-loop
-put-hex-requires c κs = search needs
-
-add-i : tie.Need-add-i Inv-loop μ-loop
-add-i c = search needs
-
-loop-less : tie.Need-loop-less Inv-loop μ-loop
-loop-less c = search needs
-
-loop-again : tie.Need-loop-again Inv-loop μ-loop
-loop-again c = search needs
-
-same-length : tie.Need-same-length Inv-loop μ-loop
-same-length c = search needs
-
-returns : tie.Need-returns Inv-loop μ-loop
-returns c = search needs
 
 pub digits-spec : {M : Type 1} → statement M
 digits-spec =
@@ -46,11 +25,7 @@ digits-spec =
     Inv-loop
     μ-loop
     loop-holds
-    shared-slice-read-put-hex
+    (λ c. search needs)
     cast-put-hex
-    put-hex-requires
-    add-i
-    loop-less
-    loop-again
-    same-length
-    returns)
+    (λ c κs. search needs) (λ c. search needs) (λ c. search needs) (λ c. search needs) (λ c. search needs)
+    (λ c. search needs))

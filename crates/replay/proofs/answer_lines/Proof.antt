@@ -6,7 +6,7 @@ use denote.Ref.{now}
 use lib.ListN.{length, take, drop, length-append, length-take, length-drop}
 use lib.Seq.{length-take-le}
 use Rattle.lines.specs.Intake.{Behind}
-use Rattle.acts.specs.Script.{Brings, brings-none, brings-line, brings-more, line-behind, none-waits, made-line}
+use Rattle.acts.specs.Script.{Brings, brings-none, brings-line, brings-more, line-behind, line-short, none-waits, made-read}
 use borrow.Author.Needs.{needs}
 use Rattle.replay.proofs.answer_lines.Statement.{statement}
 use Rattle.replay.proofs.answer_lines.Tie as tie
@@ -52,7 +52,7 @@ loop-again c =
     let room = c .before .before .before .before .before .before .before .before .before .before .before .before .before .before .before .before .before .before .before .with-room in
     let line = c .before .before .before .before .before .before .before .before .before .before .before .before .before .before .before .before .before .before .before .before .before .before .next .given .1 in
     let found = c .before .before .before .before .before .before .before .before .before .before .before .before .before .before .before .before .before .before .before .before .before .before .before .before .before .next-line .ensures in (
-      brings-line _ _ _ found (inv .0) line (made-line _ _ _ found line (read .ensures) (omega (arith, inv .2, c .before .before .before .before .before .before .before .before .before .before .before .before .before .before .before .before .before .before .before .before .before .before .before .before .before .before .before .before .before .before .before .pre .1 .0)) (made .ensures)),
+      brings-line _ _ _ found (inv .0) line (made-read (read .ensures) (omega (arith, inv .2, c .before .before .before .before .before .before .before .before .before .before .before .before .before .before .before .before .before .before .before .before .before .before .before .before .before .before .before .before .before .before .before .pre .1 .0)) (line-short _ _ _ found line) (made .ensures)),
       omega (arith, fits (c .before .before .before .before), inv .4),
       read .kept .1 .0 ∙ inv .2,
       say .kept .1 .1 .1 .1 .0 ∙ made .kept .1 .1 .1 .0 ∙ inv .3,
