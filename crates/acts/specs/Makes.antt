@@ -18,7 +18,7 @@ use Rattle.series.specs.Events.{run, request}
 use Rattle.calls.specs.declared.Call as read
 use Rattle.calls.specs.declared.Call.the-variants as C
 use Rattle.calls.specs.Reads.{asCall, Within}
-use Rattle.acts.specs.Acts.{Ask, event, blank, askOf, askBy, eventsIn, Said, ticked, linked, taken, cleared, counted, restarted, replied, aside, saidTo, leftBy, lentTo, lent}
+use Rattle.acts.specs.Acts.{Ask, event, blank, askOf, askBy, eventsIn, Said, ticked, linked, taken, cleared, counted, restarted, replied, polled, aside, saidTo, leftBy, lentTo, lent}
 use Rattle.acts.specs.declared.Answer as declared
 use Rattle.acts.specs.declared.Answer.the-variants as A
 use Rattle.acts.specs.declared.Acted.{Acted}
@@ -80,6 +80,8 @@ saidBack (cleared a) = A.Reset (resetBack a)
 saidBack (counted n) = A.Counters n
 saidBack (restarted a) = A.Restart (restartBack a)
 saidBack (replied a) = A.Request (replyBack a)
+-- no call of a script is a MODBUS frame
+saidBack (polled a) = A.Aside
 saidBack aside = A.Aside
 
 said-back : (a : declared.Answer) → saidBack (saysAct a) ≡ a
