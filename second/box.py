@@ -1,6 +1,6 @@
 """The controller: settings, counters, ticks and line requests."""
 
-from second import fields, frames, settings
+from second import fields, frames, modbus, settings
 from second.refusal import Refused
 
 READY, FILL, FINE, HOLD, SETTLE, DISCHARGE, LOAD, CALM, FAULT = range(9)
@@ -312,6 +312,30 @@ class Box:
         """While no sample is held weight and both flags are 0."""
         if not self.samples:
             return fields.write(0, 0, 0, self.s.point)
-        weight = mean(self.samples, n) - self.Z
+        weight = self.weight(n)
         over = weight > self.s.C + 9
         return fields.write(weight, self.stable, over, self.s.point)
+
+    def weight(self, n):
+        """The weight by n samples, 0 while none is held."""
+        return mean(self.samples, n) - self.Z if self.samples else 0
+
+    # MODBUS.
+
+    def modbus(self, frame, room):
+        """The reply, nothing to a good write to address 0; R17, then R8."""
+        reply, link = modbus.served(frame, self.s.address, self.registers())
+        if len(reply) > room:
+            raise Refused(8)
+        if link is not None:
+            self.set_link(link)
+        return reply
+
+    def registers(self):
+        """0-1 the C3 weight, 2-3 the C2 weight, 4 inputs, 5 outputs, 6-7 count,
+        8-9 total, 10 link start."""
+        return (modbus.single(self.weight(self.s.p8)) +
+                modbus.single(self.weight(self.s.p7)) +
+                [self.inputs, self.outputs] +
+                modbus.double_word(self.count) + modbus.double_word(self.total) +
+                [self.link])

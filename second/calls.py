@@ -1,6 +1,8 @@
 """Random lines of `replay` beside the ticks."""
 
-from second import frames, journals
+import struct
+
+from second import frames, journals, modbus
 from second.settings import Settings, ranges
 
 CODES = [0xC0, 0xC2, 0xC3, 0xC4, 0xC5]
@@ -157,6 +159,54 @@ def reader_line(rng, s):
     return line('X', make(rng))
 
 
+# MODBUS.
+
+def modbus_body(rng, s):
+    """A request without its CRC, mostly ours and good."""
+    address = rng.choice([s.address] * 12 + [0, 0, rng.randrange(256)])
+    pick = rng.randrange(20)
+    if pick == 0:
+        return bytes([address, rng.randrange(256)]) + marked(rng, rng.choice(
+            [0, 1, 4, 4, 6, 251, 252, 253, rng.randint(0, 252)]))
+    if pick < 8:
+        register = rng.choice([10] * 12 + [0, 9, 11, 266, 2560, 65535])
+        value = rng.choice([0, 0, 0, 1, 1, 1, 2, 256, 65535])
+        return bytes([address, 6]) + struct.pack('>HH', register, value)
+    first, quantity = rng.randint(0, 10), rng.randint(1, 11)
+    if rng.randrange(4):
+        quantity = min(quantity, 11 - first)
+    if rng.randrange(12) == 0:
+        first, quantity = (rng.choice([0, 1, 10, 11, 12, 255, 256, 65535]) for _ in 'ab')
+    if rng.randrange(12) == 0:
+        quantity = rng.choice([0, 1, 124, 125, 126, 127, 65535])
+    return bytes([address, 3]) + struct.pack('>HH', first, quantity)
+
+
+def modbus_bytes(rng, s):
+    """One frame; now and then damaged, cut, longer, or with its CRC turned
+    about."""
+    frame = modbus.closed(modbus_body(rng, s))
+    pick = rng.randrange(30)
+    if pick == 0:
+        at = rng.randrange(len(frame))
+        frame = frame[:at] + bytes([frame[at] ^ 1 << rng.randrange(8)]) + frame[at + 1:]
+    elif pick == 1:
+        frame = frame[:rng.randrange(len(frame))]
+    elif pick == 2:
+        frame = modbus.closed(frame[:-2] + marked(rng, rng.randint(1, 3)))
+    elif pick == 3:
+        frame = frame[:-2] + frame[:-3:-1]
+    elif pick == 4:
+        frame = modbus.closed(frame[:rng.randint(0, 5)])
+    return frame
+
+
+def modbus_line(rng, s):
+    data = modbus_bytes(rng, s)
+    room = rng.choice([64, 64, 64, 27, rng.randint(0, 30), rng.randint(4, 9)])
+    return line('M', data, room)
+
+
 # Fields.
 
 def field_writer_line(rng, s):
@@ -217,6 +267,7 @@ def malformed_line(rng, s):
         line('T', rng.randint(-99, 99), rng.randint(0, 15)), line('L', 1),
         set_line(good_settings(rng)), line('Q'), line('C'),
         request_line(rng, s), frame_line(rng, s), line('K', b'\5\0\0\x91'),
+        modbus_line(rng, s),
         d_line(rng, s), h_line(rng, s)])
     return rng.choice(SPOILERS)(rng, good)
 
@@ -258,6 +309,7 @@ SPOILERS = [
     lambda rng, good: b'T\t0\t%d' % rng.choice([256, -1, 2**64]),
     lambda rng, good: b'L\t%d' % rng.choice([2, -1]),
     lambda rng, good: b'B\tFF\t65',
+    lambda rng, good: b'M\t01030004000285CA\t65',
     lambda rng, good: b'W\t01C3\t601',
     lambda rng, good: b'j\t\t2001',
     lambda rng, good: b'K\t' + rng.choice([b'050000', b'0500009100', b'']),
@@ -274,6 +326,7 @@ SPOILERS = [
     in_field(lambda cell: b'4294967296'),
 ]
 
-OTHER = [request_line, request_line, request_line, frame_line, reader_line,
+OTHER = [request_line, request_line, request_line, modbus_line, modbus_line,
+         modbus_line, modbus_line, frame_line, reader_line,
          field_writer_line, field_reader_line, d_line, h_line, one_line,
          hour_line, text_line, malformed_line]

@@ -1,10 +1,11 @@
-"""Makes input for `replay`, `record` and `hours` from a seed.
+"""Makes input for `replay`, `record`, `slave` and `hours` from a seed.
 
 python3 -m second.generate replay SEED [LINES]
 python3 -m second.generate record SEED [HOURS]      a weigher at work
 python3 -m second.generate minutes SEED [MINUTES]   the same, for less than an hour
 python3 -m second.generate ends SEED [HOURS]        hours with something at their ends
 python3 -m second.generate lost SEED                hours around lines that are no call
+python3 -m second.generate slave SEED [FRAMES]       reads of `slave`, a line of hex each
 python3 -m second.generate journal SEED [KIND]
 python3 -m second.generate kinds
 """
@@ -89,6 +90,8 @@ class Maker:
             self.tick()
             if self.chance(25):
                 self.other()
+            if self.chance(50):
+                self.say(calls.modbus_line(rng, self.box.s))
             if self.chance(150):
                 self.zeroing()
             left -= 50 if self.box.phase == box.FAULT else 1
@@ -150,7 +153,23 @@ def minutes(seed, number=3):
     return lines[:2 + number * MINUTE]
 
 
-MADE = {'replay': replay, 'record': record, 'minutes': minutes, 'ends': ends, 'lost': lost}
+def slave(seed, frames=200):
+    """A script in packets of any length, an empty line, frames; for an odd seed
+    the first frame stands right behind the empty line."""
+    maker = Maker(seed)
+    rng = maker.rng
+    script = b''.join(line + b'\n' for line in maker.make(rng.choice([1, 300])) if line)
+    made = [calls.modbus_bytes(rng, maker.box.s) for _ in range(frames)]
+    script += b'\n' + (made.pop() if seed % 2 else b'')
+    while script:
+        length = rng.choice([1, 50, rng.randint(1, 2000)])
+        made.insert(0, script[-length:])
+        script = script[:-length]
+    return [packet.hex().upper().encode() + b'\n' for packet in made if packet]
+
+
+MADE = {'replay': replay, 'record': record, 'minutes': minutes, 'ends': ends,
+        'lost': lost, 'slave': slave}
 
 
 def main(words):

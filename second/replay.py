@@ -78,6 +78,10 @@ class Replay:
         place, reply = self.box.request(data, room)
         return 'P', place, len(reply), lent(room, reply)
 
+    def modbus(self, frame, room):
+        reply = self.box.modbus(frame, room)
+        return 'P', len(reply), lent(room, reply)
+
     def write_frame(self, body, room):
         frame = frames.write(body, room)
         return 'P', len(frame), lent(room, frame)
@@ -124,6 +128,7 @@ class Replay:
         b'Q': (counters, [], False),
         b'N': (restart, SET + [U32, U32], False),
         b'B': (request, [HEX, (0, 64)], True),
+        b'M': (modbus, [HEX, (0, 64)], True),
         b'W': (write_frame, [HEX, (0, 600)], True),
         b'X': (read_frame, [HEX], False),
         b'G': (write_field, [I32, BIT, BIT, BYTE], False),

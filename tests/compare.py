@@ -5,6 +5,7 @@ python3 tests/compare.py                            some of each
 python3 tests/compare.py replay [SEEDS [LINES]]     scripts of so many lines
 python3 tests/compare.py journals [SEEDS]           33 journals a seed
 python3 tests/compare.py record [SEEDS [HOURS]]     hours of ticks, and their hours
+python3 tests/compare.py slave [SEEDS [FRAMES]]     MODBUS frames, each a read
 
 Each runs the stored cases first, then input from the seeds 1 to SEEDS. The
 journals are of every kind that the generator knows: small and empty ones, the
@@ -12,7 +13,8 @@ largest (65,536 bytes), a month (744 hours), thousands of doses in one hour,
 holes in the counts, one byte too many, and every kind of malformed line. For `record` a seed gives a
 weigher at work, hours with something at their ends, eight hours around lines
 that are no call, a script of every call after a first hour, and first lines
-that are no hour. What `record` prints goes through `hours` too.
+that are no hour. What `record` prints goes through `hours` too. `slave` is given
+what each read brings as a packet of its own.
 
 At the first difference it prints the output line of both and the input line
 that it answers, and ends with status 1. It does so too where a task fails, and
@@ -27,20 +29,24 @@ import itertools
 import os
 import platform
 import random
+import socket
 import subprocess
 import sys
+import tempfile
 import traceback
 
 ROOT = os.path.dirname(os.path.dirname(os.path.abspath(__file__)))
 sys.path.insert(0, ROOT)
 
-from second import calls, generate, hours, journals, record, replay  # noqa: E402
+from second import calls, generate, hours, journals, record, replay, slave  # noqa: E402
 
 AT_A_TIME = 2
-SOME = {'replay': (4, 20000), 'journals': (10,), 'record': (1, 2)}
-NEEDED = {'replay': ['replay'], 'journals': ['hours'], 'record': ['record', 'hours']}
+SOME = {'replay': (4, 20000), 'journals': (10,), 'record': (1, 2), 'slave': (20, 200)}
+NEEDED = {'replay': ['replay'], 'journals': ['hours'], 'record': ['record', 'hours'],
+          'slave': ['slave']}
 SUMMARY = {'replay': '%d scripts, %d answers', 'hours': '%d journals, %d lines of hours',
-           'record': '%d scripts, %d lines of journal'}
+           'record': '%d scripts, %d lines of journal',
+           'slave': '%d scripts, %d rows of replies'}
 
 
 # The programs.
@@ -65,13 +71,44 @@ def command(name):
 def printed(words, data):
     """What a program prints, and its status where that is not 0."""
     done = subprocess.run(words, input=data, capture_output=True)
-    return done.stdout + (b'status %d\n' % done.returncode if done.returncode else b'')
+    return done.stdout + status_line(done.returncode)
+
+
+def status_line(code):
+    return b'status %d\n' % code if code else b''
+
+
+def rows(replies):
+    """Bytes in hex, sixteen to a line."""
+    return b''.join(replies[at:at + 16].hex().upper().encode() + b'\n'
+                    for at in range(0, len(replies), 16))
+
+
+def replied(words, data):
+    """What a program replies where each read brings a packet."""
+    ours, theirs = socket.socketpair(socket.AF_UNIX, socket.SOCK_SEQPACKET)
+    with tempfile.TemporaryFile() as out:
+        with theirs:
+            running = subprocess.Popen(words, stdin=theirs, stdout=out)
+        try:
+            with ours:
+                for packet in slave.packets(data):
+                    ours.sendall(packet)
+        except (BrokenPipeError, ConnectionResetError):
+            pass
+        code = running.wait()
+        out.seek(0)
+        return rows(out.read()) + status_line(code)
+
+
+PRINTED = {'slave': replied}
 
 
 SECOND = {
     'replay': lambda data: b''.join(replay.answered(io.BytesIO(data))),
     'record': lambda data: b''.join(record.written(io.BytesIO(data))),
     'hours': hours.printed,
+    'slave': lambda data: rows(slave.in_packets(data)),
 }
 
 
@@ -122,7 +159,8 @@ def difference(name, case, data, ours, theirs):
 
 STORED = {'replay': ['tests/cases/*.replay', 'crates/replay/stdin'],
           'journals': ['tests/cases/*.journal'],
-          'record': ['tests/cases/*.record', 'crates/record/stdin', 'samples/*.record']}
+          'record': ['tests/cases/*.record', 'crates/record/stdin', 'samples/*.record'],
+          'slave': ['tests/cases/*.slave']}
 BAD_FIRST_LINES = 10        # a seed
 
 
@@ -178,7 +216,8 @@ def one(programs, name, case, data, counts):
     """The first difference of one input. What `record` prints is a journal,
     which goes through `hours`."""
     theirs = SECOND[name](data)
-    told = difference(name, case, data, printed(programs[name], data), theirs)
+    ours = PRINTED.get(name, printed)(programs[name], data)
+    told = difference(name, case, data, ours, theirs)
     inputs, lines = counts.get(name, (0, 0))
     counts[name] = inputs + 1, lines + theirs.count(b'\n')
     if name == 'record' and not told:
@@ -206,8 +245,8 @@ def tasks(kind, seeds, *size):
     name = 'hours' if kind == 'journals' else kind
     yield Task(name, stored, (name, kind), len(list(paths(kind))))
     for seed in range(1, seeds + 1):
-        if kind == 'replay':
-            yield Task(name, seeded, (name, 'replay', seed, *size), 1)
+        if kind in ('replay', 'slave'):
+            yield Task(name, seeded, (name, kind, seed, *size), 1)
         elif kind == 'journals':
             yield Task(name, seeded_journals, (seed,), len(journals.KINDS))
         else:

@@ -92,18 +92,34 @@ def seen(*words):
     return done.returncode, b'0 differ' in done.stdout
 
 
+# The second implementation of `slave` as a program, run in packets.
+SLAVE = [sys.executable, '-c', 'import sys; sys.path.insert(0, sys.argv[1]); '
+         'from second import slave; slave.main()',
+         os.path.dirname(os.path.dirname(os.path.abspath(__file__)))]
+
+
+def packets():
+    """Whether each read of a program brings one packet."""
+    import compare
+    for _, case, data in compare.stored('slave', 'slave'):
+        if compare.replied(SLAVE, data) != compare.SECOND['slave'](data):
+            print('packets of ' + case)
+            return 1
+    return 0
+
+
 def main():
     wanted = {('none', '50', 'good'): (0, True), ('no last LF', '10', 'good'): (1, False)}
     for change in list(CHANGES)[1:]:
         wanted[change, '50', 'good'] = 1, False
     for tasks in list(TASKS)[1:]:
         wanted['none', '50', tasks] = 1, False
-    failed = 0
+    failed = packets()
     for words, answer in wanted.items():
         if seen(*words) != answer:
             failed += 1
             print('%s, hour %s, tasks %s: %r, not %r' % (*words, seen(*words), answer))
-    print('%d comparisons, %d failed' % (len(wanted), failed))
+    print('%d comparisons, %d failed' % (len(wanted) + 1, failed))
     return 1 if failed else 0
 
 

@@ -3,15 +3,17 @@
 A line that begins with # is a heading; `replay` answers it with ?.
 """
 
+import io
 import os
 import random
+import struct
 import sys
 
 ROOT = os.path.dirname(os.path.dirname(os.path.abspath(__file__)))
 CASES = os.path.join(ROOT, 'tests', 'cases')
 sys.path.insert(0, ROOT)
 
-from second import frames, generate, hopper, journals  # noqa: E402
+from second import frames, generate, hopper, journals, modbus, replay  # noqa: E402
 from second.calls import checked, framed, line  # noqa: E402
 from second.replay import Replay  # noqa: E402
 from second.settings import DEFAULT, Settings  # noqa: E402
@@ -68,6 +70,14 @@ class Case:
         for code in codes:
             frame = framed(checked(bytes([self.box.s.address, code])))
             self.say('B', frame, room)
+
+    def modbus(self, text, room=27):
+        """A frame of these bytes and their CRC."""
+        return self.say('M', modbus.closed(bytes.fromhex(text)), room)
+
+    def registers(self):
+        """All that there are."""
+        self.modbus('%02X030000000B' % self.box.s.address)
 
     def run(self, tank, start=START, most=1500):
         """Ticks of a hopper until a dose completes."""
@@ -750,6 +760,209 @@ def frames_case():
     case.save('frames.replay')
 
 
+# MODBUS.
+
+# Beside their places in an f32: whole numbers of 1 to 20 bits.
+WEIGHTS = sorted({sign * min(900000, (1 << bits) + by) for bits in range(20)
+                  for by in (-1, 0, 1, 1 << bits >> 1) for sign in (1, -1)}
+                 | {0, 899999, -899999, 123456, -654321, 777777})
+
+
+def modbus_case():
+    case = Case(75)
+    case.head('a fresh box; document 02 as its panel reads it')
+    case.registers()
+    case.say('M', bytes.fromhex('010300040002'), 8)
+    case.say('M', bytes.fromhex('01030004000285CA'), 9)
+    case.say('M', bytes.fromhex('0106000A00022809'), 6)
+    case.head('03: every register and quantity, 03 before 02')
+    case.new(AL1._replace(address=17, p8=9), 123456, 987654321)
+    case.ticks(3, 40)
+    case.ticks(2, 700)
+    case.say('T', 701, 13)
+    case.registers()
+    for first in range(13):
+        for quantity in range(14):
+            case.modbus('1103%04X%04X' % (first, quantity))
+    for first in (0, 10, 11, 255, 256, 65535):
+        for quantity in (0, 1, 2, 11, 12, 124, 125, 126, 127, 255, 256, 257, 65535):
+            case.modbus('1103%04X%04X' % (first, quantity), 30)
+    case.head('06: every register but 10 is 02, also with a wrong value')
+    for register in list(range(13)) + [255, 256, 266, 2560, 65525, 65535]:
+        for value in (0, 1, 2, 255, 256, 257, 65535):
+            case.modbus('1106%04X%04X' % (register, value))
+            case.modbus('1103000A0001')
+    case.head('another function: 01 with the top bit set')
+    for function in range(256):
+        case.modbus('11%02X' % function)
+        case.modbus('11%02X000A0001' % function)
+    case.head('lengths: 8 for 03 and 06, else 4..256')
+    for function in (3, 6, 5):
+        for length in range(12):
+            case.modbus(('11%02X000A00010000000000' % function)[:2 * length])
+        for length in (253, 254, 255, 256):
+            case.modbus('11%02X' % function + '00' * (length - 2))
+    for length in range(4):
+        case.say('M', b'\x11' * length, 4)
+    case.say('M', b'\xFF\xFF', 4)
+    case.head('CRC: each bit, high byte first, none, zero')
+    for text in ('11030004000A', '1106000A0001'):
+        frame = modbus.closed(bytes.fromhex(text))
+        for at in range(len(frame)):
+            for bit in range(8):
+                spoiled = bytearray(frame)
+                spoiled[at] ^= 1 << bit
+                case.say('M', bytes(spoiled), 9)
+        case.say('M', frame[:-2] + frame[:-3:-1], 9)
+        case.say('M', frame[:-2] + b'\0\0', 9)
+        case.say('M', frame[:-2] + b'\xFF\xFF', 9)
+        case.say('M', frame + frame, 9)
+    case.registers()
+    modbus_addresses(case)
+    modbus_rooms(case)
+    modbus_weights(case)
+    modbus_starts(case)
+    case.save('modbus.replay')
+
+
+def modbus_addresses(case):
+    case.head('addresses: ours, others, 0')
+    for address in range(256):
+        case.modbus('%02X03000A0001' % address, 7)
+        case.modbus('%02X06000A0001' % address, 8)
+        case.modbus('1106000A0000', 8)
+    case.head('to address 0 a good write acts, with any room; anything else is silent')
+    for value in (1, 0):
+        for room in (0, 7, 64):
+            case.modbus('0006000A%04X' % value, room)
+            case.registers()
+            case.modbus('1106000A%04X' % (1 - value))
+    for text in ('00060009' + '0001', '0006000B0001', '0006000A0002', '0006000AFFFF',
+                 '00060000FFFF', '0003000A0001', '000300000000', '00030000000C',
+                 '0005000A0001', '0086000A0001', '0000', '0006', '0006000A',
+                 '0006000A000100'):
+        case.modbus(text)
+        case.modbus(text, 0)
+    case.say('M', bytes.fromhex('0006000A00010000'), 8)
+    case.registers()
+    case.head('the address is the setting')
+    case.new(AL1._replace(address=17))
+    case.settings(AL1._replace(address=127))
+    case.modbus('1103000A0001')
+    case.modbus('7F03000A0001')
+    case.settings(AL1._replace(address=128))
+    case.modbus('8003000A0001')
+    case.settings(AL1)
+
+
+def modbus_rooms(case):
+    case.head('room that fits and one less; a write refused with R8 sets nothing')
+    for quantity in range(1, 12):
+        for room in (2 * quantity + 4, 2 * quantity + 5, 2 * quantity + 6):
+            case.modbus('01030000%04X' % quantity, room)
+    for text in ('010300000000', '0103000B0001', '010600000000', '0106000A0002', '0141'):
+        for room in (0, 4, 5, 6):
+            case.modbus(text, room)
+    for value in (1, 0):
+        for room in (0, 7, 8, 9):
+            case.modbus('0106000A%04X' % value, room)
+            case.modbus('0103000A0001', 7)
+
+
+def modbus_weights(case):
+    case.head('weights as f32, exactly; no sample')
+    case.new(AL1._replace(C=99999, M=24999))
+    case.registers()
+    for weight in WEIGHTS:
+        case.ticks(4, weight)
+        case.modbus('010300000004', 13)
+    for zero, weight in ((-24998, 900000), (24998, -900000), (5, 5), (-7, -7)):
+        case.new(AL1._replace(C=99999, M=24999))
+        case.ticks(4, zero)
+        case.ask(0xC0)
+        case.ticks(4, weight)
+        case.modbus('010300000004', 13)
+        case.ask(0xC2, 0xC3)
+    case.head('by p8, then by p7')
+    case.new(AL1._replace(p7=4, p8=128))
+    case.ticks(9, 300)
+    case.ticks(5, -900)
+    case.registers()
+    case.modbus('010300010002')
+    case.ask(0xC2, 0xC3)
+
+
+def modbus_starts(case):
+    case.head('inputs, outputs, counters; a write starts and ends as the link start does')
+    for s, samples in ((AL0, (0, 300, 450, 490)), (AL1, (0, 300, 450, 490)),
+                       (AL2, (700, 600, 250, 200)), (AL3, (700, 600, 250, 200))):
+        case.new(s, 999999, 999999999)
+        case.tick(samples[0])
+        case.modbus('0106000A0001', 8)
+        for sample in samples:
+            case.ticks(5, sample)
+            case.registers()
+        case.modbus('0006000A0000', 0)
+        case.ticks(70, samples[-1])
+        case.ticks(6, 0)
+        case.registers()
+    case.head('in a fault, over a set, not over a restart')
+    case.modbus('0106000A0001')
+    case.tick(900001)
+    case.registers()
+    for value in (0, 1):
+        case.modbus('0106000A%04X' % value)
+        case.registers()
+    case.new(AL3)
+    case.registers()
+    case.modbus('0106000A0001')
+    case.settings(AL3)
+    case.registers()
+    case.say('L', 0)
+    case.registers()
+    case.say('L', 1)
+    case.registers()
+
+
+def slave_cases():
+    """What each read of `slave` brings, a line of hex each."""
+    ask = modbus.closed(bytes.fromhex('01030000000B'))
+    on, off = (modbus.closed(struct.pack('>BBHH', 1, 6, 10, value)) for value in (1, 0))
+    wrong = modbus.closed(b'\x01\x2B')
+    script = b'T\t5\t3\nL\t1\n'
+    five = line('S', *AL1._replace(address=5))
+    for name, packets in {
+            'empty': [], 'no-empty-line': [script, ask], 'no-lf': [script[:-1], ask],
+            'no-script': [b'\n', ask], 'no-script-same-read': [b'\n' + ask],
+            'no-frame': [script + b'\n'],
+            'same-read': [script + b'\n' + ask],
+            'next-read': [script + b'\n', ask],
+            'both': [script + b'\n' + off, ask, on, ask, wrong, ask],
+            'two-in-one-read': [script + b'\n' + ask + ask, off + ask, ask],
+            'one-in-two-reads': [script + b'\n' + ask[:5], ask[5:], ask[:4], ask[4:], off],
+            'two-empty-lines': [script + b'\n\n' + ask, ask],
+            'empty-line-in-two-reads': [script, b'\n', ask, off, ask],
+            'script-in-two-reads': [script[:4], script[4:] + b'\n', ask],
+            'lf-of-a-line-in-its-own-read': [script[:-1], b'\n', b'\n' + ask, ask],
+            'a-line-that-is-no-call': [b'T\t5\nL\t2\nx\n' + script + b'\n', ask],
+            'cr': [script + b'\r\n', ask, b'\n', ask],
+            'space': [script + b' \n\t\n' + b'L\t0\n\n', ask],
+            'a-long-line': [b'x' * 4095 + b'\n' + b'y' * 4096 + b'\n' + script,
+                            b'z' * 4096, b'\n', b'\n' + ask],
+            'a-long-line-alone': [b'x' * 5000, b'\n' + ask, b'\n', ask],
+            'the-script-asks-too': [line('M', on, 8) + b'\nQ\n\n', ask],
+            'a-line-after-the-frames': [b'\n', ask, b'L\t1\n', ask, b'\n', ask],
+            'longest': [b'\n', modbus.closed(b'\x01\x05' + b'\0' * 252),
+                        modbus.closed(b'\x01\x05' + b'\0' * 253), ask],
+            'another-address': [five + b'\n\n', ask, modbus.closed(b'\x05' + ask[1:6])],
+            'to-all': [b'\n', b'\0' + on[1:], modbus.closed(b'\0' + on[1:6]), ask],
+            'restart': [line('N', *AL1._replace(address=9), 7, 8) + b'\nT\t5\t8\n\n',
+                        ask, modbus.closed(b'\x09' + ask[1:6])],
+    }.items():
+        write('%s.slave' % name, b''.join(packet.hex().upper().encode() + b'\n'
+                                          for packet in packets))
+
+
 def fields_case():
     case = Case(80)
     case.head('the writer')
@@ -874,7 +1087,7 @@ def malformed_case():
                  'Q\t', 'Q\t0', 'q', 'QC', 'L', 'L\t', 'L\t0\t0', 'l', 'u\t',
                  'u\t\t0\t0', 'j\t', 'X', 'X\t\t', 'K', 'K\t', 'B\t', 'W\t',
                  'G\t0\t0\t0', 'D\t0\t0\t0\t0', 'H\t0', 'h\t0\t9', 'U\t\t0',
-                 'J\t\t9', 'x\t', 'A', 'O\t0', '?', 'T 0 0', 'T\t0 0'):
+                 'J\t\t9', 'x\t', 'M', 'M\t', 'M\t\t0\t0', 'm\t\t0', 'A', 'O\t0', '?', 'T 0 0', 'T\t0 0'):
         case.raw(text.encode())
     case.head('numbers')
     for text in ('-0', '+1', '01', '-01', '00', '', '-', '--1', '1-', ' 1', '1 ',
@@ -906,14 +1119,14 @@ def malformed_case():
     case.head('hex')
     for text in ('0', 'F', 'ff', 'fF', '0g', 'GG', '0 ', ' 00', '0x00', '000',
                  '00\r', '-1', '00 00'):
-        for form in ('B\t%s\t9', 'W\t%s\t9', 'X\t%s', 'l\t%s', 'u\t%s\t0',
+        for form in ('B\t%s\t9', 'M\t%s\t9', 'W\t%s\t9', 'X\t%s', 'l\t%s', 'u\t%s\t0',
                      'j\t%s\t9'):
             case.raw((form % text).encode())
     for text in ('', '05', '0500', '050000', '0500009', '0500009100', '0500009g',
                  '0500009a'):
         case.raw(b'K\t' + text.encode())
     case.head('rooms at their bounds')
-    for form, most in (('B\t%s\t%d', 64), ('W\t%s\t%d', 600)):
+    for form, most in (('B\t%s\t%d', 64), ('M\t%s\t%d', 64), ('W\t%s\t%d', 600)):
         for room in (0, most, most + 1, -1):
             case.raw((form % ('FF01C3E3FFFF', room)).encode())
             case.raw((form % ('', room)).encode())
@@ -940,7 +1153,7 @@ def malformed_case():
         if byte != 10:
             case.raw(bytes([byte]) + b'\tFF\t8')
     case.head('each kind of line, with nothing and with something behind it')
-    for text in ('T\t-5\t8', 'L\t1', 'C', 'Q', 'B\tFF01\t0', 'W\t01C3\t600',
+    for text in ('T\t-5\t8', 'L\t1', 'C', 'Q', 'B\tFF01\t0', 'M\t0103\t0', 'W\t01C3\t600',
                  'X\tFF0A', 'G\t-5\t1\t0\t7', 'K\t01020304', 'D\t1\t2\t3\t4\t64',
                  'H\t13\t64', 'l\t480A', 'u\t480A\t4294967295', 'j\t480A\t2000',
                  'S\t' + '\t'.join(map(str, AL1)),
@@ -1062,14 +1275,28 @@ def largest_journal():
         file.write(text + h(9999999))
 
 
+# What `replay` gets in the gate; the last one has a last line without LF.
+IN_THE_GATE = ('settings', 'fields', 'frames', 'journal', 'line', 'modbus', 'al0', 'al1',
+               'al2', 'al3', 'faults', 'malformed')
+
+
+def every_call():
+    text = b''.join(read(name + '.replay') for name in IN_THE_GATE)
+    folder = os.path.join(ROOT, 'crates', 'replay')
+    write(os.path.join(folder, 'stdin'), text)
+    write(os.path.join(folder, 'stdout'), b''.join(replay.answered(io.BytesIO(text))))
+
+
 def main():
     os.makedirs(CASES, exist_ok=True)
     journals_cases()
     largest_journal()
+    slave_cases()
     for case in (settings_case, al0_case, al1_case, al2_case, al3_case,
-                 faults_case, line_case, frames_case, fields_case,
+                 faults_case, line_case, frames_case, modbus_case, fields_case,
                  journal_case, malformed_case, long_settle_case, mixed_case):
         case()
+    every_call()
 
 
 if __name__ == '__main__':

@@ -67,6 +67,9 @@ class Samples(Case):
         self.say('Q')
         self.settings(self.box.s)
         self.ask(*CODES)
+        self.registers()
+        self.modbus('0106000A0001')
+        self.modbus('0006000A0000')
         for text in (b'W\t01C3\t9', b'X\tFF01C3E3FFFF', b'G\t-5\t1\t0\t1',
                      b'K\t05000091', b'D\t10\t1\t500\t1\t20', b'H\t10\t9'):
             self.raw(text)

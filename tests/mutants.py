@@ -1,9 +1,16 @@
 """Changes one rule of the second implementation at a time and demands that
-the stored cases notice it: python3 tests/mutants.py"""
+the stored cases notice it:
 
+python3 tests/mutants.py            every rule
+python3 tests/mutants.py FILE ...   the rules of these files"""
+
+import io
 import os
+import random
+import re           # the package uses re and struct: loaded once for all
 import shutil
-import subprocess
+import signal
+import struct
 import sys
 import tempfile
 
@@ -222,7 +229,7 @@ MUTANTS = [
     ('C2 by p8', 'box.py',
      'return self.weight_field(self.s.p7)', 'return self.weight_field(self.s.p8)'),
     ('the weight without Z', 'box.py',
-     'weight = mean(self.samples, n) - self.Z', 'weight = mean(self.samples, n)'),
+     'return mean(self.samples, n) - self.Z if', 'return mean(self.samples, n) if'),
     ('over by output 4', 'box.py',
      'over = weight > self.s.C + 9', 'over = self.is_open(4)'),
     ('no point without a sample', 'box.py',
@@ -238,6 +245,163 @@ MUTANTS = [
     ('a point of 8 written', 'fields.py', 'point > 7', 'point > 8'),
     ('a weight of seven digits written', 'fields.py',
      'if not -999999 <= weight <= 999999 or', 'if weight > 999999 or'),
+
+    # MODBUS.
+    ('a CRC from 0', 'modbus.py', 'value = 0xFFFF', 'value = 0'),
+    ('a CRC highest bit first', 'modbus.py',
+     'value ^= byte\n', "value ^= int('{:08b}'.format(byte)[::-1], 2)\n"),
+    ('the CRC high byte first', 'modbus.py', "(2, 'little')", "(2, 'big')"),
+    ('the CRC not looked at', 'modbus.py',
+     'if closed(body) != frame:', 'if False:'),
+    ('the low byte of the CRC alone looked at', 'modbus.py',
+     'if closed(body) != frame:', 'if closed(body)[:-1] != frame[:-1]:'),
+    ('a frame of 4 bytes silent', 'modbus.py',
+     'not 4 <= len(frame)', 'not 5 <= len(frame)'),
+    ('a frame of 257 bytes taken', 'modbus.py', '<= 256:', '<= 257:'),
+    ('a frame of 256 bytes silent', 'modbus.py', '<= 256:', '<= 255:'),
+    ('03 and 06 of any length', 'modbus.py',
+     'if frame[1] in (READ, WRITE) and len(frame) != 8:',
+     'if frame[1] in (READ, WRITE) and len(frame) < 8:'),
+    ('06 of any length', 'modbus.py',
+     'if frame[1] in (READ, WRITE) and len(frame) != 8:',
+     'if len(frame) < 8 if frame[1] == WRITE else frame[1] == READ and len(frame) != 8:'),
+    ('every function of 8 bytes', 'modbus.py',
+     'if frame[1] in (READ, WRITE) and len(frame) != 8:', 'if len(frame) != 8:'),
+    ('any address answered', 'modbus.py',
+     'if body[0] != address:', 'if False:'),
+    ('address 247 answered', 'modbus.py',
+     'if body[0] != address:', 'if body[0] not in (address, 247):'),
+    ('to address 0 a reply', 'modbus.py',
+     "        return b'', broadcast(body)\n",
+     '        return closed(body), broadcast(body)\n'),
+    ('to address 0 a read is no refusal', 'modbus.py',
+     '        if body[1] == WRITE:\n            return written(body)\n',
+     '        if body[1] == WRITE:\n            return written(body)\n'
+     '        if body[1] == READ:\n            return None\n'),
+    ('to address 0 a wrong write is no refusal', 'modbus.py',
+     '    except Wrong:\n        pass\n', '    except Wrong:\n        return None\n'),
+    ('to address 0 nothing is written', 'modbus.py',
+     '            return written(body)\n    except',
+     '            return written(body) and None\n    except'),
+    ('address 0 silent', 'modbus.py', 'if body[0] == 0:', 'if body[0] == 256:'),
+    ('02 before 03 in a read', 'modbus.py',
+     '    if not 1 <= quantity <= 125:\n        raise Wrong(3)\n',
+     '    if first + quantity > len(registers): raise Wrong(2)\n'
+     '    if not 1 <= quantity <= 125:\n        raise Wrong(3)\n'),
+    ('a quantity of 126', 'modbus.py', 'quantity <= 125:', 'quantity <= 126:'),
+    ('a quantity of 125 wrong', 'modbus.py', 'quantity <= 125:', 'quantity <= 124:'),
+    ('a quantity of 12 wrong', 'modbus.py', 'quantity <= 125:', 'quantity <= 11:'),
+    ('a quantity of 0', 'modbus.py', 'not 1 <= quantity', 'not 0 <= quantity'),
+    ('a pair read as a whole only', 'modbus.py',
+     'if first + quantity > len(registers):',
+     'if first + quantity > len(registers) or first in (1, 3, 7, 9):'),
+    ('register 10 written only', 'modbus.py',
+     'if first + quantity > len(registers):', 'if first + quantity > 10:'),
+    ('a read begins at 10 at most', 'modbus.py',
+     'if first + quantity > len(registers):',
+     'if first >= len(registers):@*told)\n@*(told + [0] * quantity)[:quantity])\n'),
+    ('registers from 1', 'modbus.py',
+     'first, quantity = numbers(body)',
+     'first, quantity = numbers(body)\n    first = max(first - 1, 0)'),
+    ('the number of registers for bytes', 'modbus.py', '2 * quantity, *told', 'quantity, *told'),
+    ('any register written', 'modbus.py', 'if register != LINK:', 'if register > LINK:'),
+    ('register 266 written', 'modbus.py',
+     'if register != LINK:', 'if register & 255 != LINK:'),
+    ('03 before 02 in a write', 'modbus.py',
+     '    if register != LINK:\n        raise Wrong(2)\n'
+     '    if value not in (0, 1):\n        raise Wrong(3)\n',
+     '    if value not in (0, 1):\n        raise Wrong(3)\n'
+     '    if register != LINK:\n        raise Wrong(2)\n'),
+    ('any value but 0 is a start', 'modbus.py',
+     '    if value not in (0, 1):\n        raise Wrong(3)\n    return value',
+     '    return min(value, 1)'),
+    ('FF00 for 1', 'modbus.py', 'value not in (0, 1)', 'value not in (0, 0xFF00)'),
+    ('80 added to the function', 'modbus.py',
+     'body[1] | 0x80', 'body[1] + 0x80 & 0xFF'),
+    ('functions from 80 silent', 'modbus.py',
+     '            raise Wrong(1)', '            if body[1] > 127: raise Refused(17)\n'
+     '            raise Wrong(1)'),
+    ('function 0 silent', 'modbus.py',
+     '            raise Wrong(1)', '            if body[1] == 0: raise Refused(17)\n'
+     '            raise Wrong(1)'),
+    ('a wrong write writes', 'modbus.py', 'register != LINK:', 'register != LINK and value > 1:'),
+    ('an exception without its CRC', 'modbus.py',
+     'return closed(reply), link', 'return closed(reply)[:5 if len(reply) == 3 else 99], link@'
+     'return body + crc(body)@return body + b"\\0\\0" if len(body) == 3 else body + crc(body)'),
+    ('R8 before R17', 'box.py',
+     '        reply, link = modbus.served(',
+     '        if room < 5: raise Refused(8)\n        reply, link = modbus.served('),
+    ('exceptions without R8', 'box.py',
+     'if len(reply) > room:\n            raise Refused(8)\n        if link',
+     'if len(reply) > max(room, 5):\n            raise Refused(8)\n        if link'),
+    ('a write refused with R8 still writes', 'box.py',
+     'if len(reply) > room:\n            raise Refused(8)\n        if link',
+     'if link is not None: self.set_link(link)\n'
+     '        if len(reply) > room:\n            raise Refused(8)\n        if link'),
+    ('no write in a fault', 'box.py',
+     'if link is not None:', 'if link is not None and self.phase != FAULT:'),
+    ('a write in Ready only', 'box.py',
+     'if link is not None:', 'if link is not None and self.phase == READY:'),
+    ('the low word first', 'modbus.py',
+     "return [int.from_bytes(data[:2], 'big'), int.from_bytes(data[2:], 'big')]",
+     "return [int.from_bytes(data[2:], 'big'), int.from_bytes(data[:2], 'big')]"),
+    ('the count low word first', 'box.py',
+     'modbus.double_word(self.count) +', 'modbus.double_word(self.count)[::-1] +'),
+    ('the total low word first', 'box.py',
+     'modbus.double_word(self.total) +', 'modbus.double_word(self.total)[::-1] +'),
+    ('a whole number for the f32', 'modbus.py', "'>f', weight", "'>i', weight"),
+    ('an f32 of 16 bits of fraction', 'modbus.py',
+     "return pair(struct.pack('>f', weight))",
+     "return pair((lambda n: (n & ~127).to_bytes(4, 'big'))("
+     "int.from_bytes(struct.pack('>f', weight), 'big')))"),
+    ('-0 for 0', 'modbus.py', "'>f', weight", "'>f', weight or -0.0"),
+    ('the C2 weight first', 'box.py',
+     'modbus.single(self.weight(self.s.p8)) +\n                '
+     'modbus.single(self.weight(self.s.p7))',
+     'modbus.single(self.weight(self.s.p7)) +\n                '
+     'modbus.single(self.weight(self.s.p8))'),
+    ('both weights the C3 weight', 'box.py',
+     'modbus.single(self.weight(self.s.p7))', 'modbus.single(self.weight(self.s.p8))'),
+    ('outputs before inputs', 'box.py',
+     '[self.inputs, self.outputs]', '[self.outputs, self.inputs]'),
+    ('the start for the link start', 'box.py',
+     '                [self.link])', '                [int(self.start)])'),
+
+    # The program of the slave.
+    ('frames before the empty line', 'slave.py',
+     "return None, b''", 'return replay.box, held'),
+    ('what came with the empty line forgotten', 'slave.py',
+     'return replay.box, held', "return replay.box, b''"),
+    ('what came with the empty line joined to the next', 'slave.py',
+     '    if first:\n        yield first\n    while True:\n        frame = read(FRAME)\n',
+     '    while True:\n        frame = read(FRAME)\n'
+     '        frame, first = first + frame, b""\n'),
+    ('an empty line after a frame ends it', 'slave.py',
+     '        if not frame:\n', "        if not frame or frame == b'\\n':\n"),
+    ('a line after the frames called', 'slave.py',
+     'yield box.modbus(frame, ROOM)',
+     "box.set_link(frame == b'L\\t1\\n' or box.link)\n            "
+     'yield box.modbus(frame, ROOM)'),
+    ('reads joined', 'slave.py',
+     '        yield frame\n', '        if len(frame) == 4: frame += read(FRAME)\n'
+     '        yield frame\n'),
+    ('frames cut at 8 bytes', 'slave.py', '        yield frame\n',
+     '        for at in range(0, len(frame), 8): yield frame[at:at + 8]\n'),
+    ('a line of a CR ends the script', 'slave.py',
+     'if not line and not long:', 'if not line.strip(b"\\r") and not long:'),
+    ('a line of blanks ends the script', 'slave.py',
+     'if not line and not long:', 'if not line.strip() and not long:'),
+    ('a long line ends as an empty one', 'slave.py',
+     'if not line and not long:', 'if not line:'),
+    ('the answers of the script printed', 'slave.py',
+     'replay.answer(line)', "replay.answer(line)@    box, first = set_up(read)\n@"
+     "    box, first = set_up(read)\n    yield b'A\\n'\n"),
+    ('a restart of the script forgotten', 'slave.py',
+     'replay, held, long = Replay()', "replay, held, long = Replay()@"
+     "while True:\n        more@box = replay.box\n    while True:\n        more@"
+     'return replay.box, held@return box, held'),
+    ('the first refusal ends it', 'slave.py',
+     '            pass\n', '            return\n'),
 
     # The journal and the hours.
     ('R12 at 745', 'journal.py', '>= 744', '>= 745'),
@@ -515,6 +679,16 @@ MUTANTS = [
 ]
 
 
+# How the names of the cases begin or end that show a file's rules.
+FIRST = {
+    'settings.py': ('settings.',), 'box.py': ('al', 'line.', 'faults.'),
+    'frames.py': ('frames.',), 'fields.py': ('fields.',),
+    'modbus.py': ('modbus.',), 'slave.py': ('.slave',),
+    'journal.py': ('.journal', 'journal.'), 'hours.py': ('.journal',),
+    'replay.py': ('malformed.',), 'record.py': ('.record',),
+}
+
+
 def changed(text, old, new):
     """`new` may hold further pairs, parted by @: more text and its
     replacement."""
@@ -526,32 +700,41 @@ def changed(text, old, new):
     return text
 
 
-def run(folder):
-    """0: the outputs are the stored ones; 3: they differ."""
-    return subprocess.run(
-        [sys.executable, '-B', os.path.abspath(__file__), 'compare', folder],
-        stderr=subprocess.DEVNULL, timeout=60).returncode
+def run(folder, name=''):
+    """Tries the cases of a file's rules first.
+    0: the outputs are the stored ones; 3: they differ; 1: it fails."""
+    child = os.fork()
+    if child == 0:
+        code = 1
+        try:
+            signal.alarm(60)
+            code = compare(folder, FIRST.get(name, ()))
+        finally:
+            os._exit(code)
+    return os.waitstatus_to_exitcode(os.waitpid(child, 0)[1])
 
 
-def cases():
-    """Name and bytes of each stored case, the small ones first; the input of
-    the program `record` is one."""
+def cases(first):
+    """Name and bytes of each stored case, those that begin or end so first, then
+    the small ones; the input of the program `record` is one."""
     paths = {name: os.path.join(CASES, name) for name in os.listdir(CASES)}
     paths['stdin.record'] = os.path.join(ROOT, 'crates', 'record', 'stdin')
-    for name in sorted(paths, key=lambda name: (os.path.getsize(paths[name]), name)):
+    for name in sorted(paths, key=lambda name: (
+            not (name.startswith(first) or name.endswith(first)),
+            os.path.getsize(paths[name]), name)):
         with open(paths[name], 'rb') as file:
             yield name, file.read()
 
 
-def outputs():
+def outputs(first=()):
     """Name and output of each case. An hour of the lines of `record` has 100
     ticks too, since no case has 450,000."""
-    import io
-    import random
-    from second import hours, journals, record, replay
-    for name, data in cases():
+    from second import hours, journals, record, replay, slave
+    for name, data in cases(first):
         if name.endswith('.journal'):
             yield name, hours.printed(data)
+        elif name.endswith('.slave'):
+            yield name, slave.in_packets(data)
         elif name.endswith('.record'):
             for ticks in (record.TICKS, 100):
                 yield '%s-%d' % (name, ticks), b''.join(
@@ -563,11 +746,11 @@ def outputs():
         yield 'exact-%d' % size, hours.printed(text)
 
 
-def compare(folder):
+def compare(folder, first):
     """Runs the cases through a folder's package. The first run stores its
     outputs, a later one ends at the first case that differs."""
     sys.path.insert(0, folder)
-    for name, output in outputs():
+    for name, output in outputs(first):
         path = os.path.join(folder, name + '.out')
         if not os.path.exists(path):
             with open(path, 'wb') as file:
@@ -585,32 +768,32 @@ def mutated(folder, name, old, new):
     with open(path, 'w') as file:
         file.write(changed(text, old, new))
     try:
-        return run(folder)
+        return run(folder, name)
     finally:
         with open(path, 'w') as file:
             file.write(text)
 
 
-def main():
+def main(files):
     folder = tempfile.mkdtemp()
+    chosen = [mutant for mutant in MUTANTS if not files or mutant[1] in files]
     missed = 0
     try:
         shutil.copytree(os.path.join(ROOT, 'second'),
                         os.path.join(folder, 'second'))
         if run(folder) != 0 or run(folder) != 0:
             raise SystemExit('the unchanged one does not run')
-        for rule, name, old, new in MUTANTS:
+        for rule, name, old, new in chosen:
             code = mutated(folder, name, old, new)
             missed += code != 3
             print('%s\t%s' % ({3: 'noticed', 0: 'MISSED'}.get(code, 'BROKEN'),
                               rule), flush=True)
     finally:
         shutil.rmtree(folder)
-    print('%d rules changed, %d not noticed' % (len(MUTANTS), missed))
+    print('%d rules changed, %d not noticed' % (len(chosen), missed))
     return 1 if missed else 0
 
 
 if __name__ == '__main__':
-    if sys.argv[1:2] == ['compare']:
-        sys.exit(compare(sys.argv[2]))
-    sys.exit(main())
+    sys.dont_write_bytecode = True
+    sys.exit(main(sys.argv[1:]))

@@ -4,6 +4,7 @@ python3 tests/second_test.py"""
 import io
 import os
 import random
+import struct
 import subprocess
 import sys
 
@@ -12,7 +13,8 @@ CASES = os.path.join(ROOT, 'tests', 'cases')
 sys.path.insert(0, ROOT)
 
 from second import (boundary, fields, frames, generate, hours,  # noqa: E402
-                    journal, journals, record, replay, settings, weigher)
+                    journal, journals, modbus, record, replay, settings, slave,
+                    weigher)
 from second.box import Box, mean  # noqa: E402
 from second.refusal import Refused  # noqa: E402
 from second.settings import DEFAULT, Settings  # noqa: E402
@@ -94,6 +96,45 @@ def field_checks():
     same('R16', refusal(fields.read, bytes.fromhex('0A000000')), (16,))
     same('R16 weight', refusal(fields.write, 1000000, 0, 0, 0), (16,))
     same('R16 point', refusal(fields.write, 0, 0, 0, 8), (16,))
+
+
+def modbus_checks():
+    """Document 02, W2: the frames of its public documents, by hand."""
+    for frame, wanted in (('01030004000285CA', '01030400000000FA33'),
+                          ('0106000A00022809', '0186030261'),
+                          ('0106000A00016808', '0106000A00016808')):
+        same('reply ' + frame, Box().modbus(bytes.fromhex(frame), 64).hex().upper(), wanted)
+    same('R17', refusal(Box().modbus, bytes.fromhex('010300040002'), 64), (17,))
+    same('CRC', modbus.crc(b'123456789'), 0x4B37)
+    for number in list(range(-924998, 924999, 7)) + [924998]:
+        high, low = modbus.single(number)
+        told, = struct.unpack('>f', struct.pack('>HH', high, low))
+        if told != number:
+            same('f32', told, number)
+    same('f32 of 0', modbus.single(0), [0, 0])
+    same('f32 of 1', modbus.single(1), [0x3F80, 0])
+    same('f32 of -924,998', modbus.single(-924998), [0xC961, 0xD460])
+    box = Box(DEFAULT, 123456, 987654321)
+    same('registers', box.registers(),
+         [0, 0, 0, 0, 0, 0, 1, 57920, 15070, 26801, 0])
+    write = modbus.closed(bytes.fromhex('0106000A0001'))
+    same('R8', refusal(box.modbus, write, 7), (8,))
+    same('R8 sets nothing', box.link, 0)
+    same('to all', box.modbus(modbus.closed(b'\0' + write[1:6]), 0), b'')
+    same('it acts', box.link, 1)
+
+
+def slave_checks():
+    """Reads of a file, and reads that bring a frame each."""
+    ask = modbus.closed(bytes.fromhex('010300040002'))
+    reply = modbus.closed(bytes.fromhex('010304000D0001'))
+    same('a file', program('slave', b'x\nT\t5\t13\n\n' + ask), reply)
+    for name, frames in (('both', 6), ('two-in-one-read', 1), ('one-in-two-reads', 1),
+                         ('same-read', 1), ('next-read', 1), ('no-empty-line', 0),
+                         ('empty', 0), ('no-script', 1), ('no-frame', 0), ('longest', 2)):
+        packets = slave.packets(case(name + '.slave'))
+        seen = list(slave.replies(lambda most, left=iter(packets): next(left, b'')[:most]))
+        same('replies of ' + name, len(seen), frames)
 
 
 def tick_checks():
@@ -349,7 +390,7 @@ def stored_checks():
             else:
                 cells = cells[:1]
             seen.add(' '.join(map(str, cells)))
-    for number in range(1, 17):
+    for number in range(1, 18):
         if number != 13:        # a line of `replay` is too short for R13
             same('R%d seen' % number, 'R %d' % number in seen, True)
     for wanted in ('F 14', 'F 21', 'dose 1 0', 'dose 1 1', 'dose 2 0', 'dose 2 1',
@@ -363,6 +404,8 @@ def main():
     settings_checks()
     frame_checks()
     field_checks()
+    modbus_checks()
+    slave_checks()
     tick_checks()
     journal_checks()
     replay_checks()

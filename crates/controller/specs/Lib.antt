@@ -2,6 +2,7 @@ pub mod State
 pub mod Tick
 pub mod Calls
 pub mod Line
+pub mod Modbus
 pub mod Sound
 pub mod Says
 pub mod Stages
@@ -17,3 +18,5 @@ pub mod Keeps
 pub mod Promises
 pub mod Determined
 pub mod OutsideLaws
+pub mod ModbusLaws
+pub mod ModbusCases
