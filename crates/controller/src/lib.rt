@@ -52,6 +52,8 @@ pub struct Controller {
     pub inputs: u8,
     pub condition: Condition,
     pub counters: Counters,
+    // The last tick began and ended in Ready with start off, and no set or restart came since.
+    pub unstarted: bool,
 }
 
 // What a tick answers: the outputs, with the dose record if one completed; or the fault; or R1.

@@ -1,5 +1,6 @@
 use borrow.Author.Needs.{needs}
-use Rattle.controller.specs.Calls.{readyIn, atReady}
+use Rattle.controller.specs.Calls.{readyIn}
+use Rattle.controller.specs.Tick.{atReady}
 use Rattle.controller.proofs.Contracts.{not-ready}
 use Rattle.controller.proofs.is_ready.Statement.{statement}
 use Rattle.controller.proofs.is_ready.Tie as tie
