@@ -30,7 +30,8 @@ module _ (c : Controller) (s : Sound c) where
 pub clear-faulted : {Q : Type 0} {why : Fault} → Clear ≡ Faulted why → Q
 clear-faulted e = let z : _≡_ {A = ℕ} 0 1 = cc in let n : ⊥ = omega arith in absurd n
 
-at-ready : (p : Phase) → atReady p ≡ true → p ≡ Ready
+-- the phase is Ready
+pub at-ready : (p : Phase) → atReady p ≡ true → p ≡ Ready
 unfolding atReady
 at-ready Ready h = refl
 at-ready (Coarse w0) h = false-true h

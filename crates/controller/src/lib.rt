@@ -15,6 +15,7 @@ ghost use mathlib.Core.Path.{_≡_};
 ghost use lib.IntN.{_-ℤ_};
 ghost use Rattle.dosing.specs.Rules.{units};
 ghost use Rattle.controller.specs.Calls.{readyIn};
+ghost use Rattle.controller.specs.Tick.{atReady};
 ghost use Rattle.controller.specs.Parts.{Small};
 
 // F14 names its channel.
@@ -133,6 +134,13 @@ fn is_ready(condition: Condition, phase: Phase) -> bool
     let Condition::Clear = condition else {
         return false;
     };
+    at_ready(phase)
+}
+
+// The phase is Ready.
+fn at_ready(phase: Phase) -> bool
+    ensures { λ r. ⌜ r ≡ atReady phase ⌝ }
+{
     match phase {
         Phase::Ready => true,
         _ => false,

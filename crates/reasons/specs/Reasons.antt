@@ -117,14 +117,18 @@ nameOf (DoseSettle wH n) = settle
 unfoldable pub phaseCause : Settings → Phase → ℤ → ℕ → Cause
 phaseCause set p w k = settlingOr set p k (leadOr set p w k (inPhase (nameOf p)))
 
--- For outputs 1 to 3 after a tick, give the first that holds: open; fault; unused; no start; settling; lead reached; else the phase. w is that of the last tick
+-- For outputs 1 to 3 after a tick, give the first that holds: open; fault; unused; no start; settling; lead reached; else the phase
+unfoldable pub gateBy : Settings → Gates → Condition → Bool → Phase → ℤ → ℕ → Cause
+gateBy set g k unstarted p w output =
+    pick (openAt g output) isOpen
+    (faultOr k
+    (pick (unusedAt set output) unused
+    (pick (unstartedAt set unstarted output) noStart
+    (phaseCause set p w output))))
+
+-- w is that of the last tick
 unfoldable pub gateCause : Controller → ℕ → Cause
-gateCause c k =
-    pick (openAt (c .gates) k) isOpen
-    (faultOr (c .condition)
-    (pick (unusedAt (c .set) k) unused
-    (pick (unstartedAt (c .set) (c .unstarted) k) noStart
-    (phaseCause (c .set) (c .phase) (wOf c) k))))
+gateCause c k = gateBy (c .set) (c .gates) (c .condition) (c .unstarted) (c .phase) (wOf c) k
 
 -- Output 4 is fault, overload or no alarm
 unfoldable pub alarmCause : Condition → Bool → Cause
