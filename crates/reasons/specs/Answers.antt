@@ -36,8 +36,8 @@ use Rattle.reasons.specs.Weights.{Comparable, weight-most, comparable}
 -- ---- which rule answers for which output
 
 pub gate-why : (c : Controller) (k : ℕ) → 1 ≤ k → k ≤ 3 → whyOf c k ≡ done (gateCause c k)
-unfolding whyOf noOutput
-gate-why c k a b = rw (le-ltb k 1 (omega arith), le-ltb 4 k (omega arith), ne-eqb k 4 (omega arith)) (refl)
+unfolding whyOf noOutput pick
+gate-why c k a b = rw (le-ltb k 1 (omega arith), le-ltb 4 k (omega arith), ne-eqb k 4 (omega arith)) refl
 
 pub alarm-why : (c : Controller) → whyOf c 4 ≡ done (alarmCause (c .condition) (c .alarm))
 unfolding whyOf noOutput pick
@@ -138,10 +138,10 @@ shut-unopen g k e = rw e (pick-all (λ (b : Bool). b ≡ false) (eqb k 1) refl (
 
 -- it says fault, with number and channel, exactly in a fault
 pub fault-says : (c : Controller) (k : ℕ) (why : Fault) → Sound c → 1 ≤ k → k ≤ 4 → c .condition ≡ Faulted why → whyOf c k ≡ done (faultCause why)
-unfolding whyOf noOutput alarmCause gateCause gateBy faultOr
+unfolding whyOf noOutput alarmCause gateCause gateBy faultOr pick
 fault-says c k why s a b e =
     let g = shut-unopen (c .gates) k (fault-gates c s why e .0) in
-    rw (le-ltb k 1 a, le-ltb 4 k b, pick-f _ _ _ g, e) (pick-all (λ (x : Cause). done x ≡ done (faultCause why)) (eqb k 4) refl refl)
+    rw (le-ltb k 1 a, le-ltb 4 k b, g, e) (pick-all (λ (x : Cause). done x ≡ done (faultCause why)) (eqb k 4) refl refl)
 
 pub says-fault : (c : Controller) (k number channel : ℕ) → whyOf c k ≡ done (inFault number channel) → (why : Fault) × ((c .condition ≡ Faulted why) × (faultCause why ≡ inFault number channel))
 unfolding kind
@@ -164,9 +164,11 @@ unstarted-why c k =
     let Q : Cause → Type 0 = λ x. kind x ≡ 3 → c .unstarted ≡ true in
     let faults : (why : Fault) → Q (faultCause why) = λ why z. absurd (omega (arith, fault-kind why)) in
     why-ways (λ (a : Answer Cause). a ≡ done noStart → c .unstarted ≡ true) c k (λ e. refused-done e)
-    (λ e. alarm-ways Q c (λ why f. faults why) (λ f. (λ z. absurd (omega arith), λ z. absurd (omega arith))) (ap kind (cc)))
-    (λ e. gate-ways Q c k (λ o z. absurd (omega arith)) (λ why f o. faults why) (λ f o z. absurd (omega arith)) (λ f o u z. u)
-    (λ f o z. absurd (omega (arith, phase-late (c .set) (c .phase) (wOf c) k))) (ap kind (cc)))
+    (λ e. let is : alarmCause (c .condition) (c .alarm) ≡ noStart = cc in
+    alarm-ways Q c (λ why f. faults why) (λ f. (λ z. absurd (omega arith), λ z. absurd (omega arith))) (ap kind is))
+    (λ e. let is : gateCause c k ≡ noStart = cc in
+    gate-ways Q c k (λ o z. absurd (omega arith)) (λ why f o. faults why) (λ f o z. absurd (omega arith)) (λ f o u z. u)
+    (λ f o z. absurd (omega (arith, phase-late (c .set) (c .phase) (wOf c) k))) (ap kind is))
 
 -- AL1's Settle from tick 1 on
 unfoldable pub settledOn : Phase → Bool
@@ -221,12 +223,13 @@ unfolding gone
 settling-why c k n allowed l =
     let R : Type 0 = (c .condition ≡ Clear) × (settledOn (c .phase) ≡ true) in
     let Q : Cause → Type 0 = λ x. gone x ≡ true → R in
-    let is : (x : Cause) → x ≡ settling n allowed → gone x ≡ true = λ x e. ap gone e ∙ le-leb 1 n l in
     let faults : (why : Fault) → Q (faultCause why) = λ why z. false-true (sym (fault-gone why) ∙ z) in
     why-ways (λ (a : Answer Cause). a ≡ done (settling n allowed) → R) c k (λ e. refused-done e)
-    (λ e. alarm-ways Q c (λ why f. faults why) (λ f. (λ z. false-true z, λ z. false-true z)) (is _ (cc)))
-    (λ e. gate-ways Q c k (λ o z. false-true z) (λ why f o. faults why) (λ f o z. false-true z) (λ f o u z. false-true z)
-    (λ f o z. (f, phase-gone (c .set) (c .phase) (wOf c) k z)) (is _ (cc)))
+    (λ e. let is : alarmCause (c .condition) (c .alarm) ≡ settling n allowed = cc in
+    alarm-ways Q c (λ why f. faults why) (λ f. (λ z. false-true z, λ z. false-true z)) (ap gone is ∙ le-leb 1 n l))
+    (λ e. let is : gateCause c k ≡ settling n allowed = cc in
+    gate-ways Q c k (λ o z. false-true z) (λ why f o. faults why) (λ f o z. false-true z) (λ f o u z. false-true z)
+    (λ f o z. (f, phase-gone (c .set) (c .phase) (wOf c) k z)) (ap gone is ∙ le-leb 1 n l))
 
 -- ---- ranges
 

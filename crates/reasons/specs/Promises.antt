@@ -41,13 +41,12 @@ ready-leaves : (set : Settings) (t : Seen) → t .start ≡ true → atReady (re
 unfolding ready readyToFill fillBegins readyToDose waits atReady
 ready-leaves set t h =
     let P : Moved → Type 0 = λ m. atReady (m .phase) ≡ false in
-    let doses : (w : Units) → P _ = λ w. dose-coarse-ways P set t w refl refl refl in
     pick-if P (leb (set .algorithm) 1)
     (λ low. pick-if P (t .start) (λ o. coarse-ways P set (zeroed set t) (zeroed set t .w) (λ e. refl) (λ e. refl) (λ e. refl) (λ e. refl)) (λ o. true-false (sym h ∙ o)))
     (λ high. pick-if P (leb 3 (set .algorithm) && not (t .start))
     (λ w. let off = and-right (leb 3 (set .algorithm)) (not (t .start)) w in false-true (sym (ap not h) ∙ off))
     (λ w. pick-if P (ltZ (t .w .v) (pos (set .dose))) (λ l. refl)
-    (λ l. pick-if P (t .start) (λ o. doses (t .w)) (λ o. true-false (sym h ∙ o)))))
+    (λ l. pick-if P (t .start) (λ o. dose-coarse-ways P set t (t .w) refl refl refl) (λ o. true-false (sym h ∙ o)))))
 
 -- the tick ends in no fault and in another phase than Ready
 pub record LeavesReady (c : Controller) : Type 0 where
