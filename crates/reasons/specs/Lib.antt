@@ -4,4 +4,5 @@ pub mod Weights
 pub mod Answers
 pub mod Same
 pub mod Promises
+pub mod Since
 pub mod Cases
