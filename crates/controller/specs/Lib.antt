@@ -2,6 +2,7 @@ pub mod State
 pub mod Tick
 pub mod Calls
 pub mod Line
+pub mod Modbus
 pub mod Sound
 pub mod Says
 pub mod Stages
@@ -18,3 +19,4 @@ pub mod Keeps
 pub mod Promises
 pub mod Determined
 pub mod OutsideLaws
+pub mod ModbusLaws

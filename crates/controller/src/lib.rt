@@ -1,6 +1,7 @@
-// The controller: fresh, restarted, tick, link start, settings, counter reset, counters, line request.
+// The controller: fresh, restarted, tick, link start, settings, counter reset, counters, line request, MODBUS frame.
 mod calls;
 mod line;
+mod panel;
 mod tick;
 
 use channels::Runs;
@@ -125,6 +126,19 @@ pub enum RequestAnswer {
 pub struct Requested {
     pub next: Controller,
     pub answer: RequestAnswer,
+}
+
+// What a MODBUS frame answers: the reply's length, 0 where there is none, or a refusal.
+pub enum PollAnswer {
+    Sent(usize),
+    R17,
+    R8,
+}
+
+// The controller after a MODBUS frame, and the answer.
+pub struct Polled {
+    pub next: Controller,
+    pub answer: PollAnswer,
 }
 
 // The phase is Ready, and there is no fault.
