@@ -2,13 +2,18 @@
 use mathlib.Core.Path.{_≡_, refl, sym, ap, subst, _∙_}
 use mathlib.Core.Bool.{Bool, true, false, not, _&&_, and-false}
 use mathlib.Core.List.{List}
+use mathlib.Core.Logic.{⊎-elim}
 use Prim.Native.Nat.{ℕ, _≤_}
 use lib.Dec.{eqb}
-use lib.IntN.{ℤ, _-ℤ_}
+use lib.IntN.{ℤ, pos, _-ℤ_}
+use lib.Signed.{ltZ}
 use Rattle.laws.specs.Pick.{pick-all, pick-if}
 use Rattle.laws.specs.Whole.{false-true}
 use Rattle.paper.specs.Answer.{Answer, done, refused, fault}
 use Rattle.settings.specs.declared.Settings.{Settings}
+use Rattle.dosing.specs.Rules.{shut}
+use Rattle.dosing.specs.Gates.{gatesOf}
+use Rattle.dosing.specs.Laws.{ready-shut}
 use Rattle.dosing.specs.declared.Units.{Units}
 use Rattle.dosing.specs.declared.Phase.{Phase}
 use Rattle.dosing.specs.declared.Phase.the-variants.{Ready}
@@ -20,6 +25,8 @@ use Rattle.controller.specs.State.{withZ, withCounters}
 use Rattle.controller.specs.Tick.{Result, Told, atReady, wOf, unstartedOf, step7, step8, tickOf}
 use Rattle.controller.specs.Calls.{readyIn, isReady, after, taken, settingsAnswer, settingsOf, resetAnswer, resetOf, linkOf}
 use Rattle.controller.specs.Line.{Replied, zeroable, askedOf, zeroedBy, replied, repliesTo, requestOf}
+use Rattle.controller.specs.Modbus.{modbusOf}
+use Rattle.controller.specs.ModbusLaws.{modbus-only}
 use Rattle.controller.specs.Sound.{Sound, Waited}
 use Rattle.controller.specs.Bounds.{clear-faulted, ready-is}
 use Rattle.controller.specs.Keeps.{tick-sound, asked-zero}
@@ -62,6 +69,13 @@ module _ (c : Controller) (x : ℤ) (i : ℕ) (s : Sound c) (h : i ≤ 15) where
       go Clear e = let g = tick-goes c x i h e in rw (ready-clear c (g .clear), ready-clear next e) (rule-unstarted g)
       go (Faulted why) e = unwaited (next .unstarted) why e (tick-sound c x i s .unstarted) ∙ sym (ap (λ (b : Bool). (isReady c && not (startOf (c .set) (c .link) i)) && b) (ready-fault next why e) ∙ and-false (isReady c && not (startOf (c .set) (c .link) i)))
 
+-- where the field is true the box is in Ready with outputs 1 to 3 shut, and in AL2 w is at least D
+pub unstarted-is : (c : Controller) → Sound c → c .unstarted ≡ true → (isReady c ≡ true) × (c .gates ≡ shut) × (c .set .algorithm ≡ 2 → ltZ (wOf c) (pos (c .set .dose)) ≡ false)
+unfolding isReady readyIn atReady wOf
+unstarted-is c s h =
+    let w : Waited true (c .condition) (c .phase) (c .set) (c .f .v -ℤ c .z .v) = rw h at (s .unstarted) in
+    (rw (w .0, w .1), s .gates ∙ ap (gatesOf (c .set)) (w .1) ∙ ready-shut (c .set), w .2)
+
 -- ---- what follows it
 
 module _ (k : ℕ) where
@@ -100,6 +114,11 @@ module _ (k : ℕ) where
           refl
       go (refused n vs) zeroes = refl
       go (fault n vs) zeroes = refl
+
+  -- a MODBUS frame, an accepted write too
+  pub modbus-why : (c : Controller) (frame : List ℕ) (room : ℕ) → Same c (modbusOf c frame room .next)
+  modbus-why c frame room =
+      ⊎-elim (λ e. ap (λ (d : Controller). whyOf d k) e) (λ w. ap (λ (d : Controller). whyOf d k) (w .sets) ∙ link-why c (w .on)) (modbus-only c frame room)
 
 -- a set that is taken leaves no tick to speak of
 pub set-why : (c : Controller) (set : Settings) (k : ℕ) → settingsOf c set .answer ≡ done tt → whyOf (settingsOf c set .next) k ≡ done noStart → ⊥
