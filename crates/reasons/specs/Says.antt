@@ -70,12 +70,12 @@ causeBack (inPhase name) = R.Phase (nameBack name)
 causeBack overload = R.Overload
 causeBack noAlarm = R.NoAlarm
 
-reasonBack : Answer Cause → Reason
+pub reasonBack : Answer Cause → Reason
 reasonBack (done cause) = causeBack cause
 reasonBack (refused n vs) = R.R19
 reasonBack (fault n vs) = R.R19
 
-reason-back : (r : Reason) → reasonBack (saysReason r) ≡ r
+pub reason-back : (r : Reason) → reasonBack (saysReason r) ≡ r
 unfolding reasonBack causeBack
 reason-back R.Open = refl
 reason-back (R.Fault number channel) = refl
