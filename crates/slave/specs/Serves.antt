@@ -24,9 +24,9 @@ lenOf M.R17 = 0
 lenOf M.R8 = 0
 
 -- the controller after a frame is the one of the rule
-pub record Serves (c : Controller) (frame reply : List ℕ) (next : Controller) : Type 0 where
-  pub next : next ≡ modbusOf c frame (length reply) .next
-  pub sound : Sound next
+pub record Serves (c : Controller) (frame reply : List ℕ) (d : Controller) : Type 0 where
+  pub next : d ≡ modbusOf c frame (length reply) .next
+  pub sound : Sound d
 
 -- and what is printed are the bytes of the rule's reply, none where it refuses
 pub record Replies (c : Controller) (frame old new : List ℕ) (r : Replied) : Type 0 where

@@ -26,9 +26,6 @@ struct Replied {
     len: usize,
 }
 
-// A frame has at most 256 bytes: a read of one byte more shows that it is too long.
-const READ: usize = 257;
-
 // So many reads no input uses up.
 const MANY: u64 = 9223372036854775808;
 
@@ -152,13 +149,11 @@ fn serve(c: Controller, frame: &[u8], reply: &mut [u8]) -> Controller
     next
 }
 
-// Reads once, at most 257 bytes to the buffer's start, and answers how many came.
-fn read_frame(buffer: &mut [u8]) -> usize
-    requires { ⌜ 257 ≤ length (now buffer) ⌝ }
-    ensures { λ r. ⌜ r ≤ length (now (buffer .exit)) ⌝ }
+// Bytes for one read: a frame has at most 256, and one byte more shows that it is too long.
+fn no_frame() -> [u8; 257]
+    ensures { λ r. ⌜ 257 ≡ length r ⌝ }
 {
-    let got = libc::read(STDIN_FILENO, &mut buffer[..READ]);
-    io::count(got, &buffer[..READ])
+    [0u8; 257]
 }
 
 // Brings the box where it shall be, then serves frame after frame to the end of the input.
@@ -170,16 +165,18 @@ fn main() {
     if !brought.open {
         return;
     }
-    let mut c = brought.controller;
     let behind = brought.intake;
-    let mut n = lines::carry(&mut input, behind.at, behind.have);
+    let held = lines::carry(&mut input, behind.at, behind.have);
+    let mut c = serve(brought.controller, &input[..held], &mut spare);
+    let mut frame = no_frame();
     let mut reads: u64 = MANY;
     while 0 < reads {
-        c = serve(c, &input[..n], &mut spare);
-        n = read_frame(&mut input);
+        let got = libc::read(STDIN_FILENO, &mut frame);
+        let n = io::count(got, &frame);
         if n == 0 {
             return;
         }
+        c = serve(c, &frame[..n], &mut spare);
         reads -= 1;
     }
 }
