@@ -38,6 +38,7 @@ class Box:
         self.S = 0
         self.runs = [0, 0, 0]
         self.phase = READY
+        self.rested = False
 
     # Calls beside the tick.
 
@@ -79,8 +80,10 @@ class Box:
         channel = self.mismatch()
         if channel:
             return self.fail(14, channel)
-        before = self.outputs
+        before, began = self.outputs, self.phase
         dose = self.phase_rule()
+        # Of a tick this alone is remembered: began and ended in Ready, start off.
+        self.rested = began == self.phase == READY and not self.start
         self.put(4, self.w > self.s.C + 9)
         # If an output 1 to 3 changed, S becomes 0.
         if (before ^ self.outputs) & 7:
@@ -178,8 +181,7 @@ class Box:
             self.gates(0, 0)
             self.phase = READY
             return
-        # Dose uses wH-w where AL1 uses w.
-        reached = self.w if s.algorithm in (0, 1) else self.wH - self.w
+        reached = self.reached
         if reached >= s.D - s.Pf:
             self.gates(0, 0)
             self.enter(HOLD if s.algorithm == 0 else SETTLE)
@@ -189,6 +191,11 @@ class Box:
         else:
             # Dose has 1 and 2 both open in the coarse stage.
             self.gates(1, s.o if s.algorithm in (0, 1) else 1)
+
+    @property
+    def reached(self):
+        """Dose uses wH-w where AL1 uses w."""
+        return self.w if self.s.algorithm in (0, 1) else self.wH - self.w
 
     def gates(self, coarse, fine):
         self.put(1, coarse)

@@ -207,6 +207,10 @@ def modbus_line(rng, s):
     return line('M', data, room)
 
 
+def why_line(rng, s):
+    return line('Y', rng.choice([1, 2, 3, 4] * 8 + [0, 5, 255]))
+
+
 # Fields.
 
 def field_writer_line(rng, s):
@@ -267,7 +271,7 @@ def malformed_line(rng, s):
         line('T', rng.randint(-99, 99), rng.randint(0, 15)), line('L', 1),
         set_line(good_settings(rng)), line('Q'), line('C'),
         request_line(rng, s), frame_line(rng, s), line('K', b'\5\0\0\x91'),
-        modbus_line(rng, s),
+        modbus_line(rng, s), why_line(rng, s),
         d_line(rng, s), h_line(rng, s)])
     return rng.choice(SPOILERS)(rng, good)
 
@@ -327,6 +331,6 @@ SPOILERS = [
 ]
 
 OTHER = [request_line, request_line, request_line, modbus_line, modbus_line,
-         modbus_line, modbus_line, frame_line, reader_line,
+         modbus_line, modbus_line, why_line, frame_line, reader_line,
          field_writer_line, field_reader_line, d_line, h_line, one_line,
          hour_line, text_line, malformed_line]

@@ -90,6 +90,8 @@ class Maker:
             self.tick()
             if self.chance(25):
                 self.other()
+            if self.chance(10):
+                self.say(calls.why_line(rng, self.box.s))
             if self.chance(50):
                 self.say(calls.modbus_line(rng, self.box.s))
             if self.chance(150):

@@ -10,6 +10,7 @@ from second import fields, frames, hours, journal
 from second.box import Box
 from second.refusal import Refused
 from second.settings import Settings
+from second.why import why
 
 LONGEST_LINE = 4096
 U32 = 0, 4294967295
@@ -82,6 +83,9 @@ class Replay:
         reply = self.box.modbus(frame, room)
         return 'P', len(reply), lent(room, reply)
 
+    def why(self, output):
+        return ('Y',) + why(self.box, output)
+
     def write_frame(self, body, room):
         frame = frames.write(body, room)
         return 'P', len(frame), lent(room, frame)
@@ -129,6 +133,7 @@ class Replay:
         b'N': (restart, SET + [U32, U32], False),
         b'B': (request, [HEX, (0, 64)], True),
         b'M': (modbus, [HEX, (0, 64)], True),
+        b'Y': (why, [BYTE], False),
         b'W': (write_frame, [HEX, (0, 600)], True),
         b'X': (read_frame, [HEX], False),
         b'G': (write_field, [I32, BIT, BIT, BYTE], False),

@@ -205,8 +205,8 @@ class Ends(Weigher):
 
     def other(self):
         """Calls that are neither a tick nor a restart."""
-        for make in (calls.request_line, calls.modbus_line, calls.frame_line,
-                     calls.reader_line, calls.field_writer_line,
+        for make in (calls.request_line, calls.modbus_line, calls.why_line,
+                     calls.frame_line, calls.reader_line, calls.field_writer_line,
                      calls.field_reader_line, calls.d_line, calls.h_line,
                      calls.one_line, calls.hour_line, calls.text_line):
             self.say(make(self.rng, self.s))

@@ -79,6 +79,11 @@ class Case:
         """All that there are."""
         self.modbus('%02X030000000B' % self.box.s.address)
 
+    def why(self):
+        """Of each output."""
+        for output in (1, 2, 3, 4):
+            self.say('Y', output)
+
     def run(self, tank, start=START, most=1500):
         """Ticks of a hopper until a dose completes."""
         for _ in range(most):
@@ -760,6 +765,193 @@ def frames_case():
     case.save('frames.replay')
 
 
+# Why an output is as it is.
+
+def why_case():
+    case = Case(85)
+    case.head('a fresh box; before the first tick of each algorithm; R19')
+    for output in (0, 1, 2, 3, 4, 5, 6, 127, 128, 255):
+        case.say('Y', output)
+    for s in (AL0, AL1, AL2, AL3):
+        case.new(s)
+        case.why()
+        case.settings(s)
+        case.why()
+        case.say('Y', 0)
+        case.say('Y', 5)
+    for s in (AL0._replace(o=0), AL0._replace(o=1), AL1, AL1._replace(o=1, p9=3)):
+        why_fills(case, s)
+    for s in (AL2, AL3._replace(p9=2)):
+        why_doses(case, s)
+    why_no_start(case)
+    why_faults(case)
+    why_alarms(case)
+    case.save('why.replay')
+
+
+def why_fills(case, s):
+    case.head('AL%d, o %d: a cycle' % (s.algorithm, s.o))
+    case.new(s)
+    case.ticks(3, 20)
+    case.why()
+    for samples in ((20, 100, 418), (420, 450, 300, 499), (505, 300, -300)):
+        for sample in samples:
+            case.ticks(4, sample, START)
+            case.why()
+    if s.algorithm == 0:
+        case.tick(0)
+        case.why()
+        case.tick(0)
+        case.why()
+        case.head('start off in the fill')
+        case.ticks(4, 20, START)
+        case.tick(20)
+        case.why()
+        return
+    case.head('Settle, tick by tick at its start and its end')
+    to_settle(case, s)
+    case.why()
+    for tick in range(1, 256 * s.p9 + 1):
+        case.tick(481 + tick)
+        if tick < 4 or tick > 256 * s.p9 - 4 or tick % 64 == 0:
+            case.why()
+    for sample in (300, 300, 50, 0, 0, 0):
+        case.tick(sample)
+        case.why()
+    case.ticks(2, 0)
+    case.why()
+
+
+def why_doses(case, s):
+    case.head('AL%d: load, calm, dose' % s.algorithm)
+    case.new(s)
+    case.why()
+    case.tick(100)
+    case.why()
+    case.say('L', 1)
+    case.why()
+    for sample in (100, 600, 705, 705):
+        case.tick(sample)
+        case.why()
+    case.ticks(4, 705)
+    case.say('L', 0)
+    case.why()
+    case.ticks(130 if s.p9 == 2 else 62, 705)
+    case.why()
+    for _ in range(4):
+        case.tick(705)
+        case.why()
+    case.tick(705, START)
+    case.why()
+    case.say('L', 1)
+    case.tick(705)
+    case.say('L', 0)
+    case.why()
+    for sample in (500, 306, 300, 280, 400, 500, 260, 224):
+        case.ticks(4, sample)
+        case.why()
+    case.tick(0)
+    case.why()
+    for sample in (400, 900):
+        case.ticks(5, sample)
+        case.why()
+    case.ticks(130, 900)
+    case.why()
+    case.ticks(3, 900)
+    case.why()
+
+
+def why_no_start(case):
+    case.head('no start: what follows a tick without being one does not alter it')
+    for s, sample in ((AL0, 5), (AL1, 5), (AL2, 600), (AL2, 5), (AL3, 600), (AL3, 5)):
+        case.new(s)
+        case.tick(sample)
+        case.why()
+        for call in (('T', 0, 16), ('T', 0, 255), ('L', 1), ('L', 0), ('C',), ('Q',)):
+            case.say(*call)
+            case.why()
+        case.ask(*CODES)
+        case.modbus('0106000A0001')
+        case.why()
+        case.registers()
+        case.settings(s._replace(D=0))
+        case.new(s._replace(C=0))
+        case.new(s, 1000000)
+        case.why()
+        case.modbus('0106000A0000')
+        case.settings(s)
+        case.why()
+        case.tick(sample)
+        case.why()
+        case.new(s)
+        case.why()
+    case.head('AL3: input 4 is no start')
+    case.new(AL3)
+    case.tick(600, START)
+    case.why()
+    case.head('a start after rest, R1 in the fill')
+    case.new(AL1)
+    case.tick(5)
+    case.why()
+    case.tick(5, START)
+    case.why()
+    case.say('T', 5, 16)
+    case.why()
+
+
+def why_faults(case):
+    case.head('faults: F14 by its channel, F21; until the restart')
+    for s in (AL1, AL2, AL3):
+        for channel in (1, 2, 4):
+            case.new(s)
+            case.ticks(63, 600, 0, channel)
+            case.why()
+            case.tick(600, 0, channel)
+            case.why()
+            case.tick(600)
+            case.say('L', 1)
+            case.settings(s)
+            case.why()
+        case.new(s)
+        case.why()
+    for s in (AL0, AL1, AL2, AL3):
+        case.new(s)
+        case.say('T', 900001, 0)
+        case.why()
+        case.say('T', 0, 16)
+        case.why()
+    case.head('F21 in the middle of a cycle')
+    case.new(AL1)
+    case.ticks(5, 0, START)
+    case.why()
+    case.tick(-900001)
+    case.why()
+
+
+def why_alarms(case):
+    case.head('output 4: C+9 and C+10; a set keeps it; the weight of now')
+    for s in (AL0, AL1, AL2, AL3):
+        case.new(s)
+        for sample in (1000, 1009, 1010):
+            case.ticks(4, sample)
+            case.say('Y', 4)
+        case.settings(s._replace(C=2000))
+        case.why()
+        case.tick(1009)
+        case.say('Y', 4)
+    case.head('C0 moves the weight, not the output')
+    case.new(AL1._replace(M=250))
+    case.ticks(5, -200)
+    case.ask(0xC0)
+    case.ticks(4, 809)
+    case.say('Y', 4)
+    case.ticks(4, 810)
+    case.say('Y', 4)
+    case.tick(-3000)
+    case.ticks(5, 100)
+    case.say('Y', 4)
+
+
 # MODBUS.
 
 # Beside their places in an f32: whole numbers of 1 to 20 bits.
@@ -1087,7 +1279,7 @@ def malformed_case():
                  'Q\t', 'Q\t0', 'q', 'QC', 'L', 'L\t', 'L\t0\t0', 'l', 'u\t',
                  'u\t\t0\t0', 'j\t', 'X', 'X\t\t', 'K', 'K\t', 'B\t', 'W\t',
                  'G\t0\t0\t0', 'D\t0\t0\t0\t0', 'H\t0', 'h\t0\t9', 'U\t\t0',
-                 'J\t\t9', 'x\t', 'M', 'M\t', 'M\t\t0\t0', 'm\t\t0', 'A', 'O\t0', '?', 'T 0 0', 'T\t0 0'):
+                 'J\t\t9', 'x\t', 'M', 'M\t', 'M\t\t0\t0', 'm\t\t0', 'Y', 'Y\t', 'Y\t1\t1', 'y\t1', 'A', 'O\t0', '?', 'T 0 0', 'T\t0 0'):
         case.raw(text.encode())
     case.head('numbers')
     for text in ('-0', '+1', '01', '-01', '00', '', '-', '--1', '1-', ' 1', '1 ',
@@ -1098,6 +1290,7 @@ def malformed_case():
         case.raw(b'G\t' + text.encode() + b'\t0\t0\t0')
     for text in ('256', '-1', '00', '015', '+8', '', '1 ', '255', '4294967296'):
         case.raw(b'T\t0\t' + text.encode())
+        case.raw(b'Y\t' + text.encode())
     case.raw('T\t\u0661\t0'.encode())
     for text in ('2', '-1', '01', '', '1\r'):
         case.raw(b'L\t' + text.encode())
@@ -1153,7 +1346,7 @@ def malformed_case():
         if byte != 10:
             case.raw(bytes([byte]) + b'\tFF\t8')
     case.head('each kind of line, with nothing and with something behind it')
-    for text in ('T\t-5\t8', 'L\t1', 'C', 'Q', 'B\tFF01\t0', 'M\t0103\t0', 'W\t01C3\t600',
+    for text in ('T\t-5\t8', 'L\t1', 'C', 'Q', 'Y\t1', 'B\tFF01\t0', 'M\t0103\t0', 'W\t01C3\t600',
                  'X\tFF0A', 'G\t-5\t1\t0\t7', 'K\t01020304', 'D\t1\t2\t3\t4\t64',
                  'H\t13\t64', 'l\t480A', 'u\t480A\t4294967295', 'j\t480A\t2000',
                  'S\t' + '\t'.join(map(str, AL1)),
@@ -1277,7 +1470,7 @@ def largest_journal():
 
 # What `replay` gets in the gate; the last one has a last line without LF.
 IN_THE_GATE = ('settings', 'fields', 'frames', 'journal', 'line', 'modbus', 'al0', 'al1',
-               'al2', 'al3', 'faults', 'malformed')
+               'al2', 'al3', 'faults', 'why', 'malformed')
 
 
 def every_call():
@@ -1293,7 +1486,7 @@ def main():
     largest_journal()
     slave_cases()
     for case in (settings_case, al0_case, al1_case, al2_case, al3_case,
-                 faults_case, line_case, frames_case, modbus_case, fields_case,
+                 faults_case, line_case, frames_case, modbus_case, why_case, fields_case,
                  journal_case, malformed_case, long_settle_case, mixed_case):
         case()
     every_call()

@@ -68,6 +68,7 @@ class Samples(Case):
         self.settings(self.box.s)
         self.ask(*CODES)
         self.registers()
+        self.why()
         self.modbus('0106000A0001')
         self.modbus('0006000A0000')
         for text in (b'W\t01C3\t9', b'X\tFF01C3E3FFFF', b'G\t-5\t1\t0\t1',

@@ -18,6 +18,7 @@ from second import (boundary, fields, frames, generate, hours,  # noqa: E402
 from second.box import Box, mean  # noqa: E402
 from second.refusal import Refused  # noqa: E402
 from second.settings import DEFAULT, Settings  # noqa: E402
+from second.why import why  # noqa: E402
 
 checks = failed = 0
 
@@ -122,6 +123,43 @@ def modbus_checks():
     same('R8 sets nothing', box.link, 0)
     same('to all', box.modbus(modbus.closed(b'\0' + write[1:6]), 0), b'')
     same('it acts', box.link, 1)
+
+
+def why_checks():
+    """Document 02, W6, by hand: a cycle of AL1, one of AL2."""
+    def told(box):
+        return [' '.join(map(str, why(box, output))) for output in (1, 2, 3, 4)]
+
+    same('R19', [refusal(why, Box(), output) for output in (0, 5, 255)], [(19,)] * 3)
+    same('fresh', told(Box()), ['phase Ready', 'phase Ready', 'unused', 'noalarm'])
+    box = Box(boundary.AL1)
+    for samples, start, wanted in (
+            ([0], 0, ['nostart', 'nostart', 'nostart', 'noalarm']),
+            ([0], 8, ['open', 'phase Fill', 'phase Fill', 'noalarm']),
+            ([400] * 4, 0, ['lead 400 400', 'open', 'phase Fill', 'noalarm']),
+            ([399] * 4, 0, ['lead 399 400', 'open', 'phase Fill', 'noalarm']),
+            ([480] * 4, 0, ['lead 480 480', 'lead 480 480', 'settling 0 256', 'noalarm']),
+            ([470] * 3, 0, ['lead 473 480', 'lead 473 480', 'settling 3 256', 'noalarm']),
+            ([470] * 65, 0, ['phase Discharge', 'phase Discharge', 'open', 'noalarm']),
+            ([0] * 4, 0, ['phase Ready', 'phase Ready', 'phase Ready', 'noalarm']),
+            ([0], 0, ['nostart', 'nostart', 'nostart', 'noalarm']),
+            ([2000] * 4, 0, ['nostart', 'nostart', 'nostart', 'overload']),
+            ([900001], 0, ['fault 21 0'] * 4)):
+        for sample in samples:
+            box.tick(sample, box.outputs & 7 | start)
+        same('AL1 at %d' % samples[0], told(box), wanted)
+    box = Box(boundary.AL1._replace(algorithm=2, M=700))
+    for samples, start, wanted in (
+            ([600], 0, ['nostart', 'nostart', 'phase Ready', 'noalarm']),
+            ([600], 8, ['open', 'open', 'phase Dose', 'noalarm']),
+            ([200] * 4, 0, ['lead 400 400', 'open', 'phase Dose', 'noalarm']),
+            ([120] * 4, 0, ['lead 480 480', 'lead 480 480', 'phase Settle', 'noalarm']),
+            ([120] * 64, 0, ['phase Ready', 'phase Ready', 'phase Ready', 'noalarm']),
+            ([120], 0, ['phase Load', 'phase Load', 'open', 'noalarm']),
+            ([700] * 4, 0, ['phase Calm', 'phase Calm', 'phase Calm', 'noalarm'])):
+        for sample in samples:
+            box.tick(sample, box.outputs & 7 | start)
+        same('AL2 at %d' % samples[0], told(box), wanted)
 
 
 def slave_checks():
@@ -372,6 +410,15 @@ def sample_checks():
     same('its hours', hours.printed(made), b'491646\tX\n')
 
 
+# The reasons of each algorithm, AL0 first.
+REASONS = ('open, fault, unused, nostart, lead, phase Ready, phase Fill, overload, noalarm',
+           'open, fault, nostart, settling, lead, phase Ready, phase Fill, phase Discharge, '
+           'overload, noalarm',
+           'open, fault, nostart, lead, phase Ready, phase Load, phase Calm, phase Dose, '
+           'phase Settle, overload, noalarm')
+REASONS += REASONS[2:]
+
+
 def stored_checks():
     """The stored cases show every refusal, fault and kind of answer."""
     seen, calls = set(), 0
@@ -385,18 +432,25 @@ def stored_checks():
             cells = answer.split('\t')
             if cells[0] in 'RF':
                 cells = cells[:2]
+            elif cells[0] == 'Y':
+                cells = cells[:3] if cells[1] == 'phase' else cells[:2]
+                cells = ['AL%d' % box.box.s.algorithm] + cells[1:]
             elif cells[0] == 'D' and line[:1] == b'T':
                 cells = ['dose', box.box.s.algorithm, cells[4]]
             else:
                 cells = cells[:1]
             seen.add(' '.join(map(str, cells)))
-    for number in range(1, 18):
+    for number in list(range(1, 18)) + [19]:
         if number != 13:        # a line of `replay` is too short for R13
             same('R%d seen' % number, 'R %d' % number in seen, True)
     for wanted in ('F 14', 'F 21', 'dose 1 0', 'dose 1 1', 'dose 2 0', 'dose 2 1',
                    'dose 3 0', 'dose 3 1', 'O', 'P', 'A', 'Q', 'M', 'I', 'X',
                    'D', 'H', '?'):
         same(wanted + ' seen', wanted in seen, True)
+    for algorithm, reasons in enumerate(REASONS):
+        for reason in reasons.split(','):
+            wanted = 'AL%d %s' % (algorithm, reason.strip())
+            same(wanted + ' seen', wanted in seen, True)
     same('some thousand calls', calls > 5000, True)
 
 
@@ -406,6 +460,7 @@ def main():
     field_checks()
     modbus_checks()
     slave_checks()
+    why_checks()
     tick_checks()
     journal_checks()
     replay_checks()

@@ -148,16 +148,17 @@ unfolding eventsIn run saidTo saysAct leftBy
 acts-none s = record { makes = record { next = refl; says = refl; sound = s }; left = refl }
 
 -- the calls that need no box
-pub asks-nothing : (most : ℕ) (bytes : List ℕ) (call : read.Call) → OneOf (8 ∷ 9 ∷ 10 ∷ 11 ∷ 12 ∷ 13 ∷ 14 ∷ 15 ∷ 16 ∷ []) (tagOf call-type call) → lent most (askBy (asCall bytes call)) ≡ nothing
+pub asks-nothing : (most : ℕ) (bytes : List ℕ) (call : read.Call) → OneOf (9 ∷ 10 ∷ 11 ∷ 12 ∷ 13 ∷ 14 ∷ 15 ∷ 16 ∷ 17 ∷ []) (tagOf call-type call) → lent most (askBy (asCall bytes call)) ≡ nothing
 unfolding lent askBy askOf asCall
-asks-nothing most bytes (C.Tick x i) h = absurd (miss (8 ∷ 9 ∷ 10 ∷ 11 ∷ 12 ∷ 13 ∷ 14 ∷ 15 ∷ 16 ∷ []) 0 tt h)
-asks-nothing most bytes (C.Link on) h = absurd (miss (8 ∷ 9 ∷ 10 ∷ 11 ∷ 12 ∷ 13 ∷ 14 ∷ 15 ∷ 16 ∷ []) 1 tt h)
-asks-nothing most bytes (C.Settings set) h = absurd (miss (8 ∷ 9 ∷ 10 ∷ 11 ∷ 12 ∷ 13 ∷ 14 ∷ 15 ∷ 16 ∷ []) 2 tt h)
-asks-nothing most bytes C.Reset h = absurd (miss (8 ∷ 9 ∷ 10 ∷ 11 ∷ 12 ∷ 13 ∷ 14 ∷ 15 ∷ 16 ∷ []) 3 tt h)
-asks-nothing most bytes C.Counters h = absurd (miss (8 ∷ 9 ∷ 10 ∷ 11 ∷ 12 ∷ 13 ∷ 14 ∷ 15 ∷ 16 ∷ []) 4 tt h)
-asks-nothing most bytes (C.Restart set count total) h = absurd (miss (8 ∷ 9 ∷ 10 ∷ 11 ∷ 12 ∷ 13 ∷ 14 ∷ 15 ∷ 16 ∷ []) 5 tt h)
-asks-nothing most bytes (C.Request n room) h = absurd (miss (8 ∷ 9 ∷ 10 ∷ 11 ∷ 12 ∷ 13 ∷ 14 ∷ 15 ∷ 16 ∷ []) 6 tt h)
-asks-nothing most bytes (C.Modbus n room) h = absurd (miss (8 ∷ 9 ∷ 10 ∷ 11 ∷ 12 ∷ 13 ∷ 14 ∷ 15 ∷ 16 ∷ []) 7 tt h)
+asks-nothing most bytes (C.Tick x i) h = absurd (miss (9 ∷ 10 ∷ 11 ∷ 12 ∷ 13 ∷ 14 ∷ 15 ∷ 16 ∷ 17 ∷ []) 0 tt h)
+asks-nothing most bytes (C.Link on) h = absurd (miss (9 ∷ 10 ∷ 11 ∷ 12 ∷ 13 ∷ 14 ∷ 15 ∷ 16 ∷ 17 ∷ []) 1 tt h)
+asks-nothing most bytes (C.Settings set) h = absurd (miss (9 ∷ 10 ∷ 11 ∷ 12 ∷ 13 ∷ 14 ∷ 15 ∷ 16 ∷ 17 ∷ []) 2 tt h)
+asks-nothing most bytes C.Reset h = absurd (miss (9 ∷ 10 ∷ 11 ∷ 12 ∷ 13 ∷ 14 ∷ 15 ∷ 16 ∷ 17 ∷ []) 3 tt h)
+asks-nothing most bytes C.Counters h = absurd (miss (9 ∷ 10 ∷ 11 ∷ 12 ∷ 13 ∷ 14 ∷ 15 ∷ 16 ∷ 17 ∷ []) 4 tt h)
+asks-nothing most bytes (C.Restart set count total) h = absurd (miss (9 ∷ 10 ∷ 11 ∷ 12 ∷ 13 ∷ 14 ∷ 15 ∷ 16 ∷ 17 ∷ []) 5 tt h)
+asks-nothing most bytes (C.Request n room) h = absurd (miss (9 ∷ 10 ∷ 11 ∷ 12 ∷ 13 ∷ 14 ∷ 15 ∷ 16 ∷ 17 ∷ []) 6 tt h)
+asks-nothing most bytes (C.Modbus n room) h = absurd (miss (9 ∷ 10 ∷ 11 ∷ 12 ∷ 13 ∷ 14 ∷ 15 ∷ 16 ∷ 17 ∷ []) 7 tt h)
+asks-nothing most bytes (C.Why k) h = absurd (miss (9 ∷ 10 ∷ 11 ∷ 12 ∷ 13 ∷ 14 ∷ 15 ∷ 16 ∷ 17 ∷ []) 8 tt h)
 asks-nothing most bytes (C.WriteFrame n room) h = refl
 asks-nothing most bytes (C.ReadFrame n) h = refl
 asks-nothing most bytes (C.WriteField v) h = refl

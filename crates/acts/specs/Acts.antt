@@ -11,16 +11,18 @@ use Rattle.controller.specs.Calls.{restartOf, settingsOf, resetOf}
 use Rattle.controller.specs.Line.{requestOf}
 use Rattle.controller.specs.Modbus.{modbusOf}
 use Rattle.controller.specs.Says.{noValue, placeAndLength, bytesOf}
+use Rattle.reasons.specs.Reasons.{Cause, whyOf}
 use Rattle.series.specs.Events.{Event, tick, link, settings, reset, restart, request, modbus, run}
 use Rattle.calls.specs.Call.{Call}
 use Rattle.calls.specs.Call as calls
 
 -- ---- what a call asks of the box
 
--- an event of a series, the counters, or nothing
+-- an event of a series, the counters, why an output is as it is, or nothing
 pub data Ask : Type 0 where
   event : Event → Ask
   counters : Ask
+  why : ℕ → Ask
   nothing : Ask
 
 -- a buffer of `room` bytes, each byte A5 before the call
@@ -36,6 +38,7 @@ askOf calls.counters = counters
 askOf (calls.restart set count total) = event (restart set count total)
 askOf (calls.request s room) = event (request s (blank room))
 askOf (calls.modbus s room) = event (modbus s (blank room))
+askOf (calls.why k) = why k
 askOf (calls.writeFrame s room) = nothing
 askOf (calls.readFrame s) = nothing
 askOf (calls.writeField w) = nothing
@@ -55,6 +58,7 @@ askBy bad = nothing
 unfoldable pub eventsIn : Ask → List Event
 eventsIn (event e) = e ∷ []
 eventsIn counters = []
+eventsIn (why k) = []
 eventsIn nothing = []
 
 -- the events of a call: none, or one
@@ -79,6 +83,7 @@ pub data Said : Type 0 where
   restarted : Answer (Unit {0}) → Said
   replied : Answer (ℕ × ℕ) → Said
   polled : Answer ℕ → Said
+  explained : Answer Cause → Said
   aside : Said
 
 unfoldable pub saidAt : Controller → Event → Said
@@ -94,6 +99,8 @@ unfoldable pub saidTo : Controller → Ask → Said
 saidTo c (event e) = saidAt c e
 -- A call of its own answers both at any time and changes nothing
 saidTo c counters = counted (c .counters)
+-- Why is that gate shut? It changes no state
+saidTo c (why k) = explained (whyOf c k)
 saidTo c nothing = aside
 
 -- ---- what it leaves in a lent buffer
@@ -111,6 +118,7 @@ leftAt c (restart set count total) old = old
 unfoldable pub leftBy : Controller → Ask → List ℕ → List ℕ
 leftBy c (event e) old = leftAt c e old
 leftBy c counters old = old
+leftBy c (why k) old = old
 leftBy c nothing old = old
 
 -- a reply has the room that its request asks for, at most what is lent
@@ -126,4 +134,5 @@ lentTo most (restart set count total) = restart set count total
 unfoldable pub lent : ℕ → Ask → Ask
 lent most (event e) = event (lentTo most e)
 lent most counters = counters
+lent most (why k) = why k
 lent most nothing = nothing

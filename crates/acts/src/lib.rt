@@ -8,6 +8,7 @@ use controller::RestartAnswer;
 use controller::SetAnswer;
 use controller::TickAnswer;
 use counters::Counters;
+use reasons::Reason;
 use settings::Settings;
 ghost use mathlib.Core.Path.{_≡_};
 ghost use Prim.Native.Nat.{min};
@@ -15,7 +16,7 @@ ghost use lib.ListN.{length, take};
 ghost use Rattle.controller.specs.Sound.{Sound};
 ghost use Rattle.series.specs.Events as events;
 ghost use Rattle.calls.specs.Reads.{asCall};
-ghost use Rattle.acts.specs.Acts.{event, counters, askBy, blank, lent};
+ghost use Rattle.acts.specs.Acts.{event, counters, why, askBy, blank, lent};
 ghost use Rattle.acts.specs.Makes.{inUse, Makes, Acts};
 
 // What a call of the box answers; a call that needs no box has no answer here.
@@ -28,6 +29,7 @@ pub enum Answer {
     Restart(RestartAnswer),
     Request(RequestAnswer),
     Modbus(PollAnswer),
+    Why(Reason),
     Aside,
 }
 
@@ -110,6 +112,18 @@ fn counters(c: Controller) -> Acted
     }
 }
 
+// Why an output is as it is.
+fn why(c: Controller, output: u8) -> Acted
+    requires { ⌜ Sound c ⌝ }
+    ensures { λ r. ⌜ Makes c (why output) r ⌝ }
+{
+    let reason = reasons::why(c, output);
+    Acted {
+        next: c,
+        answer: Answer::Why(reason),
+    }
+}
+
 // A refused restart leaves the old controller in use.
 fn in_use(answer: RestartAnswer, old: Controller, new: Controller) -> Controller
     ensures { λ r. ⌜ r ≡ inUse answer old new ⌝ }
@@ -182,6 +196,7 @@ pub fn act(c: Controller, call: Call, bytes: &[u8], reply: &mut [u8]) -> Acted
         Call::Restart(set, count, total) => restart(c, set, count, total),
         Call::Request(n, room) => request(c, n, room, bytes, reply),
         Call::Modbus(n, room) => modbus(c, n, room, bytes, reply),
+        Call::Why(output) => why(c, output),
         _ => Acted {
             next: c,
             answer: Answer::Aside,

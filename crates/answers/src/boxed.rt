@@ -88,7 +88,7 @@ fn modbus(answer: PollAnswer) -> Words {
     }
 }
 
-// What the box answered; ? where the call needs no box.
+// What the box answered by a letter and numbers; ? where it answered otherwise.
 pub(crate) fn words(said: Answer) -> Words {
     match said {
         Answer::Tick(ticked) => tick(ticked),
@@ -99,6 +99,6 @@ pub(crate) fn words(said: Answer) -> Words {
         Answer::Restart(restarted) => restart(restarted),
         Answer::Request(replied) => request(replied),
         Answer::Modbus(polled) => modbus(polled),
-        Answer::Aside => Words::none(b'?'),
+        _ => Words::none(b'?'),
     }
 }

@@ -1,5 +1,6 @@
 // The text of an answer to a call of a script.
 mod boxed;
+mod causes;
 
 use acts::Answer;
 use calls::Call;
@@ -56,6 +57,7 @@ fn put_answer(out: &mut [u8], call: Call, said: Answer, bytes: &[u8], spare: &mu
         Answer::Aside => put_aside(out, call, bytes, spare),
         Answer::Request(_) => put_reply(out, call, said, spare),
         Answer::Modbus(_) => put_reply(out, call, said, spare),
+        Answer::Why(reason) => causes::line(out, reason),
         _ => pieces::line(out, boxed::words(said)),
     }
 }

@@ -26,6 +26,7 @@ pub data Call : Type 0 where
   restart : Settings → ℕ → ℕ → Call
   request : List ℕ → ℕ → Call
   modbus : List ℕ → ℕ → Call
+  why : ℕ → Call
   writeFrame : List ℕ → ℕ → Call
   readFrame : List ℕ → Call
   writeField : Weight → Call
@@ -100,6 +101,10 @@ tickAt l = onGood (signedField l) (λ x rest. onGood (fieldAt 255 rest) (λ i re
 unfoldable pub linkAt : List ℕ → Parsed Call
 linkAt l = onGood (flagField l) (λ on rest. good (link on) rest)
 
+-- Y output
+unfoldable pub whyAt : List ℕ → Parsed Call
+whyAt l = onGood (fieldAt 255 l) (λ k rest. good (why k) rest)
+
 -- S SET: the 17 settings in the order of document 01's table
 unfoldable pub settingsAt : List ℕ → Parsed Call
 settingsAt l = onGood (numbersField 17 l) (λ vs rest. good (settings (setOf vs)) rest)
@@ -157,6 +162,8 @@ callBy letter l =
     (pick (eqb letter 66) (roomAt 64 request l)
     -- M
     (pick (eqb letter 77) (roomAt 64 modbus l)
+    -- Y
+    (pick (eqb letter 89) (whyAt l)
     -- W
     (pick (eqb letter 87) (roomAt 600 writeFrame l)
     -- X
@@ -175,7 +182,7 @@ callBy letter l =
     (pick (eqb letter 117) (roomAt greatest32 hour l)
     -- j
     (pick (eqb letter 106) (roomAt 2000 hours l)
-    bad))))))))))))))))
+    bad)))))))))))))))))
 
 -- nothing follows the last field
 unfoldable pub atEnd : Parsed Call → Parsed Call

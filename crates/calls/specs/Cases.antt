@@ -11,11 +11,11 @@ use Rattle.settings.specs.Cases.{setOf}
 use Rattle.field.specs.Field.{four, weight}
 use Rattle.journal.specs.declared.Line.the-variants.{Dose}
 use Rattle.text.specs.Scan.{expect, onGood, fieldAt}
-use Rattle.calls.specs.Call.{tick, settings, restart, request, modbus, readFrame, writeField, readField, writeLine, hour, minus, plus, signedAt, signedField, isHex, hexValue, bytesAt, bytesField, flagField, numbersField, fieldFrom, tickAt, linkAt, settingsAt, restartAt, roomAt, bytesCall, writeFieldAt, readFieldAt, doseAt, onAt, callBy, atEnd, callOf}
+use Rattle.calls.specs.Call.{tick, settings, restart, request, modbus, why, readFrame, writeField, readField, writeLine, hour, minus, plus, signedAt, signedField, isHex, hexValue, bytesAt, bytesField, flagField, numbersField, fieldFrom, tickAt, linkAt, whyAt, settingsAt, restartAt, roomAt, bytesCall, writeFieldAt, readFieldAt, doseAt, onAt, callBy, atEnd, callOf}
 
 -- to unfold this is to unfold every rule of what a line asks
 unfoldable pub readings : Unit {0}
-unfolding callOf atEnd callBy tickAt linkAt settingsAt restartAt roomAt bytesCall writeFieldAt readFieldAt doseAt onAt fieldFrom setOf numbersField bytesField bytesAt hexValue isHex signedField signedAt plus minus flagField fieldAt expect onGood numberAt digitsFrom isDigit pick
+unfolding callOf atEnd callBy tickAt linkAt whyAt settingsAt restartAt roomAt bytesCall writeFieldAt readFieldAt doseAt onAt fieldFrom setOf numbersField bytesField bytesAt hexValue isHex signedField signedAt plus minus flagField fieldAt expect onGood numberAt digitsFrom isDigit pick
 readings = tt
 
 -- a sample of -2,147,483,648..2,147,483,647 and inputs of 0..255; no leading zero, no -0, nothing behind the inputs
@@ -66,10 +66,12 @@ pub fields :
     × (callOf (77 ∷ 9 ∷ 48 ∷ 49 ∷ 48 ∷ 51 ∷ 9 ∷ 54 ∷ 52 ∷ []) ≡ good (modbus (1 ∷ 3 ∷ []) 64) [])
     × (callOf (77 ∷ 9 ∷ 9 ∷ 54 ∷ 53 ∷ []) ≡ bad)
     × (callOf (109 ∷ 9 ∷ 9 ∷ 48 ∷ []) ≡ bad)
+    × (callOf (89 ∷ 9 ∷ 50 ∷ 53 ∷ 53 ∷ []) ≡ good (why 255) [])
+    × (callOf (89 ∷ 9 ∷ 50 ∷ 53 ∷ 54 ∷ []) ≡ bad)
     × (callOf (71 ∷ 9 ∷ 45 ∷ 53 ∷ 9 ∷ 49 ∷ 9 ∷ 48 ∷ 9 ∷ 50 ∷ 53 ∷ 53 ∷ []) ≡ good (writeField (weight (negsuc 4) true false 255)) [])
     × (callOf (75 ∷ 9 ∷ 48 ∷ 49 ∷ 48 ∷ 50 ∷ 48 ∷ 51 ∷ 48 ∷ 52 ∷ []) ≡ good (readField (four 1 2 3 4)) [])
     × (callOf (75 ∷ 9 ∷ 48 ∷ 49 ∷ 48 ∷ 50 ∷ 48 ∷ 51 ∷ []) ≡ bad)
     × (callOf (68 ∷ 9 ∷ 49 ∷ 9 ∷ 50 ∷ 9 ∷ 51 ∷ 9 ∷ 52 ∷ 9 ∷ 54 ∷ 52 ∷ []) ≡ good (writeLine (Dose 1 2 3 4) 64) [])
     × (callOf (117 ∷ 9 ∷ 9 ∷ 55 ∷ []) ≡ good (hour [] 7) [])
 unfolding readings
-fields = (refl, refl, refl, refl, refl, refl, refl, refl, refl, refl)
+fields = (refl, refl, refl, refl, refl, refl, refl, refl, refl, refl, refl, refl)

@@ -14,7 +14,7 @@ use Rattle.laws.specs.Over.{over}
 use Rattle.laws.specs.Decimal.{Parsed, good, bad}
 use Rattle.paper.specs.Answer.{same}
 use Rattle.text.specs.ScanLaws.{bad-good}
-use Rattle.calls.specs.Call.{Call, tick, link, settings, reset, counters, restart, request, modbus, writeFrame, readFrame, writeField, readField, writeLine, readLine, hour, hours, callOf}
+use Rattle.calls.specs.Call.{Call, tick, link, settings, reset, counters, restart, request, modbus, why, writeFrame, readFrame, writeField, readField, writeLine, readLine, hour, hours, callOf}
 use Rattle.calls.specs.declared.Call as declared
 use Rattle.calls.specs.declared.Call.the-variants as C
 
@@ -28,6 +28,7 @@ asCall bytes C.Counters = good counters []
 asCall bytes (C.Restart set count total) = good (restart set count total) []
 asCall bytes (C.Request n room) = good (request (take n bytes) room) []
 asCall bytes (C.Modbus n room) = good (modbus (take n bytes) room) []
+asCall bytes (C.Why k) = good (why k) []
 asCall bytes (C.WriteFrame n room) = good (writeFrame (take n bytes) room) []
 asCall bytes (C.ReadFrame n) = good (readFrame (take n bytes)) []
 asCall bytes (C.WriteField w) = good (writeField w) []
@@ -48,6 +49,7 @@ bytesIn (good counters rest) = []
 bytesIn (good (restart set count total) rest) = []
 bytesIn (good (request s room) rest) = s
 bytesIn (good (modbus s room) rest) = s
+bytesIn (good (why k) rest) = []
 bytesIn (good (writeFrame s room) rest) = s
 bytesIn (good (readFrame s) rest) = s
 bytesIn (good (writeField w) rest) = []
@@ -68,6 +70,7 @@ sizeOf C.Counters = 0
 sizeOf (C.Restart set count total) = 0
 sizeOf (C.Request n room) = n
 sizeOf (C.Modbus n room) = n
+sizeOf (C.Why k) = 0
 sizeOf (C.WriteFrame n room) = n
 sizeOf (C.ReadFrame n) = n
 sizeOf (C.WriteField w) = 0
@@ -98,6 +101,7 @@ Within C.Counters = Unit {0}
 Within (C.Restart set count total) = Unit {0}
 Within (C.Request n room) = (n ≤ 2048) × (room ≤ 64)
 Within (C.Modbus n room) = (n ≤ 2048) × (room ≤ 64)
+Within (C.Why k) = Unit {0}
 Within (C.WriteFrame n room) = (n ≤ 2048) × (room ≤ 600)
 Within (C.ReadFrame n) = n ≤ 2048
 Within (C.WriteField w) = Unit {0}
@@ -126,6 +130,7 @@ answered (good counters rest) = C.Counters
 answered (good (restart set count total) rest) = C.Restart set count total
 answered (good (request s room) rest) = C.Request (length s) room
 answered (good (modbus s room) rest) = C.Modbus (length s) room
+answered (good (why k) rest) = C.Why k
 answered (good (writeFrame s room) rest) = C.WriteFrame (length s) room
 answered (good (readFrame s) rest) = C.ReadFrame (length s)
 answered (good (writeField w) rest) = C.WriteField w
@@ -154,6 +159,7 @@ known C.Counters = record { bytes = λ b. refl; same = λ a b e. refl; few = λ 
 known (C.Restart set count total) = record { bytes = λ b. refl; same = λ a b e. refl; few = λ w. omega arith; none = λ b e. refl; back = λ b i. refl }
 known (C.Request n room) = record { bytes = λ b. refl; same = λ a b e. ap (λ (s : List ℕ). good (request s room) []) e; few = λ w. w .0; none = λ b e. bad-good (sym e); back = λ b i. ap (λ (m : ℕ). C.Request m room) (length-take-le n b i) }
 known (C.Modbus n room) = record { bytes = λ b. refl; same = λ a b e. ap (λ (s : List ℕ). good (modbus s room) []) e; few = λ w. w .0; none = λ b e. bad-good (sym e); back = λ b i. ap (λ (m : ℕ). C.Modbus m room) (length-take-le n b i) }
+known (C.Why k) = record { bytes = λ b. refl; same = λ a b e. refl; few = λ w. omega arith; none = λ b e. refl; back = λ b i. refl }
 known (C.WriteFrame n room) = record { bytes = λ b. refl; same = λ a b e. ap (λ (s : List ℕ). good (writeFrame s room) []) e; few = λ w. w .0; none = λ b e. bad-good (sym e); back = λ b i. ap (λ (m : ℕ). C.WriteFrame m room) (length-take-le n b i) }
 known (C.ReadFrame n) = record { bytes = λ b. refl; same = λ a b e. ap (λ (s : List ℕ). good (readFrame s) []) e; few = λ w. w; none = λ b e. bad-good (sym e); back = λ b i. ap (λ (m : ℕ). C.ReadFrame m) (length-take-le n b i) }
 known (C.WriteField w) = record { bytes = λ b. refl; same = λ a b e. refl; few = λ w. omega arith; none = λ b e. refl; back = λ b i. refl }

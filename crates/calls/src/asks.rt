@@ -10,7 +10,7 @@ use text::Num;
 ghost use mathlib.Core.Path.{_≡_};
 ghost use Prim.Native.Nat.{_≤_};
 ghost use lib.ListN.{length, drop};
-ghost use Rattle.calls.specs.Call.{tickAt, linkAt, settingsAt, restartAt, roomAt, bytesCall, writeFieldAt, readFieldAt, doseAt, onAt};
+ghost use Rattle.calls.specs.Call.{tickAt, linkAt, whyAt, settingsAt, restartAt, roomAt, bytesCall, writeFieldAt, readFieldAt, doseAt, onAt};
 ghost use Rattle.calls.specs.Reads.{sizeOf};
 ghost use Rattle.calls.specs.Reading.{aloneCall, roomCall, roomMost, Ended, Asks, Carries};
 
@@ -47,6 +47,16 @@ pub(crate) fn link(line: &[u8]) -> Call
         return Call::Unknown;
     };
     ended(line, end, Call::Link(on == 1))
+}
+
+// Y output
+pub(crate) fn why(line: &[u8]) -> Call
+    ensures { λ r. ⌜ Asks (now (line .entry)) (whyAt (drop 1 (now (line .entry)))) r ⌝ }
+{
+    let Num::Good(output, end) = text::field_at(line, 1, 255) else {
+        return Call::Unknown;
+    };
+    ended(line, end, Call::Why(output as u8))
 }
 
 // S SET

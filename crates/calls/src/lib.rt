@@ -41,6 +41,8 @@ pub enum Call {
     Request(usize, usize),
     // A MODBUS frame of so many bytes, and the room of the reply buffer.
     Modbus(usize, usize),
+    // Why an output is as it is.
+    Why(u8),
     // The frame writer on a body of so many bytes, and the room of its buffer.
     WriteFrame(usize, usize),
     // The frame reader on so many bytes.
@@ -83,6 +85,7 @@ fn call_of(line: &[u8]) -> Call
         b'N' => asks::restart(line),
         b'B' => asks::room(line, letter, 64),
         b'M' => asks::room(line, letter, 64),
+        b'Y' => asks::why(line),
         b'W' => asks::room(line, letter, 600),
         b'X' => asks::alone(line, letter),
         b'G' => asks::weight(line),

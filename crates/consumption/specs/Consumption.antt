@@ -42,7 +42,7 @@ use Rattle.series.specs.Records.{records-append}
 use Rattle.series.specs.Lines.{amountsOf, hourWith}
 use Rattle.lines.specs.Lines.{linesOf}
 use Rattle.calls.specs.Call.{Call, callOf}
-use Rattle.acts.specs.Acts.{Ask, event, counters, nothing, askOf, askBy, eventsIn, madeBy, saidAt, saidTo}
+use Rattle.acts.specs.Acts.{Ask, event, counters, why, nothing, askOf, askBy, eventsIn, madeBy, saidAt, saidTo}
 use Rattle.clock.specs.Clock.{ticksAnHour, greatestHour, Note, note, withStage, withHour, withTicks, withWhole, withKnown, refusalText, refuse, firstOf, doseIn, closing, nextHour, oneMore, counts, restartedBy, lostBy, heardBy, Runs}
 use Rattle.recorder.specs.Recording.{heardDoses, heardTick, heardRestart, heardSaid, heardOf, noteBy, noteOf, boxBy, nextOf, startOf, notesOf, recordOf}
 use Rattle.clock.specs.Clock as clock
@@ -181,6 +181,7 @@ ask-doses : (c : Controller) (a : Ask) → Sound c → dosesIn (heardSaid (saidT
 unfolding dosesIn heardSaid saidTo eventsIn records
 ask-doses c (event e) s = event-doses c e s ∙ sym (append-nil (recordsAt c e))
 ask-doses c counters s = refl
+ask-doses c (why k) s = refl
 ask-doses c nothing s = refl
 
 line-doses : (c : Controller) (p : Parsed Call) → Sound c → dosesIn (heardOf c p ∷ []) ≡ records c (eventsIn (askBy p))

@@ -14,6 +14,7 @@ pub mod Parts
 pub mod Bounds
 pub mod Setters
 pub mod Ways
+pub mod Waiting
 pub mod Keeps
 pub mod Promises
 pub mod Determined

@@ -90,18 +90,37 @@ pub fn bits(out: &mut [u8], at: usize, n: u64) -> usize {
     text::put_hex(out, after, 16, n)
 }
 
-// The letter of an answer and its numbers, a tab before each, at the buffer's start.
-pub fn put_words(out: &mut [u8], w: Words) -> usize {
+// The numbers of an answer, a tab before each.
+pub fn numbers(out: &mut [u8], at: usize, w: Words) -> usize {
     let numbers = w.numbers;
     let count = w.count;
     let mut minus = w.minus;
-    let mut p = text::put_byte(out, 0, w.letter);
+    let mut p = at;
     for i in 0..4 {
         if count <= i {
             return p;
         }
         p = field(out, p, minus, numbers[i]);
         minus = false;
+    }
+    p
+}
+
+// The letter of an answer and its numbers, at the buffer's start.
+pub fn put_words(out: &mut [u8], w: Words) -> usize {
+    let after = text::put_byte(out, 0, w.letter);
+    numbers(out, after, w)
+}
+
+// A tab, and the bytes of a word before its first 0.
+pub fn word(out: &mut [u8], at: usize, letters: [u8; 9]) -> usize {
+    let mut p = text::put_byte(out, at, TAB);
+    for i in 0..9 {
+        let b = letters[i];
+        if b == 0 {
+            return p;
+        }
+        p = text::put_byte(out, p, b);
     }
     p
 }

@@ -14,7 +14,7 @@ use Rattle.controller.specs.Promises.{tick-recordable}
 use Rattle.series.specs.Events.{Event, tick, link, request, modbus, settings, reset, restart, run}
 use Rattle.series.specs.Kept.{event-sound}
 use Rattle.calls.specs.Call.{Call, callOf}
-use Rattle.acts.specs.Acts.{Ask, event, counters, nothing, askOf, askBy, eventsIn, madeBy, saidAt, saidTo}
+use Rattle.acts.specs.Acts.{Ask, event, counters, why, nothing, askOf, askBy, eventsIn, madeBy, saidAt, saidTo}
 use Rattle.clock.specs.Clock.{Runs}
 use Rattle.clock.specs.Marking.{Writable}
 use Rattle.clock.specs.Keeps.{start-runs, first-runs, heard-runs}
@@ -29,6 +29,7 @@ ask-sound : (c : Controller) (a : Ask) → Sound c → Sound (run c (eventsIn a)
 unfolding eventsIn run
 ask-sound c (event e) s = event-sound c e s
 ask-sound c counters s = s
+ask-sound c (why k) s = s
 ask-sound c nothing s = s
 
 pub made-sound : (c : Controller) (p : Parsed Call) → Sound c → Sound (madeBy c p)
@@ -75,6 +76,7 @@ ask-writable : (c : Controller) (a : Ask) → Sound c → Writable (heardSaid (s
 unfolding heardSaid saidTo
 ask-writable c (event e) s = event-writable c e s
 ask-writable c counters s = tt
+ask-writable c (why k) s = tt
 ask-writable c nothing s = tt
 
 -- the D line of a dose that is heard is never refused

@@ -66,9 +66,15 @@ returns-8 c =
     acts-as (as-call (length (now (a .reply))) (now (a .bytes)) (c .before .before .before .before .before .call6 .given .1)) (c .before .before .modbus .ensures)
 
 returns-9 : tie.Need-returns-9
+unfolding lent lentTo askBy askOf asCall leftBy leftAt
 returns-9 c =
+    let a = c .before .before .before .before .before .before .args in
+    acts-as (as-call (length (now (a .reply))) (now (a .bytes)) (c .before .before .call7 .given .1)) (acts-made refl (c .why .ensures))
+
+returns-10 : tie.Need-returns-10
+returns-10 c =
     let a = c .before .before .before .args in
-    acts-as (asks-nothing (length (now (a .reply))) (now (a .bytes)) (a .call) (c .match .keys9)) (acts-none (c .before .before .before .pre))
+    acts-as (asks-nothing (length (now (a .reply))) (now (a .bytes)) (a .call) (c .match .keys10)) (acts-none (c .before .before .before .pre))
 
 pub act-spec : {M : Type 1} → statement M
 act-spec =
@@ -77,7 +83,9 @@ act-spec =
     (λ c. search needs) (λ c κs. search needs) (λ c. search needs) (λ c κs. search needs) (λ c. search needs)
     (λ c κs. search needs) (λ c. search needs) (λ c κs. search needs) (λ c. search needs) (λ c κs. search needs)
     (λ c. search needs) (λ c κs. search needs) (λ c. search needs) (λ c κs. search needs) (λ c. search needs) (λ c κs. search needs)
+    (λ c. search needs) (λ c κs. search needs)
     returns returns-2 returns-3 returns-4 returns-5 returns-6
     (λ c. search needs) returns-7
     (λ c. search needs) returns-8
-    returns-9)
+    returns-9
+    returns-10)

@@ -11,21 +11,22 @@ use Rattle.calls.proofs.size_of.Statement.{statement}
 use Rattle.calls.proofs.size_of.Tie as tie
 
 -- a call of no bytes
-none : (r : declared.Call) → OneOf (0 ∷ 1 ∷ 2 ∷ 3 ∷ 4 ∷ 5 ∷ 10 ∷ 11 ∷ 12 ∷ 16 ∷ []) (tagOf call-type r) → 0 ≡ sizeOf r
+none : (r : declared.Call) → OneOf (0 ∷ 1 ∷ 2 ∷ 3 ∷ 4 ∷ 5 ∷ 8 ∷ 11 ∷ 12 ∷ 13 ∷ 17 ∷ []) (tagOf call-type r) → 0 ≡ sizeOf r
 unfolding sizeOf
-none (C.Request n room) h = absurd (miss (0 ∷ 1 ∷ 2 ∷ 3 ∷ 4 ∷ 5 ∷ 10 ∷ 11 ∷ 12 ∷ 16 ∷ []) 6 tt h)
-none (C.Modbus n room) h = absurd (miss (0 ∷ 1 ∷ 2 ∷ 3 ∷ 4 ∷ 5 ∷ 10 ∷ 11 ∷ 12 ∷ 16 ∷ []) 7 tt h)
-none (C.WriteFrame n room) h = absurd (miss (0 ∷ 1 ∷ 2 ∷ 3 ∷ 4 ∷ 5 ∷ 10 ∷ 11 ∷ 12 ∷ 16 ∷ []) 8 tt h)
-none (C.ReadFrame n) h = absurd (miss (0 ∷ 1 ∷ 2 ∷ 3 ∷ 4 ∷ 5 ∷ 10 ∷ 11 ∷ 12 ∷ 16 ∷ []) 9 tt h)
-none (C.ReadLine n) h = absurd (miss (0 ∷ 1 ∷ 2 ∷ 3 ∷ 4 ∷ 5 ∷ 10 ∷ 11 ∷ 12 ∷ 16 ∷ []) 13 tt h)
-none (C.Hour n k) h = absurd (miss (0 ∷ 1 ∷ 2 ∷ 3 ∷ 4 ∷ 5 ∷ 10 ∷ 11 ∷ 12 ∷ 16 ∷ []) 14 tt h)
-none (C.Hours n room) h = absurd (miss (0 ∷ 1 ∷ 2 ∷ 3 ∷ 4 ∷ 5 ∷ 10 ∷ 11 ∷ 12 ∷ 16 ∷ []) 15 tt h)
+none (C.Request n room) h = absurd (miss (0 ∷ 1 ∷ 2 ∷ 3 ∷ 4 ∷ 5 ∷ 8 ∷ 11 ∷ 12 ∷ 13 ∷ 17 ∷ []) 6 tt h)
+none (C.Modbus n room) h = absurd (miss (0 ∷ 1 ∷ 2 ∷ 3 ∷ 4 ∷ 5 ∷ 8 ∷ 11 ∷ 12 ∷ 13 ∷ 17 ∷ []) 7 tt h)
+none (C.WriteFrame n room) h = absurd (miss (0 ∷ 1 ∷ 2 ∷ 3 ∷ 4 ∷ 5 ∷ 8 ∷ 11 ∷ 12 ∷ 13 ∷ 17 ∷ []) 9 tt h)
+none (C.ReadFrame n) h = absurd (miss (0 ∷ 1 ∷ 2 ∷ 3 ∷ 4 ∷ 5 ∷ 8 ∷ 11 ∷ 12 ∷ 13 ∷ 17 ∷ []) 10 tt h)
+none (C.ReadLine n) h = absurd (miss (0 ∷ 1 ∷ 2 ∷ 3 ∷ 4 ∷ 5 ∷ 8 ∷ 11 ∷ 12 ∷ 13 ∷ 17 ∷ []) 14 tt h)
+none (C.Hour n k) h = absurd (miss (0 ∷ 1 ∷ 2 ∷ 3 ∷ 4 ∷ 5 ∷ 8 ∷ 11 ∷ 12 ∷ 13 ∷ 17 ∷ []) 15 tt h)
+none (C.Hours n room) h = absurd (miss (0 ∷ 1 ∷ 2 ∷ 3 ∷ 4 ∷ 5 ∷ 8 ∷ 11 ∷ 12 ∷ 13 ∷ 17 ∷ []) 16 tt h)
 none (C.Tick x i) h = refl
 none (C.Link on) h = refl
 none (C.Settings set) h = refl
 none C.Reset h = refl
 none C.Counters h = refl
 none (C.Restart set count total) h = refl
+none (C.Why k) h = refl
 none (C.WriteField w) h = refl
 none (C.ReadField f) h = refl
 none (C.WriteLine l room) h = refl
