@@ -5,7 +5,7 @@ use mathlib.Core.List.{List, [], _∷_}
 use Prim.Native.Nat.{ℕ, zero, suc, _+_, _*_, _-_, _^_, _≤_, _<_}
 use native.Mathlib.Omega.{arith}
 use native.Mathlib.Numerals.{add-one}
-use borrow.Author.Tests.{lt-ltb, le-ltb}
+use borrow.Author.Tests.{lt-ltb, le-ltb, ltb-false}
 use lib.Dec.{ltb}
 use lib.IntN.{ℤ, pos, negsuc, _+ℤ_, _-ℤ_, natAbs}
 use lib.ListN.{length, take, getD, length-take}
@@ -13,7 +13,7 @@ use lib.Seq.{slice, slice-cons, slice-empty, length-take-le}
 use lib.Signed.{ltZ, mag}
 use mir.Syntax.{w32}
 use mir.Val.{SFits}
-use Rattle.laws.specs.Pick.{pick-all}
+use Rattle.laws.specs.Pick.{pick-all, pick-if}
 use Rattle.laws.specs.Whole.{abs-sub}
 use Rattle.window.specs.declared.Seen.{Seen}
 use Rattle.window.specs.Mean.{roundAway, meanOf}
@@ -77,8 +77,8 @@ told-sum (x ∷ xs) zero t h m l p a b = absurd (omega arith)
 told-sum (x ∷ xs) (suc n) t h m l p a b =
     record {
       adds =
-        ap (λ (u : Seen). signedOf (u .sum)) (p .told)
-        ∙ seen-sum x (take n xs) (p .all) (omega (arith, length-take n xs)) (rw (p .told) at a) (rw (p .told) at b);
+          ap (λ (u : Seen). signedOf (u .sum)) (p .told)
+          ∙ seen-sum x (take n xs) (p .all) (omega (arith, length-take n xs)) (rw (p .told) at a) (rw (p .told) at b);
       all = p .all;
     }
 
@@ -96,3 +96,8 @@ unfolding leftSum
 left-small t sum n h l m =
     pick-all (λ (z : ℤ). natAbs z ≤ 130 * 2147483648) (ltb n 4) (omega arith)
     (omega (arith, abs-sub (sum -ℤ t .high) (t .low), abs-sub sum (t .high)))
+
+pub left-count : (n : ℕ) → 0 < n → n ≤ 128 → (0 < leftCount n) × (leftCount n ≤ 128)
+unfolding leftCount
+left-count n h m =
+    pick-if (λ (k : ℕ). (0 < k) × (k ≤ 128)) (ltb n 4) (λ e. (h, m)) (λ e. let l = ltb-false n 4 e in (omega arith, omega arith))
