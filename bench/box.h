@@ -75,22 +75,34 @@ static void keep(struct box *b, int32_t sample)
         b->held++;
 }
 
-static int32_t sum(const int32_t *samples, uint32_t n)
+struct seen { int32_t sum, high, low; };
+
+/* n samples more: sum, largest and smallest in one pass. 128 samples of 900,000 fit an int. */
+static struct seen see(struct seen t, const int32_t *samples, uint32_t n)
 {
-    int32_t s = 0;
-    for (uint32_t i = 0; i < n; i++)
-        s += samples[i];
-    return s;
+    for (uint32_t i = 0; i < n; i++) {
+        int32_t x = samples[i];
+        t.sum += x;
+        t.high = t.high < x ? x : t.high;
+        t.low = x < t.low ? x : t.low;
+    }
+    return t;
 }
 
-/* The mean of the last n samples, a half away from zero. 128 samples of 900,000 fit an int. */
+/* The mean of the last n samples, of four or more without one largest and one smallest; a half away from zero. */
 static int32_t mean(const struct box *b, uint32_t n)
 {
     if (n > b->held)
         n = b->held;
     uint32_t near = n < b->next ? n : b->next, far = n - near;
-    int32_t s = sum(b->ring + b->next - near, near) + sum(b->ring + 128 - far, far);
-    int32_t half = n / 2, d = n;
+    struct seen t = { 0, INT32_MIN, INT32_MAX };
+    t = see(see(t, b->ring + b->next - near, near), b->ring + 128 - far, far);
+    int32_t s = t.sum, d = n;
+    if (d >= 4) {
+        s -= t.high + t.low;
+        d -= 2;
+    }
+    int32_t half = d / 2;
     return s < 0 ? -((half - s) / d) : (half + s) / d;
 }
 

@@ -17,21 +17,21 @@ def true_inputs(box):
     return box.outputs & 7
 
 
-def at_settle():
-    """A box on tick 0 of Settle: 481 after 479s makes F 480, which shuts
-    output 2."""
+def at_settle(last):
+    """A box on tick 0 of Settle: a second sample of 480 or more after 479s
+    brings F to 480 or more, which shuts output 2."""
     box = Box(AL1)
-    for sample in [0] + [479] * 8:
+    for sample in [0] + [479] * 8 + [last]:
         box.tick(sample, true_inputs(box) | START)
-    assert box.outputs == 2
-    box.tick(481, true_inputs(box))
-    assert box.outputs == 0 and box.F == 480
+    assert box.outputs == 2 and box.F == 479
+    box.tick(last, true_inputs(box))
+    assert box.outputs == 0 and box.F >= 480
     return box
 
 
-def opens_on(sample_of):
+def opens_on(last, sample_of):
     """The tick of Settle on which output 3 opens."""
-    box, tick = at_settle(), 0
+    box, tick = at_settle(last), 0
     while not box.outputs & 4:
         tick += 1
         box.tick(sample_of(tick), true_inputs(box))
@@ -54,8 +54,8 @@ def alarm(over):
 
 
 def cases():
-    yield 'settle, F constant', opens_on(lambda tick: 480)
-    yield 'settle, F changing', opens_on(lambda tick: 482 + tick)
+    yield 'settle, F constant', opens_on(480, lambda tick: 480)
+    yield 'settle, F changing', opens_on(600, lambda tick: 601 + tick)
     yield 'mismatches 63', mismatched(63)
     yield 'mismatches 64', mismatched(64)
     yield 'w C+9', alarm(9)

@@ -8,9 +8,12 @@ READY, FILL, FINE, HOLD, SETTLE, DISCHARGE, LOAD, CALM, FAULT = range(9)
 
 def mean(samples, n):
     """The mean of the last n samples (of those held, if fewer), rounded to
-    the nearest whole number, a half away from zero."""
-    last = samples[-n:]
-    total, number = sum(last), len(last)
+    the nearest whole number, a half away from zero. Of four or more one largest
+    and one smallest are left out of it."""
+    taken = samples[-n:]
+    total, number = sum(taken), len(taken)
+    if number >= 4:
+        total, number = total - max(taken) - min(taken), number - 2
     nearest = (2 * abs(total) + number) // (2 * number)
     return nearest if total >= 0 else -nearest
 

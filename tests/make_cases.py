@@ -210,7 +210,9 @@ def al0_case():
         case.ticks(5, 0)
         case.tick(0, START)
         case.ticks(3, min(sample, 420), START)
+        case.tick(sample, START)
         case.tick(sample)
+        case.say('C')
         case.tick(-sample, START)
         case.tick(0)
     case.head('start again on the next tick after Ready')
@@ -249,11 +251,12 @@ def al0_case():
 
 
 def to_settle(case, s, last=480, start=START):
-    """Settle is entered by shutting gate 2 with F at `last`."""
+    """Settle is entered by shutting gate 2 with F at `last`, on the second
+    sample of it."""
     case.new(s)
     case.tick(0, start)
     case.ticks(8, last - 1, start)
-    case.tick(last + 1, start)
+    case.ticks(2, last, start)
 
 
 def al1_case():
@@ -262,20 +265,20 @@ def al1_case():
     case.new(AL1)
     for sample in (0, 399, 400, 479):
         case.ticks(5, sample, START)
-    case.tick(481, START)
+    case.tick(480, START)
     case.head('F constant: output 3 opens on tick 64; not under M at 50')
     case.ticks(66, 480)
     case.ticks(6, 50)
     case.ticks(3, 49)
     case.say('Q')
     case.head('F changing every tick: on tick 256')
-    to_settle(case, AL1)
+    to_settle(case, AL1, 600)
     for tick in range(1, 258):
-        case.tick(481 + tick)
+        case.tick(601 + tick)
     case.ticks(6, 0)
     case.head('stable on the last tick itself: settled 1')
     to_settle(case, AL1)
-    for tick in range(1, 189):
+    for tick in range(1, 190):
         case.tick(481 + tick)
     case.ticks(70, 672)
     case.ticks(6, 0)
@@ -283,7 +286,7 @@ def al1_case():
     to_settle(case, AL1)
     for tick in range(1, 191):
         case.tick(481 + tick)
-    case.ticks(70, 672)
+    case.ticks(70, 673)
     case.ticks(6, 0)
     case.head('p9 2: 128 ticks of calm')
     to_settle(case, AL1._replace(p9=2))
@@ -363,10 +366,10 @@ def al1_case():
     case.tick(300, START)
     case.ticks(70, 200)
     case.say('Q')
-    case.new(AL1._replace(Pc=500, Pf=500), 3, 100)
+    case.new(AL1._replace(M=250, Pc=500, Pf=500), 3, 100)
     case.tick(0, START)
-    case.ticks(68, -20)
-    case.ticks(2, 10)
+    for tick in range(1, 260):
+        case.tick(tick - 100)
     case.say('Q')
     case.head('w0 and wE differ')
     for p11 in (0, 1):
@@ -555,9 +558,8 @@ def faults_case():
     case.tick(0, START)
     case.ticks(5, 480)
     case.ticks(3, 480)
-    case.ticks(61, 480, 0, 2)
-    case.ticks(2, 480, 0, 2)
-    case.tick(-900000, 0, 2)
+    case.ticks(62, 480, 0, 2)
+    case.ticks(2, -900000, 0, 2)
     case.say('Q')
     case.ask(0xC3, 0xC5)
     case.head('F21: the sample is not kept, the inputs are')
@@ -763,6 +765,93 @@ def frames_case():
             case.say('X', b'\xFF\x03' + b'\x07' * (inner - 1) +
                      bytes.fromhex(tail))
     case.save('frames.replay')
+
+
+# One largest and one smallest left out.
+
+def wild_case():
+    case = Case(87)
+    case.head('windows of one to seven samples: up to three are taken whole')
+    for samples in ((1, 2, 30), (-1, -2, -30), (7, 7, 7, 7, 7), (0, 9, 0, 9, 0, 9),
+                    (9, 9, 9, 0, 0, 0), (5, 100, 100, 100, 1, 1, 1), (3, 1, 2, 5, 4, 7, 6),
+                    (-3, -1, -2, -5, -4, -7, -6), (1, 3, 2, 1000, 2, 2, 2),
+                    (1, 3, 2, -1000, 2, 2, 2), (900000, -900000, 900000, -900000, 1, 2),
+                    (900000,) * 5, (-900000,) * 5, (10, 11, 12, 14, 17, 21, 26),
+                    (-10, -11, -12, -14, -17, -21, -26), (0, 1, 1, 2, 3, 5, 8)):
+        for p7, p8 in ((4, 4), (4, 5), (5, 6), (6, 128)):
+            case.new(AL1._replace(p7=p7, p8=p8))
+            for sample in samples:
+                case.tick(sample)
+                case.ask(0xC2, 0xC3)
+    case.head('one wild sample moves nothing: calm, alarm, thresholds')
+    for s, calm in ((AL1, 30), (AL2, 600), (AL3, 600), (AL0, 30)):
+        for wild in (900000, -900000):
+            case.new(s)
+            case.ticks(65, calm)
+            case.ask(0xC3)
+            case.tick(wild)
+            case.ask(0xC3, 0xC2, 0xC5)
+            case.ticks(5, calm)
+            case.ask(0xC3)
+    case.head('two of one sign do; one of either sign does not')
+    for first, second in ((5000, 5000), (5000, -5000), (-5000, -5000), (-5000, 5000)):
+        case.new(AL1)
+        case.ticks(66, 30)
+        for sample in (first, second, 30, 30, 30, 30, 30):
+            case.tick(sample)
+            case.ask(0xC3, 0xC5)
+    case.head('a wild sample in every stage of a dose')
+    for s in (AL0, AL1, AL2, AL3):
+        case.new(s)
+        case.say('L', 1)
+        for sample in ((30, 300, 440, 600) if s.algorithm < 2 else (800, 600, 380, 200)):
+            case.ticks(6, sample)
+            case.tick(-8000)
+            case.ticks(5, sample)
+            case.tick(8000)
+            case.ticks(5, sample)
+        case.ticks(70, 600 if s.algorithm < 2 else 200)
+        case.tick(-9000)
+        case.ticks(9, 0)
+        case.say('Q')
+    case.head('one at the end of Settle, after 63 ticks of calm')
+    to_settle(case, AL1)
+    case.ticks(63, 480)
+    case.tick(9000)
+    case.ticks(6, 0)
+    case.head('left out now, taken later: the samples stay held')
+    case.new(AL1._replace(p7=4, p8=9))
+    for sample in (100, 0, 0, 0, 50, 60, 70, 80, 90, 10, 20, 30):
+        case.tick(sample)
+        case.ask(0xC2, 0xC3)
+    case.head('p7 samples while output 1 is open, p8 else')
+    case.new(AL1._replace(p7=4, p8=12))
+    case.ticks(12, 0)
+    case.say('L', 1)
+    for sample in (0, 100, 900, 120, 130, -500, 140, 300, 450, 900, 470, 490, 490):
+        case.tick(sample)
+        case.ask(0xC2, 0xC3)
+    case.head('C0 by the new mean, its test too')
+    for sample in (49, 50, -50, -49):
+        case.new(AL1)
+        case.ticks(3, sample)
+        case.tick(9000)
+        case.ask(0xC0, 0xC3)
+        case.tick(-9000)
+        case.ask(0xC0, 0xC3)
+    case.new(AL1._replace(M=250, p7=4, p8=6))
+    for sample in (10, 20, 40, 80, 160, 240):
+        case.tick(sample)
+        case.ask(0xC3, 0xC2, 0xC0, 0xC3, 0xC2)
+        case.modbus('010300000004')
+    case.head('the zero on start by the new mean')
+    for sample in (49, 50):
+        case.new(AL1)
+        case.ticks(3, sample)
+        case.tick(-9000, START)
+        case.ask(0xC3)
+        case.ticks(5, 530)
+    case.save('wild.replay')
 
 
 # Why an output is as it is.
@@ -1470,7 +1559,7 @@ def largest_journal():
 
 # What `replay` gets in the gate; the last one has a last line without LF.
 IN_THE_GATE = ('settings', 'fields', 'frames', 'journal', 'line', 'modbus', 'al0', 'al1',
-               'al2', 'al3', 'faults', 'why', 'malformed')
+               'al2', 'al3', 'wild', 'faults', 'why', 'malformed')
 
 
 def every_call():
@@ -1486,7 +1575,8 @@ def main():
     largest_journal()
     slave_cases()
     for case in (settings_case, al0_case, al1_case, al2_case, al3_case,
-                 faults_case, line_case, frames_case, modbus_case, why_case, fields_case,
+                 faults_case, line_case, frames_case, modbus_case, wild_case, why_case,
+                 fields_case,
                  journal_case, malformed_case, long_settle_case, mixed_case):
         case()
     every_call()

@@ -17,6 +17,15 @@ import tempfile
 ROOT = os.path.dirname(os.path.dirname(os.path.abspath(__file__)))
 CASES = os.path.join(ROOT, 'tests', 'cases')
 
+# The mean without leaving any out, put before the class.
+PLAIN = """class Box:@def plain(samples, n):
+    taken = samples[-n:]
+    nearest = (2 * abs(sum(taken)) + len(taken)) // (2 * len(taken))
+    return nearest if sum(taken) >= 0 else -nearest
+
+
+class Box:"""
+
 # The changed rule, the file, its text, the text put in its place.
 MUTANTS = [
     # Settings, restart, counters.
@@ -69,6 +78,57 @@ MUTANTS = [
     ('a half rounded up', 'box.py',
      'nearest if total >= 0 else -nearest',
      '(2 * total + number) // (2 * number)'),
+    ('nothing left out', 'box.py', 'if number >= 4:', 'if False:'),
+    ('one of three left out', 'box.py', 'if number >= 4:', 'if number >= 3:'),
+    ('none of four left out', 'box.py', 'if number >= 4:', 'if number >= 5:'),
+    ('none left out until the window is full', 'box.py',
+     'if number >= 4:', 'if number == n:'),
+    ('none left out of a full window of 128', 'box.py',
+     'if number >= 4:', 'if 4 <= number < 100:'),
+    ('the largest alone left out', 'box.py',
+     'total - max(taken) - min(taken), number - 2', 'total - max(taken), number - 1'),
+    ('the smallest alone left out', 'box.py',
+     'total - max(taken) - min(taken), number - 2', 'total - min(taken), number - 1'),
+    ('both largest left out', 'box.py',
+     'total - max(taken) - min(taken)', 'total - sum(sorted(taken)[-2:])'),
+    ('both smallest left out', 'box.py',
+     'total - max(taken) - min(taken)', 'total - sum(sorted(taken)[:2])'),
+    ('two of each left out', 'box.py',
+     'if number >= 4:', 'if number >= 8:\n        inner = sorted(taken)[2:-2]\n'
+     '        total, number = sum(inner), len(inner)\n    elif number >= 4:'),
+    ('every largest and every smallest left out', 'box.py',
+     '        total, number = total - max(taken) - min(taken), number - 2\n',
+     '        inner = [one for one in taken if min(taken) < one < max(taken)] or taken[:1]\n'
+     '        total, number = sum(inner), len(inner)\n'),
+    ('none of equal ones left out', 'box.py',
+     'if number >= 4:',
+     'if number >= 4 and taken.count(max(taken)) == taken.count(min(taken)) == 1:'),
+    ('the largest in size left out twice', 'box.py',
+     'total - max(taken) - min(taken)', 'total - sum(sorted(taken, key=abs)[-2:])'),
+    ('the oldest and the newest left out', 'box.py',
+     'total - max(taken) - min(taken)', 'total - taken[0] - taken[-1]'),
+    ('divided by the number held', 'box.py',
+     'min(taken), number - 2', 'min(taken), number'),
+    ('divided by one less', 'box.py', 'min(taken), number - 2', 'min(taken), number - 1'),
+    ('left out of all that are held', 'box.py',
+     'total - max(taken) - min(taken)',
+     'total - max(max(taken), max(samples)) - min(min(taken), min(samples))'),
+    ('n left after leaving out', 'box.py', 'taken = samples[-n:]', 'taken = samples[-n - 2:]'),
+    ('one left out is held no more', 'box.py',
+     '    taken = samples[-n:]\n',
+     '    if len(samples) > n: samples.remove(max(samples[-n:]))\n    taken = samples[-n:]\n'),
+    ('the median', 'box.py',
+     '        total, number = total - max(taken) - min(taken), number - 2\n',
+     '        inner = sorted(taken)[(number - 1) // 2:number // 2 + 1]\n'
+     '        total, number = sum(inner), len(inner)\n'),
+    ("the tick's weight as before", 'box.py',
+     'F = mean(self.samples, n)', 'F = plain(self.samples, n)@' + PLAIN),
+    ('the weights of replies as before', 'box.py',
+     'return mean(self.samples, n) - self.Z', 'return plain(self.samples, n) - self.Z@' + PLAIN),
+    ("C0's zero as before", 'box.py',
+     'self.Z = mean(self.samples, self.s.p8)', 'self.Z = plain(self.samples, self.s.p8)@' + PLAIN),
+    ("C0's test as before", 'box.py',
+     '< mean(self.samples, self.s.p8) <', '< plain(self.samples, self.s.p8) <@' + PLAIN),
     ('p8 used while output 1 is open', 'box.py',
      'n = self.s.p7 if self.is_open(1) else self.s.p8', 'n = self.s.p8'),
     ('R1 after the fault', 'box.py',
@@ -785,7 +845,7 @@ MUTANTS = [
 
 # How the names of the cases begin or end that show a file's rules.
 FIRST = {
-    'settings.py': ('settings.',), 'box.py': ('al', 'line.', 'faults.'),
+    'settings.py': ('settings.',), 'box.py': ('al', 'line.', 'faults.', 'wild.'),
     'frames.py': ('frames.',), 'fields.py': ('fields.',),
     'modbus.py': ('modbus.',), 'why.py': ('why.',), 'slave.py': ('.slave',),
     'journal.py': ('.journal', 'journal.'), 'hours.py': ('.journal',),

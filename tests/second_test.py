@@ -138,10 +138,10 @@ def why_checks():
             ([0], 8, ['open', 'phase Fill', 'phase Fill', 'noalarm']),
             ([400] * 4, 0, ['lead 400 400', 'open', 'phase Fill', 'noalarm']),
             ([399] * 4, 0, ['lead 399 400', 'open', 'phase Fill', 'noalarm']),
-            ([480] * 4, 0, ['lead 480 480', 'lead 480 480', 'settling 0 256', 'noalarm']),
-            ([470] * 3, 0, ['lead 473 480', 'lead 473 480', 'settling 3 256', 'noalarm']),
+            ([480] * 3, 0, ['lead 480 480', 'lead 480 480', 'settling 0 256', 'noalarm']),
+            ([470] * 3, 0, ['lead 470 480', 'lead 470 480', 'settling 3 256', 'noalarm']),
             ([470] * 65, 0, ['phase Discharge', 'phase Discharge', 'open', 'noalarm']),
-            ([0] * 4, 0, ['phase Ready', 'phase Ready', 'phase Ready', 'noalarm']),
+            ([0] * 3, 0, ['phase Ready', 'phase Ready', 'phase Ready', 'noalarm']),
             ([0], 0, ['nostart', 'nostart', 'nostart', 'noalarm']),
             ([2000] * 4, 0, ['nostart', 'nostart', 'nostart', 'overload']),
             ([900001], 0, ['fault 21 0'] * 4)):
@@ -154,7 +154,7 @@ def why_checks():
             ([600], 8, ['open', 'open', 'phase Dose', 'noalarm']),
             ([200] * 4, 0, ['lead 400 400', 'open', 'phase Dose', 'noalarm']),
             ([120] * 4, 0, ['lead 480 480', 'lead 480 480', 'phase Settle', 'noalarm']),
-            ([120] * 64, 0, ['phase Ready', 'phase Ready', 'phase Ready', 'noalarm']),
+            ([120] * 63, 0, ['phase Ready', 'phase Ready', 'phase Ready', 'noalarm']),
             ([120], 0, ['phase Load', 'phase Load', 'open', 'noalarm']),
             ([700] * 4, 0, ['phase Calm', 'phase Calm', 'phase Calm', 'noalarm'])):
         for sample in samples:
@@ -180,6 +180,11 @@ def tick_checks():
                             ([1, 1, 2], 1), ([-1, -2, -2], -2)):
         same('mean', mean(samples, 4), wanted)
     same('the last n', mean([9, 1, 2], 2), 2)
+    # Document 02, W7: four or more without one largest and one smallest.
+    for samples, wanted in (([1, 2, 900], 301), ([1, 2, 900, 4], 3), ([5, 5, 5, 5], 5),
+                            ([1, 1, 9, 9], 5), ([0, -1, -2, 7], -1), ([0, 1, 1, 1, 900], 1),
+                            ([1, 2, 3, 4, 5], 3), ([-9, -9, -9, 0, 0, 0], -5)):
+        same('mean of %r' % samples, mean(samples, 6), wanted)
     for weight, outputs in ((399, 1), (400, 2), (479, 2), (480, 0)):
         box = Box(boundary.AL1)
         box.tick(0, 8)
@@ -406,7 +411,7 @@ def sample_checks():
         sample = file.read()
     same('sample', sample == b''.join(generate.minutes(12, 3)), True)
     made = program('record', sample)
-    same('its doses', [line[:8] for line in made.splitlines()], [b'D\t491646'] * 5)
+    same('its doses', [line[:8] for line in made.splitlines()], [b'D\t491646'] * 6)
     same('its hours', hours.printed(made), b'491646\tX\n')
 
 

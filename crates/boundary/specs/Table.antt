@@ -11,7 +11,7 @@ use Rattle.laws.specs.Tests.{both, each, each-at, both-left, both-right}
 use Rattle.paper.specs.Answer.{Answer, done, refused, fault, onDone}
 use Rattle.settings.specs.declared.Settings.{Settings}
 use Rattle.settings.specs.Table.{firstBad, firstFrom, table, inRange, leastLevel, mostLevel, Wc, Wf}
-use Rattle.window.specs.Mean.{meanOf, roundAway, halfUp, sumOf}
+use Rattle.window.specs.Mean.{meanOf, averagedOf, leftOf, without, alike, largest, smallest, greater, lesser, plainOf, roundAway, halfUp, sumOf}
 use Rattle.window.specs.Window.{samplesOf, pushOf, emptyWindow}
 use Rattle.field.specs.declared.Field.{Field}
 use Rattle.field.specs.declared.Weight.{Weight}
@@ -171,7 +171,7 @@ passes-holds (totalAfter t amount t') u = eqb→eq (countedOf (counters 0 t) amo
 
 -- every case passes: computed over the whole list
 all-pass : T (each passes cases)
-unfolding each both cases passes says sameWeight sameFlag sameZ check enterAll enter enterBits enterBit fellOut readOf readable isBcd weightOf signed hasBit valueOf meanOf roundAway halfUp sumOf outputsAt outputsAfter al1 controllerIn restartOf onDone firstBad firstFrom table inRange leastLevel mostLevel storedBad restarted tickOf step2 step3 steps4and5 steps6to8 mismatched watchOf runsAfter runAfter expected step7 step8 seenOf wOf stableOf filtered filterOf equalZ none calmRun startOf outside faulted saysFault outputsOf worth input overCapacity changed calmAfter countersAfter countedOf recordOf recordsOf stepOf ready readyToFill readyToDose waits zeroed nearZero fillBegins coarseStage fineStage fill full hold settle settleEnds dischargeOpens discharge amountOf load calm doseCoarse doseFine doseSettle reachedWf reachedWc notBelowZero Wc Wf samplesOf pushOf emptyWindow pick xor
+unfolding each both cases passes says sameWeight sameFlag sameZ check enterAll enter enterBits enterBit fellOut readOf readable isBcd weightOf signed hasBit valueOf meanOf averagedOf leftOf without alike largest smallest greater lesser plainOf roundAway halfUp sumOf outputsAt outputsAfter al1 controllerIn restartOf onDone firstBad firstFrom table inRange leastLevel mostLevel storedBad restarted tickOf step2 step3 steps4and5 steps6to8 mismatched watchOf runsAfter runAfter expected step7 step8 seenOf wOf stableOf filtered filterOf equalZ none calmRun startOf outside faulted saysFault outputsOf worth input overCapacity changed calmAfter countersAfter countedOf recordOf recordsOf stepOf ready readyToFill readyToDose waits zeroed nearZero fillBegins coarseStage fineStage fill full hold settle settleEnds dischargeOpens discharge amountOf load calm doseCoarse doseFine doseSettle reachedWf reachedWc notBelowZero Wc Wf samplesOf pushOf emptyWindow pick xor
 all-pass = tt
 
 -- all thirteen

@@ -74,7 +74,7 @@ fn ticked(last: Ticked, sample: i32, start: bool) -> Ticked
     c.tick(sample, inputs)
 }
 
-// Tick 0 of Settle: 481 after 479s makes F 480, which shuts output 2.
+// Tick 0 of Settle: 480 and 482 after 479s make F 480, which shuts output 2.
 fn at_settle() -> Ticked
     ensures { λ r. ⌜ Sound (r .next) ⌝ }
 {
@@ -84,7 +84,8 @@ fn at_settle() -> Ticked
         last = ticked(last, 479, true);
         n += 1;
     }
-    ticked(last, 481, false)
+    last = ticked(last, 480, true);
+    ticked(last, 482, false)
 }
 
 // The sample of a tick of Settle.

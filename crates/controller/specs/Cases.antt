@@ -11,7 +11,7 @@ use Rattle.paper.specs.Numbers.{R1, R2, R3, R15, F14, F21}
 use Rattle.settings.specs.Table.{firstBad, firstFrom, table, inRange, leastLevel, mostLevel, defaultSet, Wc, Wf}
 use Rattle.settings.specs.declared.Settings.{Settings}
 use Rattle.settings.specs.Cases.{setOf}
-use Rattle.window.specs.Mean.{meanOf, roundAway, halfUp, sumOf}
+use Rattle.window.specs.Mean.{meanOf, averagedOf, leftOf, without, alike, largest, smallest, greater, lesser, plainOf, roundAway, halfUp, sumOf}
 use Rattle.window.specs.Window.{samplesOf, pushOf, emptyWindow}
 use Rattle.dosing.specs.Rules.{stepOf, ready, readyToFill, readyToDose, waits, zeroed, nearZero, fillBegins, coarseStage, fineStage, fill, full, hold, settle, settleEnds, dischargeOpens, discharge, amountOf, load, calm, doseCoarse, doseFine, doseSettle, reachedWf, reachedWc, notBelowZero}
 use Rattle.dosing.specs.Rules.{units}
@@ -40,7 +40,7 @@ ticked c (t ∷ ts) = ticked (tickOf c (t .0) (t .1) .next) ts
 
 -- to unfold this is to unfold every rule of these calls
 unfoldable pub rules : Unit {0}
-unfolding lastOf ticked setOf restartOf storedBad onDone firstBad firstFrom table inRange leastLevel mostLevel settingsOf settingsAnswer after taken resetOf resetAnswer isReady readyIn atReady linkOf xor answers freshOf restarted defaultSet tickOf step2 step3 steps4and5 steps6to8 mismatched watchOf runsAfter runAfter expected step7 unstartedOf step8 seenOf wOf stableOf filtered filterOf equalZ none calmRun startOf outside faulted saysFault outputsOf worth input overCapacity changed calmAfter countersAfter countedOf recordOf recordsOf stepOf ready readyToFill readyToDose waits zeroed nearZero fillBegins coarseStage fineStage fill full hold settle settleEnds dischargeOpens discharge amountOf load calm doseCoarse doseFine doseSettle reachedWf reachedWc notBelowZero Wc Wf samplesOf pushOf emptyWindow meanOf roundAway halfUp sumOf pick
+unfolding lastOf ticked setOf restartOf storedBad onDone firstBad firstFrom table inRange leastLevel mostLevel settingsOf settingsAnswer after taken resetOf resetAnswer isReady readyIn atReady linkOf xor answers freshOf restarted defaultSet tickOf step2 step3 steps4and5 steps6to8 mismatched watchOf runsAfter runAfter expected step7 unstartedOf step8 seenOf wOf stableOf filtered filterOf equalZ none calmRun startOf outside faulted saysFault outputsOf worth input overCapacity changed calmAfter countersAfter countedOf recordOf recordsOf stepOf ready readyToFill readyToDose waits zeroed nearZero fillBegins coarseStage fineStage fill full hold settle settleEnds dischargeOpens discharge amountOf load calm doseCoarse doseFine doseSettle reachedWf reachedWc notBelowZero Wc Wf samplesOf pushOf emptyWindow meanOf averagedOf leftOf without alike largest smallest greater lesser plainOf roundAway halfUp sumOf pick
 rules = tt
 
 abbrev outputs : ℕ → Answer Told
@@ -58,7 +58,7 @@ box algorithm m level = restarted (set algorithm m level) 0 0
 
 -- the default set in AL0: start opens gate 1, at 100 it holds, start off is Ready; inputs above 15; a sample outside is F21 for good
 pub fresh-ticks :
-    answers freshOf ((pos 0, 0) ∷ (pos 0, 8) ∷ (pos 50, 8) ∷ (pos 400, 8) ∷ (pos 9999, 8) ∷ (pos 0, 16) ∷ (pos 40000, 0) ∷ (pos 900001, 3) ∷ (pos 0, 0) ∷ [])
+    answers freshOf ((pos 0, 0) ∷ (pos 0, 8) ∷ (pos 200, 8) ∷ (pos 400, 8) ∷ (pos 40000, 8) ∷ (pos 0, 16) ∷ (pos 40000, 0) ∷ (pos 900001, 3) ∷ (pos 0, 0) ∷ [])
     ≡ outputs 0 ∷ outputs 1 ∷ outputs 1 ∷ outputs 0 ∷ outputs 0 ∷ refused R1 [] ∷ outputs 8 ∷ fault F21 [] ∷ fault F21 [] ∷ []
 unfolding rules
 fresh-ticks = refl
@@ -75,11 +75,11 @@ pub kept-in-F21 : (ticked freshOf ((pos 5, 1) ∷ (pos 900001, 3) ∷ (pos 7, 2)
 unfolding rules
 kept-in-F21 = (refl, refl)
 
--- n is p8 while output 1 is shut, in the fine stage too: 480 after four 0 is 240; 720 in the fine stage is no 480
+-- n is p8 while output 1 is shut, in the fine stage too: 480 after four 0 is 240; two of 560 in the fine stage are no 480
 pub filter-by-p8 :
     (last (box 1 50 1) (replicate 4 (pos 0, 0) ++ replicate 3 (pos 480, 0) ++ (pos 480, 8) ∷ []) ≡ outputs 1)
     × (last (box 1 50 1) ((pos 0, 8) ∷ replicate 4 (pos 400, 8)) ≡ outputs 2)
-    × (last (box 1 50 1) ((pos 0, 8) ∷ replicate 4 (pos 400, 8) ++ (pos 720, 8) ∷ []) ≡ outputs 2)
+    × (last (box 1 50 1) ((pos 0, 8) ∷ replicate 4 (pos 400, 8) ++ replicate 2 (pos 560, 8)) ≡ outputs 2)
 unfolding rules
 filter-by-p8 = (refl, refl, refl)
 
@@ -87,15 +87,24 @@ filter-by-p8 = (refl, refl, refl)
 pub calm-runs :
     (ticked (box 1 50 1) ((pos 0, 0) ∷ []) .s ≡ 0)
     × (ticked (box 1 50 1) (replicate 65 (pos 300, 0)) .s ≡ 64)
-    × (ticked (box 1 50 1) (replicate 65 (pos 300, 0) ++ (pos 308, 0) ∷ []) .s ≡ 0)
+    × (ticked (box 1 50 1) (replicate 65 (pos 300, 0) ++ replicate 2 (pos 308, 0)) .s ≡ 0)
     × (ticked (box 1 50 1) (replicate 65 (pos 300, 0) ++ (pos 300, 8) ∷ []) .s ≡ 0)
-    × (ticked (box 0 50 1) ((pos 0, 8) ∷ replicate 14 (pos 400, 8)) .s ≡ 6)
-    × (ticked (box 0 50 1) ((pos 0, 8) ∷ replicate 14 (pos 400, 8) ++ (pos 400, 0) ∷ []) .s ≡ 0)
+    × (ticked (box 0 50 1) ((pos 0, 8) ∷ replicate 9 (pos 400, 8)) .s ≡ 6)
+    × (ticked (box 0 50 1) ((pos 0, 8) ∷ replicate 9 (pos 400, 8) ++ (pos 400, 0) ∷ []) .s ≡ 0)
     × (ticked (linkOf (ticked (box 3 800 1) (replicate 65 (pos 300, 0))) true) ((pos 300, 0) ∷ []) .s ≡ 0)
     × (ticked (withS 4031 (ticked (box 1 50 1) ((pos 300, 0) ∷ []))) ((pos 300, 0) ∷ []) .s ≡ 4032)
     × (ticked (withS 4032 (ticked (box 1 50 1) ((pos 300, 0) ∷ []))) ((pos 300, 0) ∷ []) .s ≡ 4032)
 unfolding rules
 calm-runs = (refl, refl, refl, refl, refl, refl, refl, refl, refl)
+
+-- a single wild sample moves neither F nor S, and no gate; it stays held, so that a second one does
+pub wild-sample :
+    (ticked (box 1 50 1) (replicate 65 (pos 300, 0) ++ (pos 900000, 0) ∷ []) .s ≡ 65)
+    × (ticked (box 1 50 1) (replicate 65 (pos 300, 0) ++ (pos 900000, 0) ∷ []) .f ≡ units (pos 300))
+    × (last (box 1 50 1) ((pos 0, 8) ∷ replicate 3 (pos 100, 9) ++ (pos 900000, 9) ∷ []) ≡ outputs 1)
+    × (last (box 1 50 1) ((pos 0, 8) ∷ replicate 3 (pos 100, 9) ++ (pos 900000, 9) ∷ (pos 100, 9) ∷ (pos 900000, 9) ∷ []) ≡ outputs 8)
+unfolding rules
+wild-sample = (refl, refl, refl, refl)
 
 -- start is input 4 or the link start; in AL3 the link start alone
 pub starts :

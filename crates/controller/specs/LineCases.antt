@@ -85,9 +85,9 @@ outputs n = done (record { outputs = n; doses = [] })
 abbrev low : Controller
 low = restarted (setOf (1 ∷ 1000 ∷ 500 ∷ 100 ∷ 20 ∷ 50 ∷ 4 ∷ 8 ∷ 1 ∷ 0 ∷ 0 ∷ 0 ∷ 0 ∷ 0 ∷ 1 ∷ 0 ∷ 0 ∷ [])) 0 0
 
--- while output 1 is open the filter is p7: a 400 after zeros is 100 over four samples; -900,000 is a sample and -900,001 is F21; 63 mismatches of channel 2 go on and 64 are F14
+-- while output 1 is open the filter is p7: two of 200 after zeros are 100 over four samples; -900,000 is a sample and -900,001 is F21; 63 mismatches of channel 2 go on and 64 are F14
 pub ticks :
-    (lastOf nothing (answers box (replicate 8 (pos 0, 0) ++ (pos 0, 8) ∷ (pos 400, 8) ∷ [])) ≡ outputs 0)
+    (lastOf nothing (answers box (replicate 8 (pos 0, 0) ++ (pos 0, 8) ∷ replicate 2 (pos 200, 8))) ≡ outputs 0)
     × (answers freshOf ((negsuc 899999, 0) ∷ (negsuc 0, 0) ∷ (negsuc 900000, 0) ∷ []) ≡ outputs 0 ∷ outputs 0 ∷ fault F21 [] ∷ [])
     × (lastOf nothing (answers low (replicate 63 (pos 0, 5))) ≡ outputs 0)
     × (lastOf nothing (answers low (replicate 64 (pos 0, 5))) ≡ fault F14 (2 ∷ []))

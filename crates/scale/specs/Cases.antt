@@ -11,7 +11,7 @@ use Rattle.paper.specs.Numbers.{R16}
 use Rattle.settings.specs.declared.Settings.{Settings}
 use Rattle.settings.specs.Cases.{setOf}
 use Rattle.window.specs.declared.Window.{Window}
-use Rattle.window.specs.Mean.{meanOf, roundAway, halfUp, sumOf}
+use Rattle.window.specs.Mean.{meanOf, averagedOf, leftOf, without, alike, largest, smallest, greater, lesser, plainOf, roundAway, halfUp, sumOf}
 use Rattle.window.specs.Window.{samplesOf}
 use Rattle.field.specs.Field.{weight, writable}
 use Rattle.dosing.specs.Rules.{units, gates, shut}
@@ -34,15 +34,15 @@ pub limits :
 unfolding outside
 limits = (refl, refl, refl, refl)
 
--- p7 while output 1 is open, else p8; the mean of so many, or of those held
+-- p7 while output 1 is open, else p8; the mean of so many, or of those held, one 100 and one 0 left out
 pub filters :
     (filterOf (set 1 0) (gates true false false) ≡ 4)
     × (filterOf (set 1 0) (gates false true true) ≡ 8)
     × (filtered twelve 4 ≡ pos 100)
     × (filtered twelve 8 ≡ pos 50)
-    × (filtered twelve 128 ≡ pos 33)
+    × (filtered twelve 128 ≡ pos 30)
     × (filtered empty 4 ≡ pos 0)
-unfolding filterOf filtered samplesOf meanOf roundAway halfUp sumOf setOf pick
+unfolding filterOf filtered samplesOf meanOf averagedOf leftOf without alike largest smallest greater lesser plainOf roundAway halfUp sumOf setOf pick
 filters = (refl, refl, refl, refl, refl, refl)
 
 -- S: 0 on the first tick, one more on the same F up to 4,032, 0 on another F and where output 1, 2 or 3 moves
@@ -79,7 +79,7 @@ pub weights :
     × (weightBy (set 1 0) twelve (units (pos 101)) 64 4 ≡ weight (negsuc 0) true false 0)
     × (weightBy (set 1 0) twelve (units (negsuc 9909)) 0 4 ≡ weight (pos 10010) false true 0)
     × (weightBy (set 1 0) twelve (units (negsuc 9909)) 0 8 ≡ weight (pos 9960) false false 0)
-unfolding weightBy weightFrom none filtered samplesOf meanOf roundAway halfUp sumOf stableOf overCapacity setOf pick
+unfolding weightBy weightFrom none filtered samplesOf meanOf averagedOf leftOf without alike largest smallest greater lesser plainOf roundAway halfUp sumOf stableOf overCapacity setOf pick
 weights = (refl, refl, refl, refl, refl)
 
 -- a weight of six digits and a point of at most 7 can be shown

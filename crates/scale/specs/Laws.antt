@@ -18,7 +18,8 @@ use Rattle.window.specs.declared.Window.{Window}
 use Rattle.window.specs.Mean.{meanOf}
 use Rattle.window.specs.Window.{samplesOf, emptyWindow, pushOf}
 use Rattle.window.specs.Range.{Within}
-use Rattle.window.specs.Laws.{samples-push, samples-empty, within-nil, within-cons, within-take, mean-within}
+use Rattle.window.specs.Laws.{samples-push, samples-empty, within-nil, within-cons, within-take}
+use Rattle.window.specs.MeanLaws.{mean-within}
 use Rattle.field.specs.Field.{writable}
 use Rattle.field.specs.RoundTrip.{small-writable}
 use Rattle.field.specs.declared.Weight.{Weight}

@@ -37,9 +37,9 @@ abbrev begun : ℕ → ℕ → ℕ → ℕ → Event
 begun algorithm level count total =
     restart (setOf (algorithm ∷ 1000 ∷ 100 ∷ 0 ∷ 0 ∷ level ∷ 4 ∷ 4 ∷ 1 ∷ 0 ∷ 0 ∷ 1 ∷ 1 ∷ 1 ∷ 1 ∷ 0 ∷ 0 ∷ [])) count total
 
--- AL1: start, fill to 150, settle, discharge; a restart that hands back the counters as they were; the same with 250
+-- AL1: start, fill to 150, settle, discharge to 38; a restart that hands back the counters as they were; the same with 250, discharged to 0
 abbrev pub twoOfAL1 : List Event
-twoOfAL1 = begun 1 50 0 0 ∷ ticks 1 0 8 ++ ticks 68 150 0 ++ ticks 3 0 0 ++ begun 1 50 1 112 ∷ ticks 1 0 8 ++ ticks 68 250 0 ++ ticks 4 0 0
+twoOfAL1 = begun 1 50 0 0 ∷ ticks 1 0 8 ++ ticks 68 150 0 ++ ticks 3 38 0 ++ begun 1 50 1 112 ∷ ticks 1 0 8 ++ ticks 68 250 0 ++ ticks 3 0 0
 
 -- AL2: load to 500, calm; start, dose to 300, settle; start, dose to 150, settle
 abbrev pub twoOfAL2 : List Event

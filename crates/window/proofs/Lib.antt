@@ -1,3 +1,4 @@
 pub mod Round
 pub mod Shift
 pub mod Sum
+pub mod Told

@@ -28,6 +28,6 @@ round-from (pos m) n t = refl
 round-from (negsuc m) n t = true-false t
 
 -- a rounded magnitude is an i64
-pub half-small : (m n : ℕ) → n ≤ 128 → m ≤ 128 * 2147483648 → halfUp m n < 2 ^ 63
+pub half-small : (m n : ℕ) → n ≤ 128 → m ≤ 130 * 2147483648 → halfUp m n < 2 ^ 63
 unfolding halfUp
 half-small m n h k = omega (arith, div-le-self (2 * m + n) (2 * n))

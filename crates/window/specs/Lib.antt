@@ -2,4 +2,9 @@ pub mod Mean
 pub mod Window
 pub mod Calls
 pub mod Range
+pub mod Order
+pub mod Left
+pub mod MeanLaws
+pub mod Shuffle
+pub mod Pass
 pub mod Laws

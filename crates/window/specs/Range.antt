@@ -1,23 +1,29 @@
 -- Numbers, and lists of numbers, within a range. Assumes nothing.
 use mathlib.Core.Path.{_≡_}
 use mathlib.Core.List.{List, [], _∷_}
-use Prim.Native.Nat.{ℕ, suc, _≤_}
+use Prim.Native.Nat.{ℕ, _≤_}
 use lib.IntN.{ℤ, pos, negsuc, natAbs}
 use Rattle.window.specs.Mean.{sumOf}
 
--- from -low to high
-unfoldable pub Between : ℕ → ℕ → ℤ → Type 0
-Between low high (pos m) = m ≤ high
-Between low high (negsuc m) = suc m ≤ low
+-- a is at most b
+unfoldable pub Le : ℤ → ℤ → Type 0
+Le (pos a) (pos b) = a ≤ b
+Le (pos a) (negsuc b) = ⊥
+Le (negsuc a) (pos b) = Unit
+Le (negsuc a) (negsuc b) = b ≤ a
 
--- each is from -low to high
-unfoldable pub Each : ℕ → ℕ → List ℤ → Type 0
+-- from low to high
+abbrev pub Between : ℤ → ℤ → ℤ → Type 0
+Between low high z = Le low z × Le z high
+
+-- each is from low to high
+unfoldable pub Each : ℤ → ℤ → List ℤ → Type 0
 Each low high [] = Unit
-Each low high (x ∷ xs) = Between low high x × Each low high xs
+Each low high (x ∷ xs) = Le low x × Le x high × Each low high xs
 
 -- each is an i32
 abbrev pub AllI32 : List ℤ → Type 0
-AllI32 xs = Each 2147483648 2147483647 xs
+AllI32 xs = Each (negsuc 2147483647) (pos 2147483647) xs
 
 -- each is at most b in size
 unfoldable pub Within : ℕ → List ℤ → Type 0

@@ -34,6 +34,9 @@ loop-again c = search needs
 ticked-requires-3 : tie.Need-ticked-requires-3 Inv-loop μ-loop
 ticked-requires-3 c κs = search needs
 
+ticked-requires-4 : tie.Need-ticked-requires-4 Inv-loop μ-loop
+ticked-requires-4 c κs = search needs
+
 returns : tie.Need-returns Inv-loop μ-loop
 returns c = search needs
 
@@ -51,4 +54,5 @@ at-settle-spec =
     loop-less
     loop-again
     ticked-requires-3
+    ticked-requires-4
     returns)

@@ -16,10 +16,10 @@ use Rattle.window.proofs.total.Statement.{statement}
 use Rattle.window.proofs.total.Tie as tie
 
 abbrev Inv-loop : tie.InvT-loop
-Inv-loop n w s₀ k₀ s k = (k ≤ n) × Total (take k (w .samples)) (toZ w64 s)
+Inv-loop s n sum₀ k₀ sum k = (k ≤ n) × Total (take k s) (toZ w64 sum)
 
 abbrev μ-loop : tie.MeasureT-loop
-μ-loop n w s₀ k₀ s k = n - k
+μ-loop s n sum₀ k₀ sum k = n - k
 
 loop-holds : tie.Need-loop-holds Inv-loop μ-loop
 loop-holds c = (omega arith, total-none)
@@ -27,13 +27,13 @@ loop-holds c = (omega arith, total-none)
 mul-x : tie.Need-mul-x Inv-loop μ-loop
 mul-x c = omega arith
 
-element-copy-out-x : tie.Need-element-copy-out-x Inv-loop μ-loop
-element-copy-out-x c = omega arith
+shared-slice-copy-out-x : tie.Need-shared-slice-copy-out-x Inv-loop μ-loop
+shared-slice-copy-out-x c = omega arith
 
 -- the sample read, and the sum with it
 module _ (c : tie.After-x Inv-loop μ-loop) where
   abbrev xs : List ℤ
-  xs = c .before .before .before .args .t1 .samples
+  xs = c .before .before .before .args .s .now
 
   abbrev k : ℕ
   k = c .before .before .loop .k
@@ -42,7 +42,7 @@ module _ (c : tie.After-x Inv-loop μ-loop) where
   x = getD xs k (pos 0)
 
   abbrev s : ℤ
-  s = toZ w64 (c .before .before .loop .s)
+  s = toZ w64 (c .before .before .loop .sum)
 
   narrow : SFits w32 x
   narrow = record { sfits = c .x .given }
@@ -56,11 +56,11 @@ module _ (c : tie.After-x Inv-loop μ-loop) where
   fits : SFits w64 (s +ℤ x)
   fits = fits64 (s +ℤ x) (omega (arith, total-size (take (k + 1) xs) (s +ℤ x) more, length-take (k + 1) xs))
 
-cast-s : tie.Need-cast-s Inv-loop μ-loop
-cast-s c = rw (toZ-ofZ (narrow c)) (wide c)
+cast-sum : tie.Need-cast-sum Inv-loop μ-loop
+cast-sum c = rw (toZ-ofZ (narrow c)) (wide c)
 
-add-s : tie.Need-add-s Inv-loop μ-loop
-add-s c = rw (toZ-ofZ (narrow c), toZ-ofZ (wide c)) (fits c)
+add-sum : tie.Need-add-sum Inv-loop μ-loop
+add-sum c = rw (toZ-ofZ (narrow c), toZ-ofZ (wide c)) (fits c)
 
 add-k : tie.Need-add-k Inv-loop μ-loop
 add-k c = omega arith
@@ -84,9 +84,9 @@ total-spec =
     μ-loop
     loop-holds
     mul-x
-    element-copy-out-x
-    cast-s
-    add-s
+    shared-slice-copy-out-x
+    cast-sum
+    add-sum
     add-k
     loop-less
     loop-again
