@@ -1,0 +1,5 @@
+pub mod Week
+pub mod Day
+pub mod Says
+pub mod Counted
+pub mod Contracts
