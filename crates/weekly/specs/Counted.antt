@@ -2,7 +2,7 @@
 use mathlib.Core.Path.{_≡_}
 use mathlib.Core.Bool.{Bool, true, false}
 use mathlib.Core.List.{List, [], _∷_, map}
-use Prim.Native.Nat.{ℕ, _+_, _^_, _<_}
+use Prim.Native.Nat.{ℕ, _+_, _^_, _≤_, _<_}
 use lib.Dec.{T, ltb, eqb}
 use lib.ListN.{replicate}
 use lib.Ieee.{binary64, toUnsigned, inUnsigned}
@@ -41,9 +41,9 @@ sumIn (measured s l m) = toUnsigned 64 s
 sumIn idle = 0
 sumIn missing = 0
 
--- a measured hour's f64 sum is a whole number of at most 2 ^ 53, so nothing is lost
+-- a measured hour's f64 sum is a whole number of at most 29,491,200,000 (16,384 amounts of 1,800,000): far below 2 ^ 53, so nothing is lost
 abbrev pub Whole : HourAnswer → Type 0
-Whole (measured s l m) = T (inUnsigned binary64 64 s)
+Whole (measured s l m) = T (inUnsigned binary64 64 s) × (toUnsigned 64 s ≤ 29491200000)
 Whole idle = Unit {0}
 Whole missing = Unit {0}
 

@@ -1,49 +1,50 @@
+use mathlib.Core.Path.{refl, ap}
+use mathlib.Core.List.{List}
+use Rattle.weekly.specs.Counted.{slot, boxRow}
+use Rattle.weekly.specs.declared.Slot.{Slot}
+use Rattle.weekly.specs.declared.Slots.{Slots}
+use Prim.Native.Nat.{_-_}
+use borrow.Author.Needs.{needs}
+use Rattle.weekly.proofs.Filled.{Mapped, mapped-none, mapped-more, mapped-all}
 use Rattle.weekly.proofs.box_row.Statement.{statement}
 use Rattle.weekly.proofs.box_row.Tie as tie
-use Rattle.weekly.proofs.box_row.Reads as reads
-use Rattle.weekly.proofs.box_row.Lts as lts
 
 abbrev Inv-loop : tie.InvT-loop
-Inv-loop row hours₀ h₀ hours h = ?
+Inv-loop row hours₀ h₀ hours h = Mapped slot row 24 h hours
 
 abbrev μ-loop : tie.MeasureT-loop
-μ-loop row hours₀ h₀ hours h = ?
+μ-loop row hours₀ h₀ hours h = 24 - h
 
--- src/lib.rt:129:5
 loop-holds : tie.Need-loop-holds Inv-loop μ-loop
-loop-holds c = ?
+loop-holds c = mapped-none _ _ 24 _ (search needs) (search needs)
 
--- src/lib.rt:130:20
 mul-hour : tie.Need-mul-hour Inv-loop μ-loop
-mul-hour c = ?
+mul-hour c = search needs
 
--- src/lib.rt:130:20
 array-copy-out-hour : tie.Need-array-copy-out-hour Inv-loop μ-loop
-array-copy-out-hour c = ?
+array-copy-out-hour c = search needs
 
--- src/lib.rt:131:9
 mul-hours : tie.Need-mul-hours Inv-loop μ-loop
-mul-hours c = ?
+mul-hours c = search needs
 
--- src/lib.rt:131:9
 array-set-from-hours : tie.Need-array-set-from-hours Inv-loop μ-loop
-array-set-from-hours c = ?
+array-set-from-hours c = search needs
 
--- src/lib.rt:132:9
 add-h : tie.Need-add-h Inv-loop μ-loop
-add-h c = ?
+add-h c = search needs
 
--- src/lib.rt:129:5
 loop-less : tie.Need-loop-less Inv-loop μ-loop
-loop-less c = ?
+loop-less c = search needs
 
--- src/lib.rt:129:5
 loop-again : tie.Need-loop-again Inv-loop μ-loop
-loop-again c = ?
+loop-again c = mapped-more _ _ 24 _ _ _ _ (c .before .before .loop .inv) (search needs) refl
 
--- src/lib.rt:121:1
+slots : List Slot → Slots
+slots hs = record { hours = hs }
+
 returns : tie.Need-returns Inv-loop μ-loop
-returns c = ?
+unfolding boxRow slots
+returns c = ap slots (mapped-all _ _ 24 _ _ (c .before .loop .inv) (c .loop-test .left))
 
 pub box-row-spec : {M : Type 1} → statement M
 box-row-spec =

@@ -1,37 +1,35 @@
+use mathlib.Core.Path.{sym, _∙_}
+use native.Mathlib.Omega.{arith}
 use borrow.Author.Needs.{needs}
+use borrow.Author.Tests.{lt-ltb, le-ltb}
+use Rattle.laws.specs.Pick.{pick-t, pick-f}
+use Rattle.hourly.specs.Tally.{hourAmong}
 use Rattle.weekly.proofs.hour_at.Statement.{statement}
 use Rattle.weekly.proofs.hour_at.Tie as tie
-use Rattle.weekly.proofs.hour_at.Reads as reads
-use Rattle.weekly.proofs.hour_at.Lts as lts
-use Rattle.hourly.proofs.hour_from.Reads as hour-from-reads
 
--- src/lib.rt:80:9
 returns : tie.Need-returns
-returns c = ?
+unfolding hourAmong
+returns c = sym (pick-t _ _ _ (lt-ltb _ _ (c .if1 .taken)))
 
--- src/lib.rt:83:9
 returns-2 : tie.Need-returns-2
-returns-2 c = ?
+unfolding hourAmong
+returns-2 c = sym (pick-f _ _ _ (le-ltb _ _ (c .before .before .if1 .left)) ∙ pick-t _ _ _ (lt-ltb _ _ (c .if2 .taken)))
 
--- src/lib.rt:85:17
 cast-place : tie.Need-cast-place
 cast-place c = search needs
 
--- src/lib.rt:86:17
 mul-tally : tie.Need-mul-tally
-mul-tally c = search needs
+mul-tally c = omega (arith, c .before .before .before .before .before .pre, c .before .if2 .left, c .before .before .before .if1 .left)
 
--- src/lib.rt:86:17
 array-copy-out-tally : tie.Need-array-copy-out-tally
-array-copy-out-tally c = search needs
+array-copy-out-tally c = omega (arith, c .before .before .before .before .before .pre, c .before .if2 .left, c .before .before .before .if1 .left)
 
--- src/lib.rt:87:5
 hour-from-requires : tie.Need-hour-from-requires
 hour-from-requires c κs = search needs
 
--- src/lib.rt:75:1
 returns-3 : tie.Need-returns-3
-returns-3 c = ?
+unfolding hourAmong
+returns-3 c = c .hour-from .ensures ∙ sym (pick-f _ _ _ (le-ltb _ _ (c .before .before .before .before .before .if1 .left)) ∙ pick-f _ _ _ (le-ltb _ _ (c .before .before .before .if2 .left)))
 
 pub hour-at-spec : {M : Type 1} → statement M
 hour-at-spec =

@@ -1,54 +1,48 @@
+use Prim.Native.Nat.{ℕ, _+_, _-_}
+use borrow.Author.Needs.{needs}
+use Rattle.hourly.specs.Says.{saysHour}
+use Rattle.hourly.specs.Tally.{hourAmong}
+use Rattle.weekly.specs.Week.{dayBy}
+use Rattle.weekly.proofs.Filled.{Filled, filled-none, filled-more, filled-all}
 use Rattle.weekly.proofs.row_at.Statement.{statement}
 use Rattle.weekly.proofs.row_at.Tie as tie
-use Rattle.weekly.proofs.row_at.Reads as reads
-use Rattle.weekly.proofs.row_at.Lts as lts
-use Rattle.weekly.proofs.hour_at.Reads as hour-at-reads
 
 abbrev Inv-loop : tie.InvT-loop
-Inv-loop table found from row₀ h₀ row h = ?
+Inv-loop table found from row₀ h₀ row h = Filled saysHour (λ (k : ℕ). hourAmong table found (from + k)) 24 h row
 
 abbrev μ-loop : tie.MeasureT-loop
-μ-loop table found from row₀ h₀ row h = ?
+μ-loop table found from row₀ h₀ row h = 24 - h
 
--- src/lib.rt:98:5
 loop-holds : tie.Need-loop-holds Inv-loop μ-loop
-loop-holds c = ?
+loop-holds c = filled-none _ _ 24 _ (search needs)
 
--- src/lib.rt:99:47
 cast-hour-at : tie.Need-cast-hour-at Inv-loop μ-loop
-cast-hour-at c = ?
+cast-hour-at c = search needs
 
--- src/lib.rt:99:40
 add-hour-at : tie.Need-add-hour-at Inv-loop μ-loop
-add-hour-at c = ?
+add-hour-at c = search needs
 
--- src/lib.rt:99:18
 hour-at-requires : tie.Need-hour-at-requires Inv-loop μ-loop
-hour-at-requires c κs = ?
+hour-at-requires c κs = search needs
 
--- src/lib.rt:99:9
 mul-row : tie.Need-mul-row Inv-loop μ-loop
-mul-row c = ?
+mul-row c = search needs
 
--- src/lib.rt:99:9
 array-set-from-row : tie.Need-array-set-from-row Inv-loop μ-loop
-array-set-from-row c = ?
+array-set-from-row c = search needs
 
--- src/lib.rt:100:9
 add-h : tie.Need-add-h Inv-loop μ-loop
-add-h c = ?
+add-h c = search needs
 
--- src/lib.rt:98:5
 loop-less : tie.Need-loop-less Inv-loop μ-loop
-loop-less c = ?
+loop-less c = search needs
 
--- src/lib.rt:98:5
 loop-again : tie.Need-loop-again Inv-loop μ-loop
-loop-again c = ?
+loop-again c = filled-more _ _ 24 _ _ _ (c .before .before .loop .inv) (search needs) (c .hour-at .ensures)
 
--- src/lib.rt:91:1
 returns : tie.Need-returns Inv-loop μ-loop
-returns c = ?
+unfolding dayBy
+returns c = filled-all _ _ 24 _ _ (c .before .loop .inv) (c .loop-test .left)
 
 pub row-at-spec : {M : Type 1} → statement M
 row-at-spec =
