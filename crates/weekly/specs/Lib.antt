@@ -5,3 +5,5 @@ pub mod Counted
 pub mod Contracts
 pub mod Lists
 pub mod Sums
+pub mod Kinds
+pub mod Examples

@@ -1,0 +1,4 @@
+pub mod Lines
+pub mod Says
+pub mod Contracts
+pub mod Lengths
