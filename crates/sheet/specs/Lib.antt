@@ -2,3 +2,4 @@ pub mod Lines
 pub mod Says
 pub mod Contracts
 pub mod Lengths
+pub mod Counted

@@ -15,6 +15,7 @@ ghost use Rattle.report.specs.Report.{refusalText, refusalOf};
 ghost use Rattle.weekly.specs.Week.{firstOf};
 ghost use Rattle.sheet.specs.Lines.{letterOf, dayText, daysText};
 ghost use Rattle.sheet.specs.Says.{saysPrinted, givenFirst};
+ghost use Rattle.sheet.specs.Counted.{CountsDay};
 ghost use Rattle.sheet.specs.Contracts.{PrintsSheet, ReadsFirst, Holds, Reports};
 
 // What printing a week answers: the length of its text, the journal's refusal, a first hour above the greatest, or that the buffer is too short.
@@ -60,7 +61,7 @@ fn letter_of(kind: Kind) -> u8
 
 // How many bytes a day's line has.
 fn day_len(d: u64, day: Day) -> usize
-    ensures { λ r. ⌜ r ≡ length (dayText d day) ⌝ }
+    ensures { λ r. ⌜ CountsDay d day r ⌝ }
 {
     text::decimal_len(d) + text::decimal_len(day.covered as u64) + text::decimal_len(day.sum) + 5
 }
