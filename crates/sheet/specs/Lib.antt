@@ -3,3 +3,5 @@ pub mod Says
 pub mod Contracts
 pub mod Lengths
 pub mod Counted
+pub mod Apart
+pub mod Agrees

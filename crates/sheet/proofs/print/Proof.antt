@@ -1,46 +1,35 @@
 use borrow.Author.Needs.{needs}
+use denote.Ref.{now}
+use Rattle.sheet.proofs.Printing.{made-fills, refused-fills, late-fills}
 use Rattle.sheet.proofs.print.Statement.{statement}
 use Rattle.sheet.proofs.print.Tie as tie
-use Rattle.sheet.proofs.print.Reads as reads
-use Rattle.sheet.proofs.print.Lts as lts
-use Rattle.sheet.proofs.print_days.Reads as print-days-reads
-use Rattle.weekly.proofs.days_of.Reads as days-of-reads
 
--- src/lib.rt:130:9
 days-of-requires : tie.Need-days-of-requires
 days-of-requires c κs = search needs
 
--- src/lib.rt:134:40
 enum-told : tie.Need-enum-told
 enum-told c = search needs
 
--- src/lib.rt:134:23
 print-days-requires : tie.Need-print-days-requires
 print-days-requires c κs = search needs
 
--- src/lib.rt:135:23
 enum-known-said : tie.Need-enum-known-said
 enum-known-said c = search needs
 
--- src/lib.rt:136:22
 enum-told-2 : tie.Need-enum-told-2
 enum-told-2 c = search needs
 
--- src/lib.rt:127:1
 same-length : tie.Need-same-length
 same-length c = search needs
 
--- src/lib.rt:127:1
 returns : tie.Need-returns
-returns c = ?
+returns c = let a = c .before .before .before .before .before .before .before .before .before .before .args in made-fills (now (a .bytes)) (a .first) _ (c .before .before .before .before .before .before .before .days-of .ensures) (c .before .before .before .before .enum-told .given .1) (c .before .before .print-days .ensures)
 
--- src/lib.rt:127:1
 returns-2 : tie.Need-returns-2
-returns-2 c = ?
+returns-2 c = let a = c .before .before .before .before .before .before .before .args in refused-fills (now (a .bytes)) (a .first) _ (c .before .before .before .before .days-of .ensures) (now (a .out)) _ (c .before .said .given .1)
 
--- src/lib.rt:127:1
 returns-3 : tie.Need-returns-3
-returns-3 c = ?
+returns-3 c = let a = c .before .before .before .before .before .before .args in late-fills (now (a .bytes)) (a .first) _ (c .before .before .before .days-of .ensures) (now (a .out)) (c .enum-told2 .given .1)
 
 pub print-spec : {M : Type 1} → statement M
 print-spec =

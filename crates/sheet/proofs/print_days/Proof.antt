@@ -1,30 +1,28 @@
+use native.Mathlib.Omega.{arith}
 use borrow.Author.Needs.{needs}
+use denote.Ref.{now}
+use Rattle.paper.specs.AnswerLaws.{fills-none, fills-text}
+use Rattle.sheet.specs.Lines.{daysText}
 use Rattle.sheet.proofs.print_days.Statement.{statement}
 use Rattle.sheet.proofs.print_days.Tie as tie
-use Rattle.sheet.proofs.print_days.Reads as reads
-use Rattle.sheet.proofs.print_days.Lts as lts
-use Rattle.sheet.proofs.put_days.Reads as put-days-reads
-use Rattle.sheet.proofs.text_len.Reads as text-len-reads
 
--- src/lib.rt:118:9
 text-len-requires : tie.Need-text-len-requires
 text-len-requires c κs = search needs
 
--- src/lib.rt:120:9
 returns : tie.Need-returns
-returns c = ?
+returns c = let a = c .before .before .before .args in fills-none (now (a .out)) (daysText 0 (a .days)) (omega (arith, c .before .text-len .ensures, c .if1 .taken))
 
--- src/lib.rt:122:5
 put-days-requires : tie.Need-put-days-requires
-put-days-requires c κs = search needs
+put-days-requires c κs = omega (arith, c .before .before .text-len .ensures, c .before .if1 .left)
 
--- src/lib.rt:115:1
 same-length : tie.Need-same-length
 same-length c = search needs
 
--- src/lib.rt:115:1
 returns-2 : tie.Need-returns-2
-returns-2 c = ?
+returns-2 c =
+    let a = c .before .before .before .before .before .before .before .args in
+    let n = c .before .before .before .before .before .text-len in
+    fills-text (now (a .out)) (c .before .before .put-days .last .0) (daysText 0 (a .days)) (n .result) (omega (arith, n .ensures, c .before .before .before .before .if1 .left)) (n .ensures) (c .before .before .put-days .ensures)
 
 pub print-days-spec : {M : Type 1} → statement M
 print-days-spec =
