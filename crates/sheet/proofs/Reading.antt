@@ -1,10 +1,10 @@
 -- From the number at a line's start to the first hour. Assumes nothing.
 use mathlib.Core.Path.{_≡_, sym, ap, _∙_}
 use mathlib.Core.List.{List}
-use Prim.Native.Nat.{ℕ, suc, _≤_, _<_}
-use lib.ListN.{length, getD, drop, drop-of-length-le}
+use Prim.Native.Nat.{ℕ, _≤_, _<_}
+use lib.ListN.{length, drop-of-length-le}
 use lib.Seq.{drop-cons}
-use Rattle.laws.specs.Decimal.{good, numberAt}
+use Rattle.laws.specs.Decimal.{good}
 use Rattle.text.specs.Scan.{leads, ReadsNumber}
 use Rattle.text.specs.declared.Num.{Num}
 use Rattle.text.specs.declared.Num.the-variants.{Good, Bad}

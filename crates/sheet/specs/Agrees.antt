@@ -1,15 +1,13 @@
 -- The week agrees with the hour program, hour by hour and day by day. Assumes nothing.
-use mathlib.Core.Path.{_≡_, refl, sym, ap, ap₂, _∙_}
-use mathlib.Core.Bool.{Bool, true, false}
+use mathlib.Core.Path.{_≡_, sym, ap, _∙_}
 use mathlib.Core.List.{List, [], _∷_, map, List·Memᴰ, List·Memᴰ·not-nil, List·Memᴰ·cases-cons}
 use mathlib.Core.Logic.{_⊎_, inl, inr}
-use Prim.Native.Nat.{ℕ, zero, suc, _+_, _*_, _-_, _≤_, _<_}
-use native.Mathlib.Omega.{arith}
+use Prim.Native.Nat.{ℕ, _+_, _*_, _<_}
 use lib.ListN.{getD}
 use Rattle.journal.specs.Journal.{firstHour, lastHour}
 use Rattle.journal.specs.declared.Line.{Line}
 use Rattle.hourly.specs.Hours.{HourAnswer, missing, amountsAt, hourOf}
-use Rattle.hourly.specs.Text.{Row, HourRow, rowFrom, rowOf, hoursFrom, spanOf, rowsOf}
+use Rattle.hourly.specs.Text.{HourRow, rowFrom, rowOf, spanOf, rowsOf}
 use Rattle.hourly.specs.Accepted.{Accepted}
 use Rattle.hourly.specs.Bounds.{outside-missing, empty-missing}
 use Rattle.weekly.specs.Week.{dayBy, weekBy, weekOf}

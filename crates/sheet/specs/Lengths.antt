@@ -1,7 +1,7 @@
 -- How many bytes the sheet has: 140 hold every report, and 65,537 bytes of a journal tell it. Assumes nothing.
-use mathlib.Core.Path.{_≡_, refl, sym, ap, _∙_}
+use mathlib.Core.Path.{_≡_, sym, ap, _∙_}
 use mathlib.Core.List.{List, [], _∷_, _++_}
-use Prim.Native.Nat.{ℕ, zero, suc, _+_, _*_, _≤_, _<_}
+use Prim.Native.Nat.{ℕ, suc, _+_, _*_, _≤_}
 use native.Mathlib.Omega.{arith}
 use native.Mathlib.Decide.{decLt}
 use lib.ListN.{length, take, length-append}
@@ -15,7 +15,7 @@ use Rattle.journal.specs.Journal.{journalOf}
 use Rattle.journal.specs.JournalLaws.{journal-long}
 use Rattle.journal.specs.declared.Line.{Line}
 use Rattle.hourly.specs.Accepted.{Accepted, accepted}
-use Rattle.weekly.specs.Week.{listOf, afterJournal}
+use Rattle.weekly.specs.Week.{afterJournal}
 use Rattle.weekly.specs.Day.{dayOf, daysOf}
 use Rattle.weekly.specs.Counted.{Each}
 use Rattle.weekly.specs.Lists.{each-list, list-length}

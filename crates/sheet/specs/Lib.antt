@@ -5,3 +5,4 @@ pub mod Lengths
 pub mod Counted
 pub mod Apart
 pub mod Agrees
+pub mod Program

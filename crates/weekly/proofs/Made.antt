@@ -1,6 +1,6 @@
 -- From the hours by a table to the week and the days of a journal. Assumes nothing.
 use mathlib.Core.Path.{_≡_, refl, sym, ap, _∙_, subst}
-use mathlib.Core.Bool.{Bool, true, false, true≢false}
+use mathlib.Core.Bool.{true≢false}
 use mathlib.Core.List.{List, [], _∷_, map}
 use Prim.Native.Nat.{ℕ, _≤_, _<_}
 use lib.Dec.{leb}
@@ -23,8 +23,8 @@ use Rattle.hourly.specs.declared.Summary.{Summary}
 use Rattle.hourly.specs.declared.Tally.{Tally}
 use Rattle.weekly.specs.Week.{weekBy, weekOf, firstOf, afterJournal}
 use Rattle.weekly.specs.Day.{daysOf}
-use Rattle.weekly.specs.Says.{saysWeekly, saysHours, rowIn, hoursIn, hourIn}
-use Rattle.weekly.specs.Counted.{Whole, Summed, dayFrom, slot, boxRow, weeklyOf, noHours, noDays, isMade, Week-is, Days-are, WeekBy, DaysBy}
+use Rattle.weekly.specs.Says.{saysWeekly, saysHours, rowIn, hoursIn}
+use Rattle.weekly.specs.Counted.{Whole, Summed, dayFrom, boxRow, weeklyOf, noHours, noDays, isMade, Week-is, Days-are, WeekBy, DaysBy}
 use Rattle.weekly.specs.Contracts.{MakesWeek, MakesDays}
 use Rattle.weekly.specs.Lists.{week-same}
 use Rattle.weekly.specs.Sums.{hour-whole, days-same}

@@ -1,6 +1,6 @@
 -- What each call of this crate promises, and that two results which both keep the promise are equal. Assumes nothing.
-use mathlib.Core.Path.{_≡_, refl, sym, ap, ap₂, _∙_}
-use mathlib.Core.Bool.{Bool, true, false}
+use mathlib.Core.Path.{_≡_, refl, sym, ap, _∙_}
+use mathlib.Core.Bool.{false}
 use mathlib.Core.List.{List, [], _∷_, map}
 use Prim.Native.Nat.{ℕ}
 use native.Mathlib.Omega.{arith}
@@ -11,7 +11,7 @@ use Rattle.hourly.specs.declared.Hour.{Hour}
 use Rattle.weekly.specs.Week.{weekOf, firstOf, afterJournal}
 use Rattle.weekly.specs.Day.{daysOf}
 use Rattle.weekly.specs.Says.{saysSaid, saysHours, hoursIn, rowIn, hourIn, said-one}
-use Rattle.weekly.specs.Counted.{isMade, weeklyOf, noHours, noDays, Week-is, Days-are}
+use Rattle.weekly.specs.Counted.{isMade, weeklyOf, noHours, Week-is, Days-are}
 use Rattle.weekly.specs.declared.Said.{Said}
 use Rattle.weekly.specs.declared.Said.the-variants as S
 use Rattle.weekly.specs.declared.Slot.{Slot}

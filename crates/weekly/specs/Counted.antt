@@ -15,8 +15,8 @@ use Rattle.hourly.specs.declared.Hour.the-variants as H
 use Rattle.hourly.specs.declared.Summary.{Summary}
 use Rattle.hourly.specs.declared.Tally.{Tally}
 use Rattle.weekly.specs.Week.{weekBy, firstOf}
-use Rattle.weekly.specs.Day.{isMeasured, isIdle, kindOf, coveredOf}
-use Rattle.weekly.specs.Says.{hoursIn, saysWeekly, saysDays}
+use Rattle.weekly.specs.Day.{kindOf, coveredOf}
+use Rattle.weekly.specs.Says.{saysWeekly, saysDays}
 use Rattle.weekly.specs.declared.Said.{Said}
 use Rattle.weekly.specs.declared.Said.the-variants as S
 use Rattle.weekly.specs.declared.Slot.{Slot}

@@ -1,7 +1,6 @@
 -- What the answers of the week's calls say, in the paper's words, and that two which say the same are equal. Assumes nothing.
 use mathlib.Core.Path.{_≡_, refl, sym, ap}
 use mathlib.Core.List.{List, [], map}
-use Prim.Native.Nat.{ℕ}
 use native.Mathlib.Omega.{arith}
 use Rattle.paper.specs.Answer.{Answer, done, refused}
 use Rattle.paper.specs.AnswerLaws.{refused-done}

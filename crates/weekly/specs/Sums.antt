@@ -8,7 +8,7 @@ use lib.ListN.{length}
 use Rattle.laws.specs.Pick.{pick, pick-all}
 use Rattle.journal.specs.declared.Line.{Line}
 use Rattle.hourly.specs.Holes.{inHole}
-use Rattle.hourly.specs.Hours.{HourAnswer, measured, idle, missing, amountsAt, hasOn, total, sumOf, measuredOrIdle, hourOf}
+use Rattle.hourly.specs.Hours.{HourAnswer, missing, amountsAt, hasOn, total, sumOf, measuredOrIdle, hourOf}
 use Rattle.hourly.specs.Floats.{whole-back}
 use Rattle.hourly.specs.Accepted.{Accepted}
 use Rattle.hourly.specs.Bounds.{modest}

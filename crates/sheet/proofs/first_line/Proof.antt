@@ -1,4 +1,3 @@
-use Prim.Native.Nat.{ℕ}
 use borrow.Author.Needs.{needs}
 use denote.Ref.{now}
 use Rattle.sheet.proofs.Reading.{none, more, alone}

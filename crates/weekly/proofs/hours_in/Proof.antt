@@ -1,7 +1,6 @@
-use mathlib.Core.Path.{_≡_}
 use Prim.Native.Nat.{_-_}
 use borrow.Author.Needs.{needs}
-use lib.ListN.{length, length-map}
+use lib.ListN.{length-map}
 use Rattle.weekly.specs.Says.{rowIn, hoursIn}
 use Rattle.weekly.proofs.Filled.{Mapped, mapped-none, mapped-more, mapped-all}
 use Rattle.weekly.proofs.hours_in.Statement.{statement}
