@@ -36,7 +36,10 @@ quiet-exactly false true [] = (λ e. record { whole = refl; full = refl; none = 
 quiet-exactly false true (d ∷ ds) = (λ e. absurd (true≢false (sym e)), λ q. some q)
   where
     some : Quiet false true (d ∷ ds) → false ≡ true
-    some q = let z : _≡_ {A = ℕ} 0 1 = cc in absurd (omega arith)
+    some q =
+        let e : d ∷ ds ≡ [] = q .none in
+        let z : _≡_ {A = ℕ} 0 1 = cc in
+        absurd (omega arith)
 
 module _ (input : List ℕ) (s : Script input) (ls : List Line) (accepted : journalOf (recordOf input) ≡ done ls) where
   -- the hour number n of the recording
@@ -54,8 +57,7 @@ module _ (input : List ℕ) (s : Script input) (ls : List Line) (accepted : jour
   unfolding dayOf dayBy isHoliday
   holiday n =
       let day = holiday-exactly (dayBy (hourOf ls) (s .first + n)) in
-      let hours = all-exactly isIdle (λ (k : ℕ). hourOf ls (s .first + n + k)) 24 in
-      (
+      let hours = all-exactly isIdle (λ (k : ℕ). hourOf ls (s .first + n + k)) 24 in (
         λ e k h. hour-quiet (n + k) .0 (ap (λ (i : ℕ). isIdle (hourOf ls i)) (place n k) ∙ hours .0 (day .0 e) k h),
         λ e. day .1 (hours .1 (λ k h. ap (λ (i : ℕ). isIdle (hourOf ls i)) (sym (place n k)) ∙ hour-quiet (n + k) .1 (e k h))),
       )

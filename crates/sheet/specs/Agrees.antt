@@ -1,16 +1,27 @@
--- The week agrees with the hour program, hour by hour and day by day. Assumes nothing.
+-- The week agrees with the hour program, hour by hour. Assumes nothing.
 use mathlib.Core.Path.{_≡_, sym, ap, _∙_}
+use mathlib.Core.Bool.{Bool, true, false}
 use mathlib.Core.List.{List, [], _∷_, map, List·Memᴰ, List·Memᴰ·not-nil, List·Memᴰ·cases-cons}
 use mathlib.Core.Logic.{_⊎_, inl, inr}
 use Prim.Native.Nat.{ℕ, _+_, _*_, _<_}
+use lib.Dec.{leb}
 use lib.ListN.{getD}
-use Rattle.journal.specs.Journal.{firstHour, lastHour}
+use Rattle.laws.specs.Pick.{pick}
+use Rattle.paper.specs.Answer.{Answer, done, refused, told, onDone}
+use Rattle.paper.specs.AnswerLaws.{refused-done}
+use Rattle.paper.specs.Numbers.{R21}
+use Rattle.journal.specs.Journal.{journalOf, firstHour, lastHour}
 use Rattle.journal.specs.declared.Line.{Line}
 use Rattle.hourly.specs.Hours.{HourAnswer, missing, amountsAt, hourOf}
 use Rattle.hourly.specs.Text.{HourRow, rowFrom, rowOf, spanOf, rowsOf}
 use Rattle.hourly.specs.Accepted.{Accepted}
 use Rattle.hourly.specs.Bounds.{outside-missing, empty-missing}
-use Rattle.weekly.specs.Week.{dayBy, weekBy, weekOf}
+use Rattle.weekly.specs.Week.{dayBy, weekBy, weekOf, firstOf, afterJournal}
+use Rattle.weekly.specs.Says.{saysSaid, saysHours, hoursIn}
+use Rattle.weekly.specs.Contracts.{MakesWeek}
+use Rattle.weekly.specs.declared.Said.{Said}
+use Rattle.weekly.specs.declared.Said.the-variants as S
+use Rattle.weekly.specs.declared.Weekly.{Weekly}
 use Rattle.weekly.specs.Lists.{list-at}
 
 -- hour k of day d of a week
@@ -47,3 +58,23 @@ outside ls first d k a h b o = week-hour ls first d k h b ∙ outside-missing ls
 
 pub empty : (first d k : ℕ) → d < 7 → k < 24 → hourAt (weekOf [] first) d k ≡ missing
 empty first d k h b = week-hour [] first d k h b ∙ empty-missing (first + 24 * d + k)
+
+-- ---- joined: an answer of `week_of` and the rows of the hour program
+
+-- the hours of a week that was made are those of the journal's lines
+pub made-hours : (s : List ℕ) (first : ℕ) (r : Weekly) (ls : List Line) → MakesWeek s first r → journalOf s ≡ done ls → r .said ≡ S.Made → saysHours (hoursIn r) ≡ weekOf ls first
+unfolding afterJournal onDone told firstOf pick
+made-hours s first r ls m j e =
+    go (leb first 9999832)
+    (sym (ap (λ (x : Said). saysSaid x (saysHours (hoursIn r))) e) ∙ m .says ∙ ap (λ (a : Answer (List Line)). onDone a (λ l. told (weekOf l) (firstOf first))) j)
+  where
+    go : (b : Bool) → done (saysHours (hoursIn r)) ≡ told (weekOf ls) (pick b (done first) (refused R21 [])) → saysHours (hoursIn r) ≡ weekOf ls first
+    go true q = cc
+    go false q = refused-done (sym q)
+
+-- so the hours that the one call hands over and the rows that the other prints agree
+pub calls-agree : (s : List ℕ) (first : ℕ) (r : Weekly) (ls : List Line) (d k : ℕ) (p : HourRow) → MakesWeek s first r → journalOf s ≡ done ls → r .said ≡ S.Made → d < 7 → k < 24 → List·Memᴰ p (rowsOf ls) → p .hour ≡ first + 24 * d + k
+    → p .row ≡ rowFrom (hourAt (saysHours (hoursIn r)) d k) (amountsAt (p .hour) ls)
+calls-agree s first r ls d k p m j e h b i q =
+    agrees ls first d k p h b i q
+    ∙ ap (λ (w : List (List HourAnswer)). rowFrom (hourAt w d k) (amountsAt (p .hour) ls)) (sym (made-hours s first r ls m j e))

@@ -4,7 +4,7 @@ use libc::STDOUT_FILENO;
 use lines::Intake;
 use lines::Next;
 use sheet::First;
-ghost use Prim.Native.Nat.{_+_, _≤_};
+ghost use Prim.Native.Nat.{_≤_};
 ghost use lib.ListN.{length};
 
 // What is known of the first line: its first hour, with the bytes behind it; that more has to be read; or that there is none.
