@@ -1,4 +1,4 @@
-"""Makes input for `replay`, `record`, `slave` and `hours` from a seed.
+"""Makes input for `replay`, `record`, `slave`, `hours` and `week` from a seed.
 
 python3 -m second.generate replay SEED [LINES]
 python3 -m second.generate record SEED [HOURS]      a weigher at work
@@ -7,6 +7,7 @@ python3 -m second.generate ends SEED [HOURS]        hours with something at thei
 python3 -m second.generate lost SEED                hours around lines that are no call
 python3 -m second.generate slave SEED [FRAMES]       reads of `slave`, a line of hex each
 python3 -m second.generate journal SEED [KIND]
+python3 -m second.generate week SEED KIND           a first hour and such a journal
 python3 -m second.generate kinds
 """
 
@@ -184,6 +185,8 @@ def main(words):
     elif words[:1] == ['journal']:
         rng = random.Random(int(words[1]))
         write(journals.make(rng, *words[2:3]))
+    elif words[:1] == ['week']:
+        write(journals.week(random.Random(int(words[1])), words[2]))
     else:
         sys.exit(__doc__)
 

@@ -131,6 +131,22 @@ def one_hole(rng):
     return d(first, 7, 5) + inner + d(first + 743, 9, 5) + h(first + 743)
 
 
+def days(rng):
+    """Days of work, rest and darkness; some hours of them are torn."""
+    lines, hour, count = [], rng.choice([0, 9999832 - 24, rng.randint(0, 9999700)]), 1
+    for _ in range(rng.randint(1, 10)):
+        kind = rng.choice(['work', 'work', 'work', 'rest', 'rest', 'dark'])
+        torn = rng.choice([0, 0, 0, 0.05, 0.5])
+        for _ in range(24):
+            for _ in range(rng.randint(0, 3) if kind == 'work' and hour % 24 > 5 else 0):
+                lines.append(d(hour, count, rng.randint(0, 9999), rng.randint(0, 1)))
+                count += 2 if rng.randrange(200) == 0 else 1
+            if kind != 'dark' and rng.random() >= torn:
+                lines.append(h(hour))
+            hour += 1
+    return b''.join(line for line in lines if int(line.split()[1]) <= 9999999)
+
+
 def over(rng):
     """R13."""
     return exact(rng, journal.LONGEST + 1)
@@ -138,7 +154,8 @@ def over(rng):
 
 GOOD = {'small': small, 'empty': empty, 'one': one, 'large': large,
         'month': month, 'dense': dense, 'exact': exact, 'holed': holed,
-        'lost': lost, 'holes-everywhere': holes_everywhere, 'one-hole': one_hole}
+        'lost': lost, 'holes-everywhere': holes_everywhere, 'one-hole': one_hole,
+        'days': days}
 
 # What is wrong with a line; %d is an hour that fits its place.
 BAD_LINES = {
@@ -236,7 +253,29 @@ KINDS = dict(GOOD, **BAD)
 # Those that fit a line of `replay`.
 SHORT = [kind for kind in KINDS
          if kind not in ('large', 'month', 'dense', 'exact', 'over',
-                         'holes-everywhere', 'one-hole')]
+                         'holes-everywhere', 'one-hole', 'days')]
+
+
+# The first line of a week sheet before a journal.
+
+BAD_FIRST = [b'', b'07', b'00', b'-7', b'-0', b'+7', b' 7', b'7 ', b'\t7', b'7\t', b'7\r',
+             b'7\0', b'x', b'7.0', b'A', b'H\t7', b'9999833', b'9999999', b'10000000',
+             b'4294967303', b'18446744073709551623', b'0' * 4097, b'9' * 70000]
+
+
+def week(rng, kind):
+    """Most begin in the journal, or a week before or after some of it."""
+    data = make(rng, kind)
+    spoken = [int(cells[1]) for cells in (line.split(b'\t') for line in data.split(b'\n'))
+              if len(cells) > 1 and cells[1].isdigit() and len(cells[1]) < 8]
+    hour = rng.choice(spoken or [5]) + rng.choice([0, 0, -1, -24, -100, -167, -168, 1, 30, 168])
+    first = b'%d' % min(max(hour, 0), 9999832)
+    pick = rng.randrange(10)
+    if pick == 0:
+        first = rng.choice(BAD_FIRST)
+    elif pick == 1:
+        first = rng.choice([b'0', b'9999832', b'%d' % rng.randint(0, 9999832)])
+    return first + b'\n' + data
 
 
 def make(rng, kind=None):

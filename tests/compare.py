@@ -3,9 +3,10 @@ compares what they print, byte by byte:
 
 python3 tests/compare.py                            some of each
 python3 tests/compare.py replay [SEEDS [LINES]]     scripts of so many lines
-python3 tests/compare.py journals [SEEDS]           33 journals a seed
+python3 tests/compare.py journals [SEEDS]           34 journals a seed
 python3 tests/compare.py record [SEEDS [HOURS]]     hours of ticks, and their hours
 python3 tests/compare.py slave [SEEDS [FRAMES]]     MODBUS frames, each a read
+python3 tests/compare.py week [SEEDS]               a first hour and 34 journals a seed
 
 Each runs the stored cases first, then input from the seeds 1 to SEEDS. The
 journals are of every kind that the generator knows: small and empty ones, the
@@ -14,7 +15,8 @@ holes in the counts, one byte too many, and every kind of malformed line. For `r
 weigher at work, hours with something at their ends, eight hours around lines
 that are no call, a script of every call after a first hour, and first lines
 that are no hour. What `record` prints goes through `hours` too. `slave` is given
-what each read brings as a packet of its own.
+what each read brings as a packet of its own. `week` is given every kind of
+journal behind first hours in and beside it, and behind lines that are none.
 
 At the first difference it prints the output line of both and the input line
 that it answers, and ends with status 1. It does so too where a task fails, and
@@ -38,15 +40,17 @@ import traceback
 ROOT = os.path.dirname(os.path.dirname(os.path.abspath(__file__)))
 sys.path.insert(0, ROOT)
 
-from second import calls, generate, hours, journals, record, replay, slave  # noqa: E402
+from second import (calls, generate, hours, journals, record, replay,  # noqa: E402
+                    slave, week)
 
 AT_A_TIME = 2
-SOME = {'replay': (4, 20000), 'journals': (10,), 'record': (1, 2), 'slave': (20, 200)}
+SOME = {'replay': (4, 20000), 'journals': (10,), 'record': (1, 2), 'slave': (20, 200),
+        'week': (10,)}
 NEEDED = {'replay': ['replay'], 'journals': ['hours'], 'record': ['record', 'hours'],
-          'slave': ['slave']}
+          'slave': ['slave'], 'week': ['week']}
 SUMMARY = {'replay': '%d scripts, %d answers', 'hours': '%d journals, %d lines of hours',
            'record': '%d scripts, %d lines of journal',
-           'slave': '%d scripts, %d rows of replies'}
+           'slave': '%d scripts, %d rows of replies', 'week': '%d sheets, %d lines'}
 
 
 # The programs.
@@ -109,6 +113,7 @@ SECOND = {
     'record': lambda data: b''.join(record.written(io.BytesIO(data))),
     'hours': hours.printed,
     'slave': lambda data: rows(slave.in_packets(data)),
+    'week': lambda data: week.printed(io.BytesIO(data)),
 }
 
 
@@ -160,7 +165,7 @@ def difference(name, case, data, ours, theirs):
 STORED = {'replay': ['tests/cases/*.replay', 'crates/replay/stdin'],
           'journals': ['tests/cases/*.journal'],
           'record': ['tests/cases/*.record', 'crates/record/stdin', 'samples/*.record'],
-          'slave': ['tests/cases/*.slave']}
+          'slave': ['tests/cases/*.slave'], 'week': ['tests/cases/*.week']}
 BAD_FIRST_LINES = 10        # a seed
 
 
@@ -192,6 +197,12 @@ def seeded_journals(seed):
     for kind in journals.KINDS:
         case = 'second.generate journal %d %s' % (seed, kind)
         yield 'hours', case, journals.make(random.Random(seed), kind)
+
+
+def seeded_weeks(seed):
+    for kind in journals.KINDS:
+        case = 'second.generate week %d %s' % (seed, kind)
+        yield 'week', case, journals.week(random.Random(seed), kind)
 
 
 def seeded_calls(seed):
@@ -249,6 +260,8 @@ def tasks(kind, seeds, *size):
             yield Task(name, seeded, (name, kind, seed, *size), 1)
         elif kind == 'journals':
             yield Task(name, seeded_journals, (seed,), len(journals.KINDS))
+        elif kind == 'week':
+            yield Task(name, seeded_weeks, (seed,), len(journals.KINDS))
         else:
             yield Task(name, seeded_calls, (seed,), 1 + BAD_FIRST_LINES)
             yield Task(name, seeded, (name, 'record', seed, *size), 1)

@@ -1536,6 +1536,97 @@ def holes():
     }.items()}
 
 
+def of_days(first, *kinds):
+    """A journal of whole days. W works from 6 to 20; I rests; X is dark; a letter
+    behind it: h half seen, t torn at night, n no dose of its hours is kept."""
+    made, count = b'', 1
+    for number, kind in enumerate(kinds):
+        for hour in range(24):
+            at = first + 24 * number + hour
+            if kind[0] == 'X' or kind[1:] == 'h' and hour >= 12:
+                continue
+            if kind[0] == 'W' and 6 <= hour < 20:
+                for n in range(hour % 3):
+                    made += journals.d(at, count, 1000 * number + 10 * hour + n)
+                    count += 1
+            if not (kind[1:] == 't' and hour in (2, 3)) and kind[1:] != 'n':
+                made += journals.h(at)
+    return made
+
+
+def weeks():
+    """First hours and journals, by what they show."""
+    d, h, first = journals.d, journals.h, 483288
+    real = of_days(first, 'W', 'Wh', 'W', 'Wt', 'W', 'I', 'I')
+    mill = read('mill.journal')
+    made = {'real': (first, real)}
+    for by in (-168, -167, -144, -25, -1, 1, 23, 24, 100, 143, 144, 167, 168, 1000):
+        made['real-%s-%d' % ('from' if by > 0 else 'before', abs(by))] = first + by, real
+    made.update({
+        'holidays': (first, of_days(first, 'I', 'It', 'Ih', 'I', 'X', 'In', 'I')),
+        'half-seen-rest': (first, of_days(first, 'Ih', 'It', 'X', 'W', 'Wn', 'Wh', 'Wt')),
+        'one-hour-missing': (48, b''.join(map(h, list(range(48, 71)) + list(range(72, 96))))),
+        'one-hour-measured': (48, d(50, 1, 7) + h(50) + h(71)),
+        'first-hour-of-a-day': (48, d(48, 1, 7) + h(48) + d(72, 2, 9) + h(72)),
+        'last-hour-of-a-day': (48, d(71, 1, 7) + h(71) + d(95, 2, 9) + h(95)),
+        'last-hour-of-the-week': (48, d(215, 1, 7) + h(215) + d(216, 2, 9) + h(216)),
+        'an-hour-before-the-week': (49, d(48, 1, 7) + h(48) + d(49, 2, 9) + h(49)),
+        'a-dose-of-0': (48, d(50, 1, 0) + h(50)),
+        'a-dose-without-an-h': (48, d(50, 1, 7) + h(51) + d(75, 2, 7)),
+        'measured-and-without-an-h': (48, d(50, 1, 7) + h(50) + d(51, 2, 100) + h(52)),
+        'a-hole-in-a-day': (48, d(50, 1, 7) + h(50) + d(51, 5, 8) + h(51) + d(60, 6, 9) + h(60)),
+        'a-hole-over-days': (48, d(50, 1, 7) + b''.join(map(h, range(50, 130))) +
+                             d(130, 5, 8) + b''.join(map(h, range(130, 216)))),
+        'greatest-amounts': (0, b''.join(d(hour, hour * 20 + n, 1800000) for hour in range(48)
+                                         for n in range(20)) + h(48)),
+        'largest-sum': (0, b''.join(b''.join(d(hour, 1, 1800000) for _ in range(110)) + h(hour)
+                                    for hour in range(24))),
+        'greatest-first': (9999832, d(9999832, 1, 3) + h(9999832) + d(9999999, 2, 4) +
+                           h(9999999)),
+        'greatest-first-rest': (9999832, b''.join(map(h, range(9999832, 10000000)))),
+        'above-the-greatest': (9999833, h(9999833)),
+        'last-hour': (9999999, h(9999999)),
+        'least-first': (0, d(0, 0, 5) + h(0) + h(1)),
+        'empty-journal': (7, b''), 'empty-journal-0': (0, b''),
+        'a-month': (4300, read('month.journal')),
+        'mill': (10, mill), 'mill-from-11': (11, mill), 'mill-long-ago': (9000000, mill),
+        'refused-10': (10, read('refused-10.journal')),
+        'refused-11': (10, read('refused-11.journal')),
+        'refused-12': (10, read('refused-12.journal')),
+        'no-lf-at-the-end': (10, mill[:-1]), 'an-empty-line': (10, b'\n' + mill),
+        'a-line-of-a-first-hour': (10, b'10\n' + mill),
+    })
+    return {name: b'%d\n' % hour + data for name, (hour, data) in made.items()}
+
+
+def week_cases():
+    mill = read('mill.journal')
+    for name, data in weeks().items():
+        write('%s.week' % name, data)
+    write('nothing.week', b'')
+    write('no-lf.week', b'10')
+    write('bad-no-lf.week', b'x' * 9)
+    write('lf-alone.week', b'\n')
+    names = ('empty', 'leading-zero', 'two-zeros', 'minus', 'minus-zero', 'plus',
+             'space-before', 'space-after', 'tab-before', 'tab-after', 'cr', 'nul', 'letter',
+             'decimal', 'hex', 'h-line', 'above', 'last-hour', 'eight-digits', 'wraps-32',
+             'wraps-64', 'zeros', 'long')
+    for name, first in zip(names, journals.BAD_FIRST):
+        write('first-%s.week' % name, first + b'\n' + mill)
+    for number in ('10', '11', '12'):
+        write('first-bad-refused-%s.week' % number,
+              b'007\n' + read('refused-%s.journal' % number))
+    write('first-above-refused-11.week', b'9999833\n' + read('refused-11.journal'))
+    write('first-bad-no-lf-at-the-end.week', b'x\n' + mill[:-1])
+    write('first-long-no-lf.week', b'7' * 70000)
+    exact = journals.exact(random.Random(1), 65536)
+    hour = exact.split(b'\t')[1]
+    write('largest.week', hour + b'\n' + exact)
+    write('first-long-largest.week', b'7' * 70000 + b'\n' + exact)
+    write('one-byte-over.week', hour + b'\n' + exact + b'x')
+    write('first-bad-one-byte-over.week', b'07\n' + exact + b'\n')
+
+
 def largest_journal():
     """What `hours` gets in the gate: 65,536 bytes, 744 hours, every kind of
     hour, some of them in a hole. The last hour's doses take what is left, one
@@ -1574,6 +1665,7 @@ def main():
     journals_cases()
     largest_journal()
     slave_cases()
+    week_cases()
     for case in (settings_case, al0_case, al1_case, al2_case, al3_case,
                  faults_case, line_case, frames_case, modbus_case, wild_case, why_case,
                  fields_case,

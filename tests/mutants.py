@@ -670,6 +670,78 @@ MUTANTS = [
     ('a hole refused', 'hours.py',
      'yield earlier[1], later[1]', 'raise Refused(10, 0)\n            yield'),
 
+    # The week sheet.
+    ('a first hour of 9,999,833', 'week.py', 'GREATEST = 9999832', 'GREATEST = 9999833'),
+    ('a first hour of 9,999,832 refused', 'week.py',
+     'GREATEST = 9999832', 'GREATEST = 9999831'),
+    ('any hour a first hour', 'week.py', 'GREATEST = 9999832', 'GREATEST = 9999999'),
+    ("R21 before the journal's own", 'week.py',
+     '    known = hours.of(', '    first_hour(line)\n    known = hours.of('),
+    ('R21 with line 1', 'week.py', 'Refused(21, 0)', 'Refused(21, 1)'),
+    ('R10 for a bad first line', 'week.py', 'Refused(21, 0)', 'Refused(10, 1)'),
+    ('the first line counted', 'week.py',
+     '(refused.number, refused.detail[0])',
+     '(refused.number, refused.detail[0] + (refused.number < 13))'),
+    ('the first line counted in R13', 'week.py',
+     'stream.read(journal.LONGEST + 1)',
+     "stream.read(journal.LONGEST + 1) + b'x' * (len(line) > 8 and 70000)"),
+    ('the journal cut at 65,536 bytes', 'week.py',
+     'stream.read(journal.LONGEST + 1)', 'stream.read(journal.LONGEST)'),
+    ('leading zeros of the first hour taken', 'week.py',
+     'journal.number(line)', "journal.number(line.lstrip(b'0') or line)"),
+    ('a CR after the first hour taken', 'week.py',
+     'journal.number(line)', "journal.number(line.rstrip(b'\\r'))"),
+    ('a tab after the first hour taken', 'week.py',
+     'journal.number(line)', "journal.number(line.rstrip(b'\\t'))"),
+    ('blanks around the first hour taken', 'week.py',
+     'journal.number(line)', 'journal.number(line.strip())'),
+    ('an empty first line is hour 0', 'week.py',
+     'journal.number(line)', "journal.number(line or b'0')"),
+    ('a first line without LF taken', 'week.py',
+     "    if not part:\n        return None, b''\n",
+     "    if not line:\n        return None, b''\n"),
+    ('a long first line cut', 'week.py',
+     'LONGEST = 8 ', 'LONGEST = 4 '),
+    ('a long first line is no line', 'week.py',
+     "    while part and part[-1:] != b'\\n':\n", '    while False:\n'),
+    ('days of 23 hours', 'week.py', 'DAYS, HOURS = 7, 24', 'DAYS, HOURS = 7, 23'),
+    ('days of 25 hours', 'week.py', 'DAYS, HOURS = 7, 24', 'DAYS, HOURS = 7, 25'),
+    ('six days', 'week.py', 'DAYS, HOURS = 7, 24', 'DAYS, HOURS = 6, 24'),
+    ('days from 1', 'week.py', 'yield (number,)', 'yield (number + 1,)'),
+    ('days of the calendar', 'week.py',
+     'begin = first + HOURS * number', 'begin = first - first % 24 + HOURS * number'),
+    ('hours from the one after the first', 'week.py',
+     'begin = first + HOURS', 'begin = first + 1 + HOURS'),
+    ('hours outside the journal idle', 'week.py',
+     '([], False, False))', '([], True, False))'),
+    ('a holiday with a missing hour', 'week.py',
+     "kinds == ['I'] * HOURS", "'I' in kinds"),
+    ('a holiday with an hour idle at its start', 'week.py',
+     "kinds == ['I'] * HOURS", "kinds[0] == 'I'"),
+    ('a dark day is a holiday', 'week.py', "kinds == ['I'] * HOURS", 'True'),
+    ('a holiday with one hour missing', 'week.py',
+     "kinds == ['I'] * HOURS", "kinds.count('I') >= 23"),
+    ('no holiday', 'week.py', "kinds == ['I'] * HOURS", 'False'),
+    ('unknown with a missing hour', 'week.py',
+     '    if measured:\n', "    if measured and 'X' not in kinds:\n"),
+    ('worked only with a sum', 'week.py', '    if measured:\n', '    if sum(map(sum, measured)):\n'),
+    ('worked wherever a dose is', 'week.py',
+     '    if measured:\n', '    if any(hour[0] for hour in seen):\n'),
+    ('idle hours covered', 'week.py', 'told, len(measured),',
+     "told, sum(kind != 'X' for kind in kinds),"),
+    ('every hour covered', 'week.py', 'told, len(measured),', 'told, HOURS,'),
+    ('doses for hours', 'week.py', 'told, len(measured),', 'told, sum(map(len, measured)),'),
+    ('a sum over missing hours too', 'week.py',
+     'sum(map(sum, measured))', 'sum(sum(hour[0]) for hour in seen)'),
+    ('a sum of 32 bits', 'week.py',
+     'sum(map(sum, measured))', 'sum(map(sum, measured)) % 2**32'),
+    ('the largest hour for the sum', 'week.py',
+     'sum(map(sum, measured))', 'max(map(sum, measured), default=0)'),
+    ('holes forgotten', 'week.py',
+     'hours.kind(*hour)', 'hours.kind(hour[0], hour[1], False)'),
+    ('an empty journal prints nothing', 'week.py',
+     '    rows = days(', "    if not known: return b''\n    rows = days("),
+
     # The program.
     ('a line of 4,097 bytes taken', 'replay.py',
      'LONGEST_LINE = 4096', 'LONGEST_LINE = 4097'),
@@ -850,6 +922,7 @@ FIRST = {
     'modbus.py': ('modbus.',), 'why.py': ('why.',), 'slave.py': ('.slave',),
     'journal.py': ('.journal', 'journal.'), 'hours.py': ('.journal',),
     'replay.py': ('malformed.',), 'record.py': ('.record',),
+    'week.py': ('.week',),
 }
 
 
@@ -893,10 +966,12 @@ def cases(first):
 def outputs(first=()):
     """Name and output of each case. An hour of the lines of `record` has 100
     ticks too, since no case has 450,000."""
-    from second import hours, journals, record, replay, slave
+    from second import hours, journals, record, replay, slave, week
     for name, data in cases(first):
         if name.endswith('.journal'):
             yield name, hours.printed(data)
+        elif name.endswith('.week'):
+            yield name, week.printed(io.BytesIO(data))
         elif name.endswith('.slave'):
             yield name, slave.in_packets(data)
         elif name.endswith('.record'):

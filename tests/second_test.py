@@ -14,7 +14,7 @@ sys.path.insert(0, ROOT)
 
 from second import (boundary, fields, frames, generate, hours,  # noqa: E402
                     journal, journals, modbus, record, replay, settings, slave,
-                    weigher)
+                    week, weigher)
 from second.box import Box, mean  # noqa: E402
 from second.refusal import Refused  # noqa: E402
 from second.settings import DEFAULT, Settings  # noqa: E402
@@ -265,6 +265,46 @@ def hole_checks():
         same('does not follow', hours.follows(before, count), False)
 
 
+# The days of each stored week, by hand: their letters and what they cover.
+WEEKS = {
+    'real': 'W9 W4 W9 W9 W9 I0 I0', 'real-before-168': 'X0 X0 X0 X0 X0 X0 X0',
+    'real-before-167': 'X0 X0 X0 X0 X0 X0 X0', 'real-from-168': 'X0 X0 X0 X0 X0 X0 X0',
+    'real-from-24': 'W4 W9 W9 W9 I0 I0 X0',
+    'real-from-144': 'I0 X0 X0 X0 X0 X0 X0', 'holidays': 'I0 X0 X0 I0 X0 X0 I0',
+    'half-seen-rest': 'X0 X0 X0 W9 X0 W4 W9', 'one-hour-missing': 'X0 I0 X0 X0 X0 X0 X0',
+    'one-hour-measured': 'W1 X0 X0 X0 X0 X0 X0', 'a-dose-of-0': 'W1 X0 X0 X0 X0 X0 X0',
+    'first-hour-of-a-day': 'W1 W1 X0 X0 X0 X0 X0', 'last-hour-of-a-day': 'W1 W1 X0 X0 X0 X0 X0',
+    'last-hour-of-the-week': 'X0 X0 X0 X0 X0 X0 W1', 'a-hole-in-a-day': 'W1 X0 X0 X0 X0 X0 X0',
+    'an-hour-before-the-week': 'W1 X0 X0 X0 X0 X0 X0',
+    'a-dose-without-an-h': 'X0 X0 X0 X0 X0 X0 X0', 'a-hole-over-days': 'X0 X0 X0 X0 I0 I0 I0',
+    'greatest-first': 'W1 X0 X0 X0 X0 X0 W1', 'greatest-first-rest': 'I0 I0 I0 I0 I0 I0 I0',
+    'empty-journal': 'X0 X0 X0 X0 X0 X0 X0',
+}
+NO_WEEKS = {
+    'above-the-greatest': 'R 21 0', 'last-hour': 'R 21 0', 'nothing': 'R 21 0',
+    'no-lf': 'R 21 0', 'lf-alone': 'R 21 0', 'first-long': 'R 21 0', 'first-cr': 'R 21 0',
+    'first-long-no-lf': 'R 21 0', 'first-long-largest': 'R 21 0', 'refused-10': 'R 10 3',
+    'first-bad-refused-10': 'R 10 3', 'first-bad-refused-11': 'R 11 3',
+    'first-bad-refused-12': 'R 12 3', 'one-byte-over': 'R 13 0',
+    'first-bad-one-byte-over': 'R 13 0', 'no-lf-at-the-end': 'R 10 6',
+    'first-bad-no-lf-at-the-end': 'R 10 6', 'an-empty-line': 'R 10 1',
+}
+
+
+def week_checks():
+    """Document 02, W12, by hand."""
+    same('program', program('week', b'10\n' + case('mill.journal')).splitlines()[:2],
+         [b'0\tW\t1\t998', b'1\tX\t0\t0'])
+    for name, wanted in WEEKS.items():
+        printed = week.printed(io.BytesIO(case(name + '.week'))).decode()
+        rows = [row.split('\t') for row in printed.splitlines()]
+        same('days of ' + name, [int(row[0]) for row in rows], list(range(7)))
+        same(name, ' '.join(row[1] + row[2] for row in rows), wanted)
+    for name, wanted in NO_WEEKS.items():
+        printed = week.printed(io.BytesIO(case(name + '.week'))).decode()
+        same(name, printed, wanted.replace(' ', '\t') + '\n')
+
+
 def replay_checks():
     same('not a call', replayed('Q\nZ\nQ\t\n\nT\t01\t0\nT\t-0\t0\nQ'),
          'Q\t0\t0\n?\n?\n?\n?\n?\n')
@@ -468,6 +508,7 @@ def main():
     why_checks()
     tick_checks()
     journal_checks()
+    week_checks()
     replay_checks()
     record_checks()
     weigher_checks()

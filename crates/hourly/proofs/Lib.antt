@@ -1,4 +1,3 @@
 pub mod Tallying
 pub mod Marking
 pub mod Passing
-pub mod Among

@@ -12,3 +12,4 @@ pub mod Floats
 pub mod Exact
 pub mod TallyLaws
 pub mod Refused
+pub mod Among

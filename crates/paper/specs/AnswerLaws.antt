@@ -1,13 +1,17 @@
 -- What is known of an answer: no two kinds are equal, what one that is done tells of the tests before it, and which contract a known answer meets. Assumes nothing.
-use mathlib.Core.Path.{_≡_, refl}
+use mathlib.Core.Path.{_≡_, refl, sym, ap, _∙_}
 use mathlib.Core.Bool.{Bool, true, false}
-use mathlib.Core.List.{List, _++_}
-use Prim.Native.Nat.{ℕ, _-_}
+use mathlib.Core.List.{List, [], _++_}
+use Prim.Native.Nat.{ℕ, zero, suc, _-_, _≤_, _<_}
 use native.Mathlib.Omega.{arith}
-use lib.ListN.{length, replicate}
-use Rattle.laws.specs.Pick.{pick}
-use Rattle.laws.specs.Over.{over}
-use Rattle.paper.specs.Answer.{Answer, done, refused, fault, told, onDone, bytesIn, leaves, Fills, Hands}
+use lib.Dec.{leb}
+use lib.ListN.{length, drop, replicate}
+use lib.Seq.{sets}
+use borrow.Author.Tests.{le-leb, lt-leb}
+use Rattle.laws.specs.Pick.{pick, pick-t, pick-f}
+use Rattle.laws.specs.Over.{over, sets-over}
+use Rattle.paper.specs.Answer.{Answer, done, refused, fault, told, onDone, bytesIn, inRoom, leaves, Fills, Hands}
+use Rattle.paper.specs.Numbers.{R8}
 
 -- ---- a refusal, a fault and what is done are no two of them equal
 
@@ -70,3 +74,27 @@ module _ {rule : Answer (List ℕ)} {bytes : List ℕ} (e : rule ≡ done bytes)
   pub hands-done : {m : ℕ} {array : List ℕ} → array ≡ bytes ++ replicate (m - length bytes) 0 → Hands m (done n) rule array
   unfolding told bytesIn
   hands-done a = record { says = rw (e, l); holds = rw e a }
+
+-- a text that has no room, and one that has
+pub fills-none : (old text : List ℕ) → length old < length text → Fills (refused R8 []) (inRoom [] (length old) text) old old
+unfolding inRoom told leaves
+fills-none old text h =
+    let e = pick-f (leb (length text) (length old)) (done text) (refused R8 []) (lt-leb (length text) (length old) h) in
+    record { says = sym (ap (told length) e); left = sym (ap (λ (a : Answer (List ℕ)). leaves a old) e) }
+
+pub fills-text : (old new text : List ℕ) (n : ℕ) → length text ≤ length old → n ≡ length text → new ≡ sets old 0 text → Fills (done n) (inRoom [] (length old) text) old new
+unfolding inRoom told leaves
+fills-text old new text n h m e =
+    let g = pick-t (leb (length text) (length old)) (done text) (refused R8 []) (le-leb (length text) (length old) h) in
+    record { says = ap done m ∙ sym (ap (told length) g); left = e ∙ sets-over old text h ∙ sym (ap (λ (a : Answer (List ℕ)). leaves a old) g) }
+
+drop-same : (n m x : ℕ) → drop n (replicate m x) ≡ replicate (m - n) x
+drop-same zero m x = let e : m - 0 ≡ m = omega arith in rw e
+drop-same (suc n) zero x = let e : 0 - suc n ≡ 0 = omega arith in rw e
+drop-same (suc n) (suc m) x = let e : suc m - suc n ≡ m - n = omega arith in rw e (drop-same n m x)
+
+-- a text laid over nothing but 0
+pub hands-over : (m : ℕ) (text old array : List ℕ) (n : ℕ) → old ≡ replicate m 0 → n ≡ length text → array ≡ over text old → Hands m (done n) (done text) array
+unfolding over
+hands-over m text old array n z l e =
+    hands-done refl l (e ∙ ap (λ (x : List ℕ). text ++ x) (ap (drop (length text)) z ∙ drop-same (length text) m 0))

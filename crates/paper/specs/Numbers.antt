@@ -71,6 +71,14 @@ R16 = 16
 abbrev pub R17 : ℕ
 R17 = 17
 
+-- an output number outside 1..4 (document 02)
+abbrev pub R19 : ℕ
+R19 = 19
+
+-- a week's first hour that is malformed or above 9,999,832 (document 02)
+abbrev pub R21 : ℕ
+R21 = 21
+
 -- a run of 64 mismatches of an input with its output
 abbrev pub F14 : ℕ
 F14 = 14
@@ -81,6 +89,6 @@ F21 = 21
 
 -- each refusal has the number of its row, each fault the number of its name
 pub numbers :
-    R1 ∷ R2 ∷ R3 ∷ R4 ∷ R5 ∷ R6 ∷ R7 ∷ R8 ∷ R9 ∷ R10 ∷ R11 ∷ R12 ∷ R13 ∷ R14 ∷ R15 ∷ R16 ∷ R17 ∷ F14 ∷ F21 ∷ []
-    ≡ 1 ∷ 2 ∷ 3 ∷ 4 ∷ 5 ∷ 6 ∷ 7 ∷ 8 ∷ 9 ∷ 10 ∷ 11 ∷ 12 ∷ 13 ∷ 14 ∷ 15 ∷ 16 ∷ 17 ∷ 14 ∷ 21 ∷ []
+    R1 ∷ R2 ∷ R3 ∷ R4 ∷ R5 ∷ R6 ∷ R7 ∷ R8 ∷ R9 ∷ R10 ∷ R11 ∷ R12 ∷ R13 ∷ R14 ∷ R15 ∷ R16 ∷ R17 ∷ R19 ∷ R21 ∷ F14 ∷ F21 ∷ []
+    ≡ 1 ∷ 2 ∷ 3 ∷ 4 ∷ 5 ∷ 6 ∷ 7 ∷ 8 ∷ 9 ∷ 10 ∷ 11 ∷ 12 ∷ 13 ∷ 14 ∷ 15 ∷ 16 ∷ 17 ∷ 19 ∷ 21 ∷ 14 ∷ 21 ∷ []
 numbers = refl

@@ -10,6 +10,7 @@ use borrow.Author.Tests.{le-leb, le-ltb, ne-eqb}
 use Rattle.laws.specs.Pick.{pick, pick-t, pick-f, pick-if, pick-all}
 use Rattle.laws.specs.Whole.{false-true}
 use Rattle.laws.specs.Bools.{and-left}
+use Rattle.paper.specs.Numbers.{R19}
 use Rattle.paper.specs.Answer.{Answer, done, refused}
 use Rattle.paper.specs.AnswerLaws.{refused-done}
 use Rattle.settings.specs.declared.Settings.{Settings}
@@ -30,7 +31,7 @@ use Rattle.controller.specs.declared.Fault.{Fault}
 use Rattle.controller.specs.declared.Fault.the-variants as F
 use Rattle.controller.specs.declared.Condition.{Condition}
 use Rattle.controller.specs.declared.Condition.the-variants.{Clear, Faulted}
-use Rattle.reasons.specs.Reasons.{R19, Cause, isOpen, inFault, unused, noStart, settling, leadReached, inPhase, overload, noAlarm, openAt, faultCause, faultOr, unusedAt, unstartedAt, settlingOr, leadOr, phaseCause, gateBy, gateCause, alarmCause, noOutput, whyOf}
+use Rattle.reasons.specs.Reasons.{Cause, isOpen, inFault, unused, noStart, settling, leadReached, inPhase, overload, noAlarm, openAt, faultCause, faultOr, unusedAt, unstartedAt, settlingOr, leadOr, phaseCause, gateBy, gateCause, alarmCause, noOutput, whyOf}
 use Rattle.reasons.specs.Weights.{Comparable, weight-most, comparable}
 
 -- ---- which rule answers for which output

@@ -6,13 +6,13 @@ use Prim.Native.Nat.{ℕ}
 use lib.IntN.{ℤ, pos, negsuc}
 use lib.ListN.{replicate}
 use Rattle.paper.specs.Answer.{Answer, done, refused}
-use Rattle.paper.specs.Numbers.{F14, F21}
+use Rattle.paper.specs.Numbers.{R19, F14, F21}
 use Rattle.settings.specs.declared.Settings.{Settings}
 use Rattle.settings.specs.Cases.{setOf}
 use Rattle.controller.specs.Calls.{restartOf, controllerIn, settingsOf, resetOf, linkOf}
 use Rattle.controller.specs.Cases.{ticked, rules}
 use Rattle.controller.specs.declared.Controller.{Controller}
-use Rattle.reasons.specs.Reasons.{R19, ready, fill, settle, discharge, load, calm, dose, Cause, isOpen, inFault, unused, noStart, settling, leadReached, inPhase, overload, noAlarm, openAt, faultCause, faultOr, unusedAt, unstartedAt, settlingOr, leadOr, nameOf, phaseCause, gateBy, gateCause, alarmCause, noOutput, whyOf}
+use Rattle.reasons.specs.Reasons.{ready, fill, settle, discharge, load, calm, dose, Cause, isOpen, inFault, unused, noStart, settling, leadReached, inPhase, overload, noAlarm, openAt, faultCause, faultOr, unusedAt, unstartedAt, settlingOr, leadOr, nameOf, phaseCause, gateBy, gateCause, alarmCause, noOutput, whyOf}
 
 -- to unfold this is to unfold the reasons and every rule of the box
 unfoldable whole : Unit {0}

@@ -6,7 +6,7 @@ use lib.Dec.{leb, ltb, eqb}
 use lib.IntN.{ℤ, _-ℤ_}
 use Rattle.laws.specs.Pick.{pick}
 use Rattle.paper.specs.Answer.{Answer, done, refused}
-use Rattle.paper.specs.Numbers.{F14, F21}
+use Rattle.paper.specs.Numbers.{R19, F14, F21}
 use Rattle.settings.specs.declared.Settings.{Settings}
 use Rattle.settings.specs.Table.{Wc, Wf}
 use Rattle.dosing.specs.declared.Gates.{Gates}
@@ -18,10 +18,6 @@ use Rattle.controller.specs.declared.Fault.{Fault}
 use Rattle.controller.specs.declared.Fault.the-variants as F
 use Rattle.controller.specs.declared.Condition.{Condition}
 use Rattle.controller.specs.declared.Condition.the-variants.{Clear, Faulted}
-
--- an output number outside 1..4 is R19
-abbrev pub R19 : ℕ
-R19 = 19
 
 -- ---- the reasons
 

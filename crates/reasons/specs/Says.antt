@@ -3,10 +3,11 @@ use mathlib.Core.Path.{_≡_, refl, sym, ap, _∙_}
 use mathlib.Core.List.{[]}
 use Prim.Native.Nat.{ℕ}
 use lib.IntN.{ℤ}
+use Rattle.paper.specs.Numbers.{R19}
 use Rattle.paper.specs.Answer.{Answer, done, refused, fault, same}
 use Rattle.controller.specs.declared.Controller.{Controller}
 use Rattle.dosing.specs.Rules.{units}
-use Rattle.reasons.specs.Reasons.{R19, PhaseName, ready, fill, settle, discharge, load, calm, dose, Cause, isOpen, inFault, unused, noStart, settling, leadReached, inPhase, overload, noAlarm, whyOf}
+use Rattle.reasons.specs.Reasons.{PhaseName, ready, fill, settle, discharge, load, calm, dose, Cause, isOpen, inFault, unused, noStart, settling, leadReached, inPhase, overload, noAlarm, whyOf}
 use Rattle.reasons.specs.declared.Name.{Name}
 use Rattle.reasons.specs.declared.Name.the-variants as N
 use Rattle.reasons.specs.declared.Reason.{Reason}

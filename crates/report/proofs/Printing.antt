@@ -6,14 +6,12 @@ use Prim.Native.Nat.{ℕ, suc, _+_, _^_, _≤_, _<_}
 use native.Mathlib.Omega.{arith}
 use native.Mathlib.Numerals.{add-one}
 use native.Mathlib.Nat.{add-zero}
-use lib.Dec.{leb, eqb·suc-zero}
+use lib.Dec.{eqb·suc-zero}
 use lib.ListN.{length, getD, take, drop, length-append, drop-of-length-le}
 use lib.Seq.{sets, drop-cons, getD-take, length-take-le}
-use borrow.Author.Tests.{le-leb, lt-leb}
-use Rattle.laws.specs.Pick.{pick, pick-t, pick-f}
-use Rattle.laws.specs.Over.{sets-append, sets-over}
-use Rattle.paper.specs.Answer.{Answer, done, refused, told, onDone, inRoom, leaves, Fills}
-use Rattle.paper.specs.Numbers.{R8}
+use Rattle.laws.specs.Pick.{pick}
+use Rattle.laws.specs.Over.{sets-append}
+use Rattle.paper.specs.Answer.{Answer, onDone, inRoom}
 use Rattle.text.specs.Put.{Puts}
 use Rattle.text.specs.PutLaws.{room-is, puts-fit, puts-length}
 use Rattle.journal.specs.Journal.{firstHour}
@@ -78,19 +76,6 @@ unfolding rowsBy rowsText
 rest-none table first hours k p h =
     let n : length (take hours table) ≡ hours = length-take-le hours table (omega (arith, p .few, p .size)) in
     ap (λ (ts : List Tally). rowsText (rowsBy ts (first + k))) (drop-of-length-le (take hours table) {i = k} (omega arith))
-
--- a text that has no room, and one that has
-pub fills-none : (old text : List ℕ) → length old < length text → Fills (refused R8 []) (inRoom [] (length old) text) old old
-unfolding inRoom told leaves
-fills-none old text h =
-    let e = pick-f (leb (length text) (length old)) (done text) (refused R8 []) (lt-leb (length text) (length old) h) in
-    record { says = sym (ap (told length) e); left = sym (ap (λ (a : Answer (List ℕ)). leaves a old) e) }
-
-pub fills-text : (old new text : List ℕ) (n : ℕ) → length text ≤ length old → n ≡ length text → new ≡ sets old 0 text → Fills (done n) (inRoom [] (length old) text) old new
-unfolding inRoom told leaves
-fills-text old new text n h m e =
-    let g = pick-t (leb (length text) (length old)) (done text) (refused R8 []) (le-leb (length text) (length old) h) in
-    record { says = ap done m ∙ sym (ap (told length) g); left = e ∙ sets-over old text h ∙ sym (ap (λ (a : Answer (List ℕ)). leaves a old) g) }
 
 -- ---- the rows of an accepted journal
 

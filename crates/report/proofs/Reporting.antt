@@ -1,14 +1,14 @@
 -- From the text's answer to the report, and from the journal's refusal to its line. Assumes nothing.
 use mathlib.Core.Path.{_≡_, refl, sym, ap, _∙_, subst}
-use mathlib.Core.List.{List, [], _++_}
-use Prim.Native.Nat.{ℕ, zero, suc, _-_, _≤_, min}
+use mathlib.Core.List.{List, []}
+use Prim.Native.Nat.{ℕ, _≤_, min}
 use native.Mathlib.Omega.{arith}
 use native.Mathlib.Decide.{decLt}
-use lib.ListN.{length, take, drop, replicate, length-replicate}
+use lib.ListN.{length, take, replicate, length-replicate}
 use lib.Seq.{take-all}
 use Rattle.laws.specs.Over.{over, sets-over}
 use Rattle.paper.specs.Answer.{Answer, done, refused, fault, told, onDone, inRoom, leaves, Fills}
-use Rattle.paper.specs.AnswerLaws.{refused-done, fault-done, fault-refused, hands-done}
+use Rattle.paper.specs.AnswerLaws.{refused-done, fault-done, fault-refused, hands-over}
 use Rattle.paper.specs.Numbers.{R8, R10}
 use Rattle.text.specs.Put.{Puts}
 use Rattle.text.specs.PutLaws.{room-is, puts-fit}
@@ -23,16 +23,9 @@ use Rattle.report.specs.Report.{refusalText, refusalOf, reportFrom, repo
 use Rattle.report.specs.Contracts.{Holds, Reports}
 use Rattle.report.specs.declared.Printout.{Printout}
 
-drop-same : (n m x : ℕ) → drop n (replicate m x) ≡ replicate (m - n) x
-drop-same zero m x = let e : m - 0 ≡ m = omega arith in rw e
-drop-same (suc n) zero x = let e : 0 - suc n ≡ 0 = omega arith in rw e
-drop-same (suc n) (suc m) x = let e : suc m - suc n ≡ m - n = omega arith in rw e (drop-same n m x)
-
 -- a text laid over nothing but 0
 pub holds-over : (text old : List ℕ) (r : Printout) → old ≡ replicate 33480 0 → r .len ≡ length text → r .bytes ≡ over text old → Holds text r
-unfolding over
-holds-over text old r z n e =
-    hands-done refl n (e ∙ ap (λ (l : List ℕ). text ++ l) (ap (drop (length text)) z ∙ drop-same (length text) 33480 0))
+holds-over text old r z n e = hands-over 33480 text old (r .bytes) (r .len) z n e
 
 -- a text put there
 pub holds-put : (text old : List ℕ) (r : Printout) → old ≡ replicate 33480 0 → length text ≤ 33480 → Puts old 0 text (r .bytes) (r .len) → Holds text r

@@ -4,8 +4,9 @@ use mathlib.Core.List.{List}
 use Prim.Native.Nat.{ℕ}
 use lib.ListN.{length, take}
 use Rattle.paper.specs.Answer.{done, Fills, fills-one, Hands, hands-one}
+use Rattle.text.specs.Put.{Puts, puts-determined}
 use Rattle.hourly.specs.Text.{printOf}
-use Rattle.report.specs.Report.{reportOf}
+use Rattle.report.specs.Report.{refusalText, reportOf}
 use Rattle.report.specs.Says.{saysPrinted, printed-one}
 use Rattle.report.specs.declared.Printed.{Printed}
 use Rattle.report.specs.declared.Printout.{Printout}
@@ -16,6 +17,13 @@ PrintsHours s r old new = Fills (saysPrinted r) (printOf s (length old)) old new
 
 pub print-determined : (s old : List ℕ) (a b : Printed) {new new' : List ℕ} → PrintsHours s a old new → PrintsHours s b old new' → (a ≡ b) × (new ≡ new')
 print-determined s old a b p q = let e = fills-one p q in (printed-one a b (e .0), e .1)
+
+-- put_refused: the line of a refusal at the buffer's start, if it has room
+abbrev pub PutsRefusal : List ℕ → ℕ → ℕ → List ℕ → ℕ → Type 0
+PutsRefusal old number line new r = Puts old 0 (refusalText number line) new r
+
+pub put-refused-determined : (old : List ℕ) (number line : ℕ) {new new' : List ℕ} {r r' : ℕ} → PutsRefusal old number line new r → PutsRefusal old number line new' r' → (new ≡ new') × (r ≡ r')
+put-refused-determined old number line p q = puts-determined p q
 
 -- a text by value: its bytes, how many they are, and 0 behind them
 abbrev pub Holds : List ℕ → Printout → Type 0

@@ -15,8 +15,8 @@ ghost use Rattle.hourly.specs.Text.{rowM, rowText};
 ghost use Rattle.report.specs.Rows.{tailText};
 ghost use Rattle.report.specs.Table.{saysShown, Summed, shownOf, textBy, Printable, hoursIn};
 ghost use Rattle.report.specs.Says.{saysPrinted};
-ghost use Rattle.report.specs.Report.{refusalText, refusalOf};
-ghost use Rattle.report.specs.Contracts.{PrintsHours, Holds, Reports};
+ghost use Rattle.report.specs.Report.{refusalOf};
+ghost use Rattle.report.specs.Contracts.{PrintsHours, PutsRefusal, Holds, Reports};
 
 // What making the text answers: its length, the journal's refusal, or that the buffer is too short.
 pub enum Printed {
@@ -195,8 +195,8 @@ pub fn print(bytes: &[u8], out: &mut [u8]) -> Printed
 }
 
 // R, a refusal's number and its line, if they have room.
-fn put_refused(out: &mut [u8], number: u64, line: u64) -> usize
-    ensures { λ r. ⌜ Puts (now (out .entry)) 0 (refusalText number line) (now (out .exit)) r ⌝ }
+pub fn put_refused(out: &mut [u8], number: u64, line: u64) -> usize
+    ensures { λ r. ⌜ PutsRefusal (now (out .entry)) number line (now (out .exit)) r ⌝ }
 {
     let size = text::decimal_len(number) + text::decimal_len(line) + 4;
     if out.len() < size {

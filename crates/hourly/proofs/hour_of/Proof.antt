@@ -11,7 +11,7 @@ use Rattle.hourly.specs.Tally.{summaryOf}
 use Rattle.hourly.specs.Says.{saysJudged}
 use Rattle.hourly.specs.TallyLaws.{Found, found-of, found-accepted, counts-tell}
 use Rattle.hourly.specs.Refused.{refused-told}
-use Rattle.hourly.proofs.Among.{among-hour}
+use Rattle.hourly.specs.Among.{among-hour}
 use Rattle.hourly.proofs.hour_of.Statement.{statement}
 use Rattle.hourly.proofs.hour_of.Tie as tie
 

@@ -5,8 +5,8 @@ use borrow.Author.Needs.{needs}
 use denote.Ref.{now}
 use lib.ListN.{length}
 use lib.Seq.{sets}
+use Rattle.paper.specs.AnswerLaws.{fills-none, fills-text}
 use Rattle.report.specs.Table.{textBy, hoursIn}
-use Rattle.report.proofs.Printing.{fills-none, fills-text}
 use Rattle.report.proofs.print_table.Statement.{statement}
 use Rattle.report.proofs.print_table.Tie as tie
 

@@ -1,0 +1,4 @@
+pub mod Days
+pub mod Printing
+pub mod Reading
+pub mod Reporting

@@ -1,0 +1,9 @@
+pub mod Week
+pub mod Day
+pub mod Says
+pub mod Counted
+pub mod Contracts
+pub mod Lists
+pub mod Sums
+pub mod Kinds
+pub mod Examples
