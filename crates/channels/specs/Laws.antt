@@ -30,11 +30,11 @@ unfolding runsAfter
 runs-most set g inputs runs h =
     pick-all (NoLonger 64) (eqb (set .algorithm) 0) h (run-most _ _ _ _, run-most _ _ _ _, run-most _ _ _ _)
 
--- F14 naming a channel, or no run has reached 64
-pub watch-ways : (Q : Answer (Unit {0}) → Type 0) (r : Runs) → ((channel : ℕ) → Q (fault F14 (channel ∷ []))) → (NoLonger 63 r → Q (done tt)) → Q (watchOf r)
+-- F14 naming one of the channels 1 to 3, or no run has reached 64
+pub watch-ways : (Q : Answer (Unit {0}) → Type 0) (r : Runs) → ((channel : ℕ) → 1 ≤ channel → channel ≤ 3 → Q (fault F14 (channel ∷ []))) → (NoLonger 63 r → Q (done tt)) → Q (watchOf r)
 unfolding watchOf
 watch-ways Q r at go =
-    pick-if Q (leb 64 (r .one)) (λ a. at 1)
-    (λ one. pick-if Q (leb 64 (r .two)) (λ a. at 2)
-    (λ two. pick-if Q (leb 64 (r .three)) (λ a. at 3)
+    pick-if Q (leb 64 (r .one)) (λ a. at 1 (omega arith) (omega arith))
+    (λ one. pick-if Q (leb 64 (r .two)) (λ a. at 2 (omega arith) (omega arith))
+    (λ two. pick-if Q (leb 64 (r .three)) (λ a. at 3 (omega arith) (omega arith))
     (λ three. go (omega (arith, leb-false 64 (r .one) one), omega (arith, leb-false 64 (r .two) two), omega (arith, leb-false 64 (r .three) three)))))

@@ -13,8 +13,9 @@ use Rattle.settings.specs.declared.Settings.{Settings}
 use Rattle.dosing.proofs.Phase.{the-type as phase-type}
 use Rattle.dosing.specs.declared.Phase.{Phase}
 use Rattle.dosing.specs.declared.Phase.the-variants.{Ready, Coarse, Fine, Hold, Settle, Discharge, Load, Calm, DoseCoarse, DoseFine, DoseSettle}
-use Rattle.controller.specs.Calls.{atReady, isReady, storedBad, restartOf, noController, controllerIn, taken, after, settingsAnswer, settingsOf, resetOf}
+use Rattle.controller.specs.Calls.{isReady, storedBad, restartOf, noController, controllerIn, taken, after, settingsAnswer, settingsOf, resetOf}
 use Rattle.controller.specs.State.{restarted}
+use Rattle.controller.specs.Tick.{atReady}
 use Rattle.controller.specs.Sound.{Sound}
 use Rattle.paper.specs.AnswerLaws.{refused-done, fault-done, told-refused}
 use Rattle.controller.specs.Keeps.{restart-sound, settings-sound, reset-sound}

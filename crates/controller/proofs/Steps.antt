@@ -25,8 +25,8 @@ use Rattle.scale.specs.Scale.{outside, filtered, filterOf, calmRun, stableOf, c
 use Rattle.counters.specs.Counters.{countersAfter, recordsOf}
 use Rattle.counters.specs.declared.Counters.{Counters}
 use Rattle.scale.specs.Laws.{none-held, filtered-within}
-use Rattle.controller.specs.State.{withWindow, withZ, withF, withS, withRuns, withPhase, withGates, withAlarm, withInputs, withCounters}
-use Rattle.controller.specs.Tick.{Result, Told, still, saysFault, faulted, step8, wOf, seenOf, step7, mismatched, steps6to8, steps4and5, step3, step2, tickOf}
+use Rattle.controller.specs.State.{withWindow, withZ, withF, withS, withRuns, withPhase, withGates, withAlarm, withInputs, withCounters, withUnstarted}
+use Rattle.controller.specs.Tick.{Result, Told, still, saysFault, faulted, step8, wOf, seenOf, unstartedOf, step7, mismatched, steps6to8, steps4and5, step3, step2, tickOf}
 use Rattle.controller.specs.Sound.{Sound}
 use Rattle.controller.specs.Bounds.{push-within}
 use Rattle.controller.specs.Keeps.{tick-sound}
@@ -45,19 +45,20 @@ gives {r = r} e g = subst (λ (x : Result Told). Gives x r) e g
 
 -- ---- steps 7 and 8
 
-pub steps-7-8 : (c : Controller) (start : Bool) {t : Seen} {alarm : Bool} {m : Moved} {s outputs : ℕ} {n : Counters} {answer : TickAnswer}
+pub steps-7-8 : (c : Controller) (start : Bool) {t : Seen} {alarm unstarted : Bool} {m : Moved} {s outputs : ℕ} {n : Counters} {answer : TickAnswer}
     → t ≡ record { f = c .f; z = c .z; w = units (c .f .v -ℤ c .z .v); start = start; stable = stableOf (c .set) (c .s) }
     → m ≡ stepOf (c .set) (c .phase) t
+    → unstarted ≡ unstartedOf (c .phase) start (m .phase)
     → alarm ≡ overCapacity (c .set) (c .f .v -ℤ m .z .v)
     → s ≡ calmAfter (c .gates) (m .gates) (c .s)
     → n ≡ countersAfter (c .counters) (m .dose)
     → outputs ≡ outputsOf (m .gates) alarm
     → saysTick answer ≡ done (record { outputs = outputs; doses = recordsOf n (m .dose) })
-    → Gives (step7 c start) (record { next = withCounters n (withAlarm alarm (withS s (withGates (m .gates) (withZ (m .z) (withPhase (m .phase) c))))); answer = answer })
+    → Gives (step7 c start) (record { next = withUnstarted unstarted (withCounters n (withAlarm alarm (withS s (withGates (m .gates) (withZ (m .z) (withPhase (m .phase) c)))))); answer = answer })
 unfolding step7 step8 seenOf wOf
-steps-7-8 c start {m = m} et em ea es en eo e =
+steps-7-8 c start {m = m} et em eu ea es en eo e =
     let moved : m ≡ stepOf (c .set) (c .phase) (seenOf c start) = em ∙ ap (stepOf (c .set) (c .phase)) et in
-    record { next = rw (en, es, ea, moved); says = e ∙ rw (eo, en, ea, moved) }
+    record { next = rw (eu, en, es, ea, moved); says = e ∙ rw (eo, en, ea, moved) }
 
 -- ---- from step 6 on
 
@@ -100,11 +101,11 @@ mean-small c x n s h w m = record { mean = rw (m, w) (filtered-within _ n (push-
 -- ---- steps 1 to 3
 
 module _ (c : Controller) (x : ℤ) (inputs : ℕ) {r : Ticked} where
-  pub step3-outside : outside x ≡ true → Gives (faulted F.F21 (withInputs inputs c)) r → Gives (step3 c x inputs) r
+  pub step3-outside : outside x ≡ true → Gives (faulted F.F21 (withUnstarted false (withInputs inputs c))) r → Gives (step3 c x inputs) r
   unfolding step3
   step3-outside h g = gives (sym (pick-t _ _ _ h)) g
 
-  pub step3-inside : outside x ≡ false → Gives (steps4and5 (withInputs inputs c) x) r → Gives (step3 c x inputs) r
+  pub step3-inside : outside x ≡ false → Gives (steps4and5 (withUnstarted false (withInputs inputs c)) x) r → Gives (step3 c x inputs) r
   unfolding step3
   step3-inside h g = gives (sym (pick-f _ _ _ h)) g
 

@@ -10,7 +10,8 @@ use Rattle.window.specs.Range.{Within}
 use Rattle.dosing.specs.declared.Phase.{Phase}
 use Rattle.dosing.specs.declared.Phase.the-variants.{Ready, Coarse, Fine, Hold, Settle, Discharge, Load, Calm, DoseCoarse, DoseFine, DoseSettle}
 use Rattle.scale.specs.Laws as scale
-use Rattle.controller.specs.Calls.{atReady, readyIn, isReady}
+use Rattle.controller.specs.Calls.{readyIn, isReady}
+use Rattle.controller.specs.Tick.{atReady}
 use Rattle.controller.specs.Sound.{Sound}
 use Rattle.controller.specs.declared.Controller.{Controller}
 use Rattle.controller.specs.declared.Fault.{Fault}
@@ -29,7 +30,8 @@ module _ (c : Controller) (s : Sound c) where
 pub clear-faulted : {Q : Type 0} {why : Fault} → Clear ≡ Faulted why → Q
 clear-faulted e = let z : _≡_ {A = ℕ} 0 1 = cc in let n : ⊥ = omega arith in absurd n
 
-at-ready : (p : Phase) → atReady p ≡ true → p ≡ Ready
+-- the phase is Ready
+pub at-ready : (p : Phase) → atReady p ≡ true → p ≡ Ready
 unfolding atReady
 at-ready Ready h = refl
 at-ready (Coarse w0) h = false-true h

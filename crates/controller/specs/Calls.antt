@@ -15,26 +15,13 @@ use Rattle.dosing.specs.declared.Phase.{Phase}
 use Rattle.dosing.specs.declared.Phase.the-variants.{Ready, Coarse, Fine, Hold, Settle, Discharge, Load, Calm, DoseCoarse, DoseFine, DoseSettle}
 use Rattle.channels.specs.Channels.{noRuns}
 use Rattle.counters.specs.Counters.{counters}
-use Rattle.controller.specs.State.{restarted, withSet, withWindow, withZ, withF, withS, withRuns, withLink, withCounters}
-use Rattle.controller.specs.Tick.{Result}
+use Rattle.controller.specs.State.{restarted, withSet, withWindow, withZ, withF, withS, withRuns, withLink, withCounters, withUnstarted}
+use Rattle.controller.specs.Tick.{Result, atReady}
 use Rattle.controller.specs.declared.Controller.{Controller}
 use Rattle.controller.specs.declared.Condition.{Condition}
 use Rattle.controller.specs.declared.Condition.the-variants.{Clear, Faulted}
 
 -- ---- Ready
-
-unfoldable pub atReady : Phase → Bool
-atReady Ready = true
-atReady (Coarse w0) = false
-atReady (Fine w0) = false
-atReady Hold = false
-atReady (Settle w0 n) = false
-atReady (Discharge w0 wS settled) = false
-atReady Load = false
-atReady (Calm n) = false
-atReady (DoseCoarse wH) = false
-atReady (DoseFine wH) = false
-atReady (DoseSettle wH n) = false
 
 -- A fault counts as not Ready
 unfoldable pub readyIn : Condition → Phase → Bool
@@ -99,9 +86,9 @@ restartedFrom c (fault n vs) = c
 
 -- ---- settings
 
--- Taking a set empties the filter, puts the zero Z to 0, keeps counters, link start, inputs and output 4. New settings clear the runs
+-- Taking a set empties the filter, puts the zero Z to 0, keeps counters, link start, inputs and output 4. New settings clear the runs. No tick is the last one since (document 02, W6)
 unfoldable pub taken : Settings → Controller → Controller
-taken set c = withRuns noRuns (withS 0 (withF (units (pos 0)) (withZ (units (pos 0)) (withWindow emptyWindow (withSet set c)))))
+taken set c = withUnstarted false (withRuns noRuns (withS 0 (withF (units (pos 0)) (withZ (units (pos 0)) (withWindow emptyWindow (withSet set c))))))
 
 -- R3 before R2
 unfoldable pub settingsAnswer : Controller → Settings → Answer (Unit {0})

@@ -7,13 +7,13 @@ use lib.Dec.{eqb}
 use lib.IntN.{ℤ}
 use lib.ListN.{getD}
 use Rattle.laws.specs.Pick.{pick}
-use Rattle.paper.specs.Answer.{Answer, done, refused, fault, same}
-use Rattle.paper.specs.Numbers.{R3, R4, R5, R6, R7, R9, R15, F14}
+use Rattle.paper.specs.Answer.{Answer, done, refused, fault, same, fills-one}
+use Rattle.paper.specs.Numbers.{R3, R4, R5, R6, R7, R9, R15, R17, F14}
 use Rattle.settings.specs.declared.Settings.{Settings}
 use Rattle.counters.specs.declared.Counters.{Counters}
 use Rattle.counters.specs.declared.Record.{Record}
 use Rattle.controller.specs.Tick.{Told, saysFault}
-use Rattle.controller.specs.Says.{saysTick, saysSet, saysReset, saysRestart, saysReply, Ticks, Freshens, Links, Counted, Sets, Resets, Restarts, Replies}
+use Rattle.controller.specs.Says.{saysTick, saysSet, saysReset, saysRestart, saysReply, saysPoll, Ticks, Freshens, Links, Counted, Sets, Resets, Restarts, Replies, Polls}
 use Rattle.controller.specs.declared.Controller.{Controller}
 use Rattle.controller.specs.declared.Fault.{Fault}
 use Rattle.controller.specs.declared.Fault.the-variants as F
@@ -32,6 +32,9 @@ use Rattle.controller.specs.declared.Restarted.{Restarted}
 use Rattle.controller.specs.declared.RequestAnswer.{RequestAnswer}
 use Rattle.controller.specs.declared.RequestAnswer.the-variants as P
 use Rattle.controller.specs.declared.Requested.{Requested}
+use Rattle.controller.specs.declared.PollAnswer.{PollAnswer}
+use Rattle.controller.specs.declared.PollAnswer.the-variants as M
+use Rattle.controller.specs.declared.Polled.{Polled}
 
 -- ---- two answers that say the same are equal: what an answer says gives it back
 
@@ -129,6 +132,20 @@ reply-back (P.R8 place) = refl
 pub reply-one : (a b : RequestAnswer) → saysReply a ≡ saysReply b → a ≡ b
 reply-one = back-one saysReply replyBack reply-back
 
+pub pollBack : Answer ℕ → PollAnswer
+pollBack (done n) = M.Sent n
+pollBack (refused n vs) = pick (eqb n R17) M.R17 M.R8
+pollBack (fault n vs) = M.R8
+
+pub poll-back : (a : PollAnswer) → pollBack (saysPoll a) ≡ a
+unfolding pollBack pick
+poll-back (M.Sent n) = refl
+poll-back M.R17 = refl
+poll-back M.R8 = refl
+
+pub poll-one : (a b : PollAnswer) → saysPoll a ≡ saysPoll b → a ≡ b
+poll-one = back-one saysPoll pollBack poll-back
+
 -- ---- two results that both meet a call's contract are equal
 
 pub fresh-determined : (a b : Controller) → Freshens a → Freshens b → a ≡ b
@@ -167,3 +184,8 @@ request-determined c s old new new' a b p q = (
       (same (p .next) (q .next)) (reply-one (a .answer) (b .answer) (same (p .says) (q .says))),
   same (p .left) (q .left),
 )
+
+pub modbus-determined : (c : Controller) (frame old new new' : List ℕ) (a b : Polled) → Polls c frame old new a → Polls c frame old new' b → (a ≡ b) × (new ≡ new')
+modbus-determined c frame old new new' a b p q =
+    let f = fills-one (p .fills) (q .fills) in
+    (ap₂ {C = Polled} (λ (d : Controller) (x : PollAnswer). record { next = d; answer = x }) (same (p .next) (q .next)) (poll-one (a .answer) (b .answer) (f .0)), f .1)

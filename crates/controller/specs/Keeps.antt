@@ -29,13 +29,14 @@ use Rattle.counters.specs.Laws.{after-storable}
 use Rattle.scale.specs.Scale.{filtered, none, overCapacity}
 use Rattle.scale.specs.Laws.{within-at, empty-within, calm-after-most}
 use Rattle.asking.specs.Asking.{Asked, askOf}
-use Rattle.controller.specs.State.{restarted, withZ}
-use Rattle.controller.specs.Tick.{Result, step8, step7, seenOf, wOf, tickOf}
+use Rattle.controller.specs.State.{restarted, withZ, withUnstarted}
+use Rattle.controller.specs.Tick.{Result, step8, step7, seenOf, wOf, unstartedOf, tickOf}
 use Rattle.controller.specs.Calls.{isReady, storedBad, restartOf, freshOf, noSet, noController, taken, settingsAnswer, after, settingsOf, resetAnswer, resetOf, linkOf}
 use Rattle.controller.specs.Line.{timely, timeOf, zeroable, mayZero, zeroOf, allowed, askedOf, zeroedBy, replied, repliesTo, requestOf}
-use Rattle.controller.specs.Sound.{Sound, Abandoned}
-use Rattle.controller.specs.Setters.{zero-sound, counters-sound}
+use Rattle.controller.specs.Sound.{Sound, Abandoned, Waited}
+use Rattle.controller.specs.Setters.{zero-sound, counters-sound, unstarted-sound}
 use Rattle.controller.specs.Ways.{tick-ways, clear-watched}
+use Rattle.controller.specs.Waiting.{step-waited, low-waited}
 use Rattle.controller.specs.Bounds.{clear-faulted, ready-is}
 use Rattle.controller.specs.declared.Controller.{Controller}
 use Rattle.controller.specs.declared.Condition.{Condition}
@@ -52,6 +53,7 @@ pub record Follows (c : Controller) (m : Moved) : Type 0 where
   pub phase : belongs (c .set .algorithm) (m .phase) ≡ true
   pub kept : Kept (m .z .v) (m .phase)
   pub gates : m .gates ≡ gatesOf (c .set) (m .phase)
+  pub unstarted : Waited (c .unstarted) (c .condition) (m .phase) (c .set) (c .f .v -ℤ m .z .v)
 
 abandoned-clear : (k : Condition) (p : Phase) (four : Bool) → k ≡ Clear → Abandoned k p four
 abandoned-clear Clear p four e = tt
@@ -67,9 +69,10 @@ step8-sound c m s e f =
 
 -- ---- step 7
 
-pub step-follows : (c : Controller) (start : Bool) → Sound c → Follows c (stepOf (c .set) (c .phase) (seenOf c start))
+-- what the phase rule makes of c, where b tells whether the tick waited for start
+pub step-follows : (c : Controller) (start : Bool) → Sound c → (b : Bool) → (let m = stepOf (c .set) (c .phase) (seenOf c start) in Waited b (c .condition) (m .phase) (c .set) (c .f .v -ℤ m .z .v)) → Follows (withUnstarted b c) (stepOf (c .set) (c .phase) (seenOf c start))
 unfolding seenOf wOf
-step-follows c start s =
+step-follows c start s b w =
     let r = good-ranges (c .set) (s .set) in
     let t = seenOf c start in
     record {
@@ -77,11 +80,16 @@ step-follows c start s =
       phase = step-belongs (c .set) (c .phase) t (s .phase);
       kept = step-kept (c .set) (c .phase) t r (s .previous) refl (s .kept);
       gates = step-gates (c .set) (c .phase) t;
+      unstarted = w;
     }
 
 pub step7-sound : (c : Controller) (start : Bool) → Sound c → c .condition ≡ Clear → Sound (step7 c start .next)
-unfolding step7
-step7-sound c start s e = step8-sound c (stepOf (c .set) (c .phase) (seenOf c start)) s e (step-follows c start s)
+unfolding step7 seenOf wOf
+step7-sound c start s e =
+    let m = stepOf (c .set) (c .phase) (seenOf c start) in
+    let b = unstartedOf (c .phase) start (m .phase) in
+    let w = step-waited (c .set) (c .phase) (seenOf c start) (c .condition) e refl b refl in
+    step8-sound (withUnstarted b c) m (unstarted-sound c s b (w .0)) e (step-follows c start s b (w .1))
 
 -- a tick keeps `Sound`
 pub tick-sound : (c : Controller) (x : ℤ) (i : ℕ) → Sound c → Sound (tickOf c x i .next)
@@ -192,8 +200,10 @@ zeroed-sound c s e h =
     let f = filtered (c .window) (c .set .p8) in
     let al = leb (c .set .algorithm) 1 in
     let held = not (none (samplesOf (c .window))) in
-    let z = near-most (c .set) f (good-ranges (c .set) (s .set)) (and-left al held (and-left (al && held) _ h)) (and-right (al && held) _ h) in
-    zero-sound c s (units f) z (rw (ready-is c e .1) tt)
+    let low = and-left al held (and-left (al && held) _ h) in
+    let z = near-most (c .set) f (good-ranges (c .set) (s .set)) low (and-right (al && held) _ h) in
+    let waited = low-waited (c .unstarted) (c .condition) (c .phase) (c .set) _ (c .f .v -ℤ f) low (s .unstarted) in
+    zero-sound c s (units f) z (rw (ready-is c e .1) tt) waited
 
 replies-sound : (c : Controller) (room : ℕ) (a : Answer Asked) → Sound c
     → ((x : Asked) → a ≡ done x → eqb (x .operation) 0xC0 ≡ true → (isReady c ≡ true) × (zeroable (c .set) (c .window) ≡ true))

@@ -2,6 +2,7 @@ pub mod State
 pub mod Tick
 pub mod Calls
 pub mod Line
+pub mod Modbus
 pub mod Sound
 pub mod Says
 pub mod Stages
@@ -13,7 +14,9 @@ pub mod Parts
 pub mod Bounds
 pub mod Setters
 pub mod Ways
+pub mod Waiting
 pub mod Keeps
 pub mod Promises
 pub mod Determined
 pub mod OutsideLaws
+pub mod ModbusLaws

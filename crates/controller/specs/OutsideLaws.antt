@@ -25,13 +25,12 @@ use Rattle.dosing.specs.declared.Seen.{Seen}
 use Rattle.dosing.specs.declared.Dose.{Dose}
 use Rattle.dosing.specs.declared.Dose.the-variants.{Nothing, Complete}
 use Rattle.dosing.specs.declared.Moved.{Moved}
-use Rattle.controller.specs.State.{withInputs}
+use Rattle.controller.specs.State.{withInputs, withUnstarted}
 use Rattle.counters.specs.Counters.{countersAfter, recordsOf}
 use Rattle.counters.specs.Laws.{countedIn, Tells, amountsIn, counts-in, tells-one}
 use Rattle.counters.specs.declared.Counters.{Counters}
 use Rattle.scale.specs.Scale.{outside, filtered, filterOf}
-use Rattle.controller.specs.Tick.{Result, Told, still, saysFault, faulted, step8, wOf, seenOf, step7, mismatched, steps6to8, steps4and5, step3, step2, tickOf}
-use Rattle.controller.specs.Calls.{atReady}
+use Rattle.controller.specs.Tick.{Result, Told, still, saysFault, faulted, step8, wOf, seenOf, step7, mismatched, steps6to8, steps4and5, step3, step2, tickOf, atReady}
 use Rattle.controller.specs.Sound.{Sound}
 use Rattle.controller.specs.Outside.{wAt, clear, inDoseSettle, shuts3, leavesSettle, completes, Noted, begins, opens3, noted, amountSeen, dosesSeen, Agrees}
 use Rattle.controller.specs.declared.Controller.{Controller}
@@ -277,7 +276,7 @@ module _ (c : Controller) (x : ℤ) (i : ℕ) (m : Noted) (s : Sound c) (a : Agr
   unfolding filtered
   kept-mean f e = e ∙ ap (λ (l : List ℤ). meanOf (take (filterOf (c .set) (c .gates)) l)) (samples-push (c .window) x (s .places))
 
-  steps4to8-shown : c .condition ≡ Clear → Shown c x i m (steps4and5 (withInputs i c) x)
+  steps4to8-shown : c .condition ≡ Clear → Shown c x i m (steps4and5 (withUnstarted false (withInputs i c)) x)
   unfolding steps4and5 steps6to8 step7 seenOf wOf
   steps4to8-shown k =
       mismatched-shown c x i m _ _ _ refl refl

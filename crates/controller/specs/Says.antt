@@ -5,13 +5,14 @@ use mathlib.Core.List.{List, [], _∷_}
 use Prim.Native.Nat.{ℕ}
 use lib.IntN.{ℤ}
 use lib.ListN.{length}
-use Rattle.paper.specs.Answer.{Answer, done, refused, told, leaves}
-use Rattle.paper.specs.Numbers.{R1, R2, R3, R4, R5, R6, R7, R8, R9, R15}
+use Rattle.paper.specs.Answer.{Answer, done, refused, told, leaves, Fills}
+use Rattle.paper.specs.Numbers.{R1, R2, R3, R4, R5, R6, R7, R8, R9, R15, R17}
 use Rattle.settings.specs.declared.Settings.{Settings}
 use Rattle.counters.specs.declared.Counters.{Counters}
 use Rattle.controller.specs.Tick.{Told, saysFault, tickOf}
 use Rattle.controller.specs.Calls.{freshOf, restartOf, controllerIn, settingsOf, resetOf, linkOf}
 use Rattle.controller.specs.Line.{Replied, requestOf}
+use Rattle.controller.specs.Modbus.{modbusOf}
 use Rattle.controller.specs.Sound.{Sound}
 use Rattle.controller.specs.Made.{Made}
 use Rattle.controller.specs.declared.Controller.{Controller}
@@ -31,6 +32,9 @@ use Rattle.controller.specs.declared.Restarted.{Restarted}
 use Rattle.controller.specs.declared.RequestAnswer.{RequestAnswer}
 use Rattle.controller.specs.declared.RequestAnswer.the-variants as P
 use Rattle.controller.specs.declared.Requested.{Requested}
+use Rattle.controller.specs.declared.PollAnswer.{PollAnswer}
+use Rattle.controller.specs.declared.PollAnswer.the-variants as M
+use Rattle.controller.specs.declared.Polled.{Polled}
 
 -- ---- the answers
 
@@ -64,6 +68,12 @@ saysReply (P.R7 place) = refused R7 (place ∷ [])
 saysReply (P.R3 place) = refused R3 (place ∷ [])
 saysReply (P.R4 place) = refused R4 (place ∷ [])
 saysReply (P.R8 place) = refused R8 (place ∷ [])
+
+-- the reply's length; R17 and R8 have no place
+abbrev pub saysPoll : PollAnswer → Answer ℕ
+saysPoll (M.Sent len) = done len
+saysPoll M.R17 = refused R17 []
+saysPoll M.R8 = refused R8 []
 
 -- ---- the contracts: the next controller, the answer and the lent memory are the rule's, and the next controller is sound
 
@@ -112,4 +122,9 @@ pub record Replies (c : Controller) (s old new : List ℕ) (r : Requested) : Typ
   pub next : r .next ≡ requestOf c s (length old) .next
   pub says : saysReply (r .answer) ≡ told placeAndLength (requestOf c s (length old) .answer)
   pub left : new ≡ leaves (told bytesOf (requestOf c s (length old) .answer)) old
+  pub sound : Sound (r .next)
+
+pub record Polls (c : Controller) (frame old new : List ℕ) (r : Polled) : Type 0 where
+  pub next : r .next ≡ modbusOf c frame (length old) .next
+  pub fills : Fills (saysPoll (r .answer)) (modbusOf c frame (length old) .answer) old new
   pub sound : Sound (r .next)

@@ -35,6 +35,7 @@ restarted set count total =
       inputs = 0;
       condition = Clear;
       counters = counters count total;
+      unstarted = false;
     }
 
 -- ---- one setter a field
@@ -55,6 +56,7 @@ withSet x c =
       inputs = c .inputs;
       condition = c .condition;
       counters = c .counters;
+      unstarted = c .unstarted;
     }
 
 abbrev pub withWindow : Window → Controller → Controller
@@ -73,6 +75,7 @@ withWindow x c =
       inputs = c .inputs;
       condition = c .condition;
       counters = c .counters;
+      unstarted = c .unstarted;
     }
 
 abbrev pub withZ : Units → Controller → Controller
@@ -91,6 +94,7 @@ withZ x c =
       inputs = c .inputs;
       condition = c .condition;
       counters = c .counters;
+      unstarted = c .unstarted;
     }
 
 abbrev pub withF : Units → Controller → Controller
@@ -109,6 +113,7 @@ withF x c =
       inputs = c .inputs;
       condition = c .condition;
       counters = c .counters;
+      unstarted = c .unstarted;
     }
 
 abbrev pub withS : ℕ → Controller → Controller
@@ -127,6 +132,7 @@ withS x c =
       inputs = c .inputs;
       condition = c .condition;
       counters = c .counters;
+      unstarted = c .unstarted;
     }
 
 abbrev pub withRuns : Runs → Controller → Controller
@@ -145,6 +151,7 @@ withRuns x c =
       inputs = c .inputs;
       condition = c .condition;
       counters = c .counters;
+      unstarted = c .unstarted;
     }
 
 abbrev pub withPhase : Phase → Controller → Controller
@@ -163,6 +170,7 @@ withPhase x c =
       inputs = c .inputs;
       condition = c .condition;
       counters = c .counters;
+      unstarted = c .unstarted;
     }
 
 abbrev pub withGates : Gates → Controller → Controller
@@ -181,6 +189,7 @@ withGates x c =
       inputs = c .inputs;
       condition = c .condition;
       counters = c .counters;
+      unstarted = c .unstarted;
     }
 
 abbrev pub withAlarm : Bool → Controller → Controller
@@ -199,6 +208,7 @@ withAlarm x c =
       inputs = c .inputs;
       condition = c .condition;
       counters = c .counters;
+      unstarted = c .unstarted;
     }
 
 abbrev pub withLink : Bool → Controller → Controller
@@ -217,6 +227,7 @@ withLink x c =
       inputs = c .inputs;
       condition = c .condition;
       counters = c .counters;
+      unstarted = c .unstarted;
     }
 
 abbrev pub withInputs : ℕ → Controller → Controller
@@ -235,6 +246,7 @@ withInputs x c =
       inputs = x;
       condition = c .condition;
       counters = c .counters;
+      unstarted = c .unstarted;
     }
 
 abbrev pub withCondition : Condition → Controller → Controller
@@ -253,6 +265,7 @@ withCondition x c =
       inputs = c .inputs;
       condition = x;
       counters = c .counters;
+      unstarted = c .unstarted;
     }
 
 abbrev pub withCounters : Counters → Controller → Controller
@@ -271,4 +284,24 @@ withCounters x c =
       inputs = c .inputs;
       condition = c .condition;
       counters = x;
+      unstarted = c .unstarted;
+    }
+
+abbrev pub withUnstarted : Bool → Controller → Controller
+withUnstarted x c =
+    record {
+      set = c .set;
+      window = c .window;
+      z = c .z;
+      f = c .f;
+      s = c .s;
+      runs = c .runs;
+      phase = c .phase;
+      gates = c .gates;
+      alarm = c .alarm;
+      link = c .link;
+      inputs = c .inputs;
+      condition = c .condition;
+      counters = c .counters;
+      unstarted = x;
     }

@@ -167,6 +167,7 @@ fn restarted(set: Settings, count: u32, total: u32) -> Controller
             count: count,
             total: total,
         },
+        unstarted: false,
     }
 }
 
@@ -197,7 +198,7 @@ fn no_controller() -> Controller
     restarted(set, 0, 0)
 }
 
-// The filter is emptied, Z is 0 and the runs are cleared; all else is kept.
+// The filter is emptied, Z is 0, the runs are cleared and no tick was the last; all else is kept.
 fn taken(set: Settings, mut c: Controller) -> Controller
     ensures { λ r. ⌜ r ≡ taken set c ⌝ }
 {
@@ -214,5 +215,6 @@ fn taken(set: Settings, mut c: Controller) -> Controller
     c.f = zero;
     c.s = 0;
     c.runs = runs;
+    c.unstarted = false;
     c
 }

@@ -1,6 +1,7 @@
-// The controller: fresh, restarted, tick, link start, settings, counter reset, counters, line request.
+// The controller: fresh, restarted, tick, link start, settings, counter reset, counters, line request, MODBUS frame.
 mod calls;
 mod line;
+mod panel;
 mod tick;
 
 use channels::Runs;
@@ -15,6 +16,7 @@ ghost use mathlib.Core.Path.{_≡_};
 ghost use lib.IntN.{_-ℤ_};
 ghost use Rattle.dosing.specs.Rules.{units};
 ghost use Rattle.controller.specs.Calls.{readyIn};
+ghost use Rattle.controller.specs.Tick.{atReady};
 ghost use Rattle.controller.specs.Parts.{Small};
 
 // F14 names its channel.
@@ -52,6 +54,8 @@ pub struct Controller {
     pub inputs: u8,
     pub condition: Condition,
     pub counters: Counters,
+    // The last tick began and ended in Ready with start off, and no set or restart came since.
+    pub unstarted: bool,
 }
 
 // What a tick answers: the outputs, with the dose record if one completed; or the fault; or R1.
@@ -124,6 +128,19 @@ pub struct Requested {
     pub answer: RequestAnswer,
 }
 
+// What a MODBUS frame answers: the reply's length, 0 where there is none, or a refusal.
+pub enum PollAnswer {
+    Sent(usize),
+    R17,
+    R8,
+}
+
+// The controller after a MODBUS frame, and the answer.
+pub struct Polled {
+    pub next: Controller,
+    pub answer: PollAnswer,
+}
+
 // The phase is Ready, and there is no fault.
 fn is_ready(condition: Condition, phase: Phase) -> bool
     ensures { λ r. ⌜ r ≡ readyIn condition phase ⌝ }
@@ -131,6 +148,13 @@ fn is_ready(condition: Condition, phase: Phase) -> bool
     let Condition::Clear = condition else {
         return false;
     };
+    at_ready(phase)
+}
+
+// The phase is Ready.
+fn at_ready(phase: Phase) -> bool
+    ensures { λ r. ⌜ r ≡ atReady phase ⌝ }
+{
     match phase {
         Phase::Ready => true,
         _ => false,

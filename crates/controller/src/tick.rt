@@ -4,6 +4,7 @@ use crate::Controller;
 use crate::Fault;
 use crate::TickAnswer;
 use crate::Ticked;
+use crate::at_ready;
 use crate::weight;
 use channels::Watch;
 use counters::Counters;
@@ -20,7 +21,7 @@ ghost use Rattle.dosing.specs.Rules.{units};
 ghost use Rattle.scale.specs.Scale.{stableOf};
 ghost use Rattle.counters.specs.Counters.{recordsOf};
 ghost use Rattle.controller.specs.State.{withInputs};
-ghost use Rattle.controller.specs.Tick.{faulted, step7, steps6to8, steps4and5, step3};
+ghost use Rattle.controller.specs.Tick.{unstartedOf, faulted, step7, steps6to8, steps4and5, step3};
 ghost use Rattle.controller.specs.Sound.{Sound};
 ghost use Rattle.controller.specs.Says.{Ticks, saysTick};
 ghost use Rattle.controller.specs.Parts.{Gives, Small, Takes};
@@ -104,13 +105,14 @@ fn steps7and8(c: Controller, start: bool) -> Ticked
     requires { ⌜ Small (c .f) (c .z) ⌝ }
     ensures { λ r. ⌜ Gives (step7 c start) r ⌝ }
 {
-    let phase = c.phase;
+    let began = c.phase;
     let seen = seen_of(c.set, c.f, c.z, c.s, start);
-    let moved = dosing::step(c.set, phase, seen);
+    let moved = dosing::step(c.set, began, seen);
     let phase = moved.phase;
     let z = moved.z;
     let gates = moved.gates;
     let dose = moved.dose;
+    let unstarted = is_unstarted(began, start, phase);
     let alarm = scale::over_capacity(c.set, c.f, z);
     let s = scale::calm_after(c.gates, gates, c.s);
     let counters = counters::counters_after(c.counters, dose);
@@ -122,9 +124,17 @@ fn steps7and8(c: Controller, start: bool) -> Ticked
         gates,
         alarm,
         counters,
+        unstarted,
         ..c
     };
     Ticked { next, answer }
+}
+
+// The tick began and ended in Ready with start off.
+fn is_unstarted(began: Phase, start: bool, ended: Phase) -> bool
+    ensures { λ r. ⌜ r ≡ unstartedOf began start ended ⌝ }
+{
+    at_ready(began) & !start & at_ready(ended)
 }
 
 // From step 6 on: the lowest channel whose run reached its limit is F14, else the phase rule.
@@ -162,6 +172,7 @@ fn step3(mut c: Controller, x: Units, inputs: u8) -> Ticked
     requires { ⌜ Sound c × (c .condition ≡ Condition.Clear) ⌝ }
     ensures { λ r. ⌜ Gives (step3 c (x .v) inputs) r ⌝ }
 {
+    c.unstarted = false;
     if scale::is_outside(x) {
         c.inputs = inputs;
         return faulted(Fault::F21, c);

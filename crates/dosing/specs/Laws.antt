@@ -370,7 +370,7 @@ unfolding settleEnds
 settle-later set n stable h = leb-false (256 * set .p9) n (or-right stable (leb (256 * set .p9) n) h)
 
 -- a difference is that of the weights on the scale
-shift : (a b z : ℤ) → (a +ℤ z) -ℤ (b +ℤ z) ≡ a -ℤ b
+pub shift : (a b z : ℤ) → (a +ℤ z) -ℤ (b +ℤ z) ≡ a -ℤ b
 shift a b z =
     ap (λ (x : ℤ). (a +ℤ z) +ℤ x) (negℤ-+ℤ b z ∙ +ℤ-comm (negℤ b) (negℤ z))
     ∙ +ℤ-assoc a z (negℤ z +ℤ negℤ b)

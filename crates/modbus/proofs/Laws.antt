@@ -1,4 +1,4 @@
--- What a turn of a loop leaves of the rest, what is stored of a body and its CRC, which registers are asked, and what is not heard by all. Assumes nothing.
+-- What a turn of a loop leaves of the rest, what is stored of a body and its CRC, which registers are asked, what is not heard by all, and what sets no link start. Assumes nothing.
 use mathlib.Core.Path.{_≡_, refl, sym, ap, ap₂, _∙_}
 use mathlib.Core.Bool.{Bool, true, false}
 use mathlib.Core.List.{List, [], _∷_}
@@ -20,7 +20,7 @@ use Rattle.paper.specs.Numbers.{R8, R17}
 use Rattle.modbus.specs.Crc.{shift, shifts, enter, enterAll, crc, crcBytes, sealed}
 use Rattle.modbus.specs.CrcLaws.{sealed-length}
 use Rattle.modbus.specs.Asks.{heardByAll}
-use Rattle.modbus.specs.Replies.{wordBytes}
+use Rattle.modbus.specs.Replies.{wordBytes, linkAfter}
 use Rattle.modbus.specs.Says.{asksOf}
 use Rattle.modbus.specs.declared.Ask.{Ask}
 use Rattle.modbus.specs.declared.Ask.the-variants as A
@@ -111,3 +111,10 @@ unfolding heardByAll
 not-link (A.Registers start quantity) h = refl
 not-link (A.Link on) h = absurd (miss (0 ∷ 2 ∷ []) 1 tt h)
 not-link (A.Exception function number) h = refl
+
+-- and only a link start changes it
+pub not-write : (a : Ask) (now : Bool) → OneOf (0 ∷ 2 ∷ []) (tagOf ask-type a) → now ≡ linkAfter (asksOf a) now
+unfolding linkAfter
+not-write (A.Registers start quantity) now h = refl
+not-write (A.Link on) now h = absurd (miss (0 ∷ 2 ∷ []) 1 tt h)
+not-write (A.Exception function number) now h = refl

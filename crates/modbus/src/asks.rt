@@ -1,5 +1,6 @@
 // What a frame asks.
 use crate::Ask;
+use crate::Asked;
 use crate::Hearing;
 use crate::LINK;
 use crate::REGISTERS;
@@ -104,12 +105,12 @@ fn heard_by(everyone: bool, ask: Ask) -> Hearing
     ensures { λ r. ⌜ saysHearing r ≡ heardBy everyone (asksOf ask) ⌝ }
 {
     if !everyone {
-        return Hearing::Ours(ask);
+        return Hearing::Asked(Asked::Ours(ask));
     }
     let Ask::Link(on) = ask else {
         return Hearing::R17;
     };
-    Hearing::ForAll(on)
+    Hearing::Asked(Asked::ForAll(on))
 }
 
 // What a frame asks of the slave with an address, or R17.

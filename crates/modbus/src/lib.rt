@@ -5,7 +5,8 @@ mod replies;
 
 pub use asks::hear;
 pub use crc::crc16;
-pub use replies::reply;
+pub use replies::link_after;
+pub use replies::serve;
 
 // The registers are 0 to 10.
 const REGISTERS: usize = 11;
@@ -20,14 +21,19 @@ pub enum Ask {
     Exception { function: u8, number: u8 },
 }
 
-// What is heard in a frame: what it asks of this slave, a link start for all, or nothing.
-pub enum Hearing {
+// Whom a frame asks: this slave alone, or all, which is a link start.
+pub enum Asked {
     Ours(Ask),
     ForAll(bool),
+}
+
+// What is heard in a frame: what it asks, or nothing.
+pub enum Hearing {
+    Asked(Asked),
     R17,
 }
 
-// What a reply answers: its length, or that the buffer is too short.
+// What serving answers: the reply's length, or that the buffer is too short.
 pub enum Sent {
     Bytes(usize),
     R8,

@@ -1,5 +1,6 @@
 // Replies, each sealed with its CRC.
 use crate::Ask;
+use crate::Asked;
 use crate::REGISTERS;
 use crate::Sent;
 use crate::crc;
@@ -7,8 +8,8 @@ ghost use mathlib.Core.Path.{_≡_};
 ghost use Prim.Native.Nat.{_+_, _*_, _≤_, min};
 ghost use lib.ListN.{length};
 ghost use lib.Seq.{sets};
-ghost use Rattle.modbus.specs.Replies.{wordBytes, topBit, registersBody, linkBody, exceptionBody};
-ghost use Rattle.modbus.specs.Says.{Seals, Sends};
+ghost use Rattle.modbus.specs.Replies.{wordBytes, topBit, registersBody, linkBody, exceptionBody, linkAfter};
+ghost use Rattle.modbus.specs.Says.{asksOf, Seals, Sends, Serves, Links};
 
 // Puts bytes at the buffer's start.
 fn put_bytes(out: &mut [u8], bytes: &[u8])
@@ -103,7 +104,7 @@ fn before(place: usize) -> usize
 }
 
 // Writes the reply to what was asked into a lent buffer, or R8; the words are the registers 0 to 10.
-pub fn reply(address: u8, words: [u16; 11], ask: Ask, out: &mut [u8]) -> Sent
+fn reply(address: u8, words: [u16; 11], ask: Ask, out: &mut [u8]) -> Sent
     ensures { λ r. ⌜ Sends address words ask (now (out .entry)) (now (out .exit)) r ⌝ }
 {
     match ask {
@@ -115,4 +116,34 @@ pub fn reply(address: u8, words: [u16; 11], ask: Ask, out: &mut [u8]) -> Sent
         Ask::Link(on) => send_link(address, on, out),
         Ask::Exception { function, number } => send_exception(address, function, number, out),
     }
+}
+
+// Serves what was asked: a link start for all has no reply, whatever the buffer; all else has one, or R8.
+pub fn serve(address: u8, words: [u16; 11], asked: Asked, out: &mut [u8]) -> Sent
+    ensures { λ r. ⌜ Serves address words asked (now (out .entry)) (now (out .exit)) r ⌝ }
+{
+    let Asked::Ours(ask) = asked else {
+        return Sent::Bytes(0);
+    };
+    reply(address, words, ask, out)
+}
+
+// The link start after what was asked: a write sets or clears it, and nothing else does.
+pub fn link_after(asked: Asked, now: bool) -> bool
+    ensures { λ r. ⌜ Links asked now r ⌝ }
+{
+    match asked {
+        Asked::Ours(ask) => link_by(ask, now),
+        Asked::ForAll(on) => on,
+    }
+}
+
+// The link start after what was asked of this slave.
+fn link_by(ask: Ask, now: bool) -> bool
+    ensures { λ r. ⌜ r ≡ linkAfter (asksOf ask) now ⌝ }
+{
+    if let Ask::Link(on) = ask {
+        return on;
+    }
+    now
 }

@@ -93,6 +93,17 @@ calm-after-most old new s h = pick-all (λ (k : ℕ). k ≤ 4032) _ (omega arith
 pub weight-within : (f z : ℤ) → natAbs f ≤ 900000 → natAbs z ≤ 24998 → natAbs (f -ℤ z) ≤ 924998
 weight-within f z a b = omega (arith, abs-sub f z)
 
+from-within : (empty : Bool) (set : Settings) (s : ℕ) (w : ℤ) → natAbs w ≤ 924998 → natAbs (weightFrom empty set s w .value) ≤ 924998
+unfolding weightFrom
+from-within true set s w h = omega arith
+from-within false set s w h = h
+
+-- weights stay within 924,998
+pub value-within : (set : Settings) (window : Window) (z : Units) (s n : ℕ) → Within 900000 (samplesOf window) → natAbs (z .v) ≤ 24998 → natAbs (weightBy set window z s n .value) ≤ 924998
+unfolding weightBy
+value-within set window z s n all h =
+    from-within (none (samplesOf window)) set s _ (weight-within (filtered window n) (z .v) (filtered-within window n all) h)
+
 from-writable : (empty : Bool) (set : Settings) (s : ℕ) (w : ℤ) → set .point ≤ 7 → natAbs w ≤ 924998 → writable (weightFrom empty set s w) ≡ true
 unfolding weightFrom
 from-writable true set s w p h = small-writable (weightFrom true set s w) (omega arith) (omega arith)

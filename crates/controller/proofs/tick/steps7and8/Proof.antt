@@ -8,6 +8,9 @@ seen-of-requires c κs = c .pre
 step-requires : tie.Need-step-requires
 step-requires c κs = tt
 
+is-unstarted-requires : tie.Need-is-unstarted-requires
+is-unstarted-requires c κs = tt
+
 over-capacity-requires : tie.Need-over-capacity-requires
 over-capacity-requires c κs = tt
 
@@ -28,9 +31,10 @@ returns c =
     let a = c .before .before .before .before in
     let n = a .before .before in
     let o = n .before .before in
-    let m = o .before .before .before in
+    let u = o .before in
+    let m = u .before .before .before in
     let p = m .before .before in
-    steps-7-8 (p .args .c) (p .args .start) (m .before .seen-of .ensures) (m .step .ensures) (o .over-capacity .ensures) (n .before .calm-after .ensures) (n .counters-after .ensures) (a .before .outputs-of .ensures) (a .answer-of .ensures)
+    steps-7-8 (p .args .c) (p .args .start) (m .before .seen-of .ensures) (m .step .ensures) (u .is-unstarted .ensures) (o .over-capacity .ensures) (n .before .calm-after .ensures) (n .counters-after .ensures) (a .before .outputs-of .ensures) (a .answer-of .ensures)
 
 pub steps7and8-spec : {M : Type 1} → statement M
 steps7and8-spec =
@@ -38,6 +42,7 @@ steps7and8-spec =
     (tie.spec
     seen-of-requires
     step-requires
+    is-unstarted-requires
     over-capacity-requires
     calm-after-requires
     counters-after-requires

@@ -1,0 +1,95 @@
+-- R17, then the reply or R8.
+use mathlib.Core.Path.{ap, _∙_}
+use Prim.Native.Nat.{_≤_}
+use borrow.Author.Needs.{needs}
+use Rattle.settings.specs.Good.{good-ranges}
+use Rattle.registers.specs.Registers.{tableOf}
+use Rattle.controller.proofs.Panels.{silent, too-short, replied-to}
+use Rattle.controller.proofs.Controller.modbus.Statement.{statement}
+use Rattle.controller.proofs.Controller.modbus.Tie as tie
+
+-- an address is a byte
+cast-address : tie.Need-cast-address
+cast-address c =
+    let p = c .before .before .before in
+    let small : p .args .self .set .address ≤ 127 = good-ranges _ (p .pre .set) .address .1 in
+    search needs
+
+hear-requires : tie.Need-hear-requires
+hear-requires c κs = tt
+
+enum-known-asked : tie.Need-enum-known-asked
+enum-known-asked c = search needs
+
+enum-told : tie.Need-enum-told
+enum-told c = search needs
+
+-- R17
+returns : tie.Need-returns
+returns c =
+    let h = c .before .before in
+    silent _ _ _ (h .before .before .before .before .pre) (h .hear .result) (h .hear .ensures) (c .enum-told .given .1)
+
+values-of-requires : tie.Need-values-of-requires
+values-of-requires c κs = c .before .before .before .before .before .before .before .pre
+
+words-requires : tie.Need-words-requires
+words-requires c κs = tt
+
+serve-requires : tie.Need-serve-requires
+serve-requires c κs = tt
+
+enum-known-len : tie.Need-enum-known-len
+enum-known-len c = search needs
+
+enum-told-2 : tie.Need-enum-told-2
+enum-told-2 c = search needs
+
+same-length : tie.Need-same-length
+same-length c = search needs
+
+-- R8
+returns-2 : tie.Need-returns-2
+returns-2 c =
+    let w = c .before .before .before .before in
+    let t = w .before .before in
+    let a = t .before .before .before in
+    let h = a .before .before in
+    too-short _ _ _ (h .before .before .before .before .pre) (h .hear .result) (h .hear .ensures) (a .asked .given .0 .0) (a .asked .given .1)
+    (t .words .ensures ∙ ap tableOf (t .before .values-of .ensures)) (w .serve .result) (w .serve .ensures) (c .enum-told2 .given .1)
+
+link-after-requires : tie.Need-link-after-requires
+link-after-requires c κs = tt
+
+same-length-2 : tie.Need-same-length-2
+same-length-2 c = search needs
+
+returns-3 : tie.Need-returns-3
+returns-3 c =
+    let l = c .before .before in
+    let w = l .before .before .before .before in
+    let t = w .before .before in
+    let a = t .before .before .before in
+    let h = a .before .before in
+    replied-to _ _ _ (h .before .before .before .before .pre) (h .hear .result) (h .hear .ensures) (a .asked .given .0 .0) (a .asked .given .1)
+    (t .words .ensures ∙ ap tableOf (t .before .values-of .ensures)) (w .serve .result) (w .serve .ensures) (l .len .given .1) (c .link-after .ensures)
+
+pub modbus-spec : {M : Type 1} → statement M
+modbus-spec =
+    tie.close
+    (tie.spec
+    cast-address
+    hear-requires
+    enum-known-asked
+    enum-told
+    returns
+    values-of-requires
+    words-requires
+    serve-requires
+    enum-known-len
+    enum-told-2
+    same-length
+    returns-2
+    link-after-requires
+    same-length-2
+    returns-3)
