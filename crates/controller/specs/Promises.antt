@@ -54,9 +54,9 @@ unfolding step7 step8 seenOf wOf
 step7-recordable c start t s e =
     let m = stepOf (c .set) (c .phase) (seenOf c start) in
     let after = countersAfter (c .counters) (m .dose) in
-    let same : recordsOf after (m .dose) ≡ t .doses = cc in
+    let same : recordsOf (c .set .product) after (m .dose) ≡ t .doses = cc in
     rw (sym same)
-    (records-recordable after (m .dose) (after-storable (c .counters) (m .dose) (record { count = s .count; total = s .total }) .count)
+    (records-recordable (c .set .product) after (m .dose) (good-ranges (c .set) (s .set) .product) (after-storable (c .counters) (m .dose) (record { count = s .count; total = s .total }) .count)
     (step-amount (c .set) (c .phase) (seenOf c start) (good-ranges (c .set) (s .set)) (s .previous) refl (s .kept)))
 
 fault-undone : {X Q : Type 0} (why : Fault) (x : X) → saysFault why ≡ done x → Q
