@@ -19,18 +19,20 @@ use Rattle.controller.specs.declared.RestartAnswer.{RestartAnswer}
 use Rattle.controller.specs.declared.RestartAnswer.the-variants as N
 use Rattle.controller.specs.declared.Restarted.{Restarted}
 use Rattle.controller.specs.declared.Requested.{Requested}
+use Rattle.controller.specs.declared.Polled.{Polled}
 use Rattle.controller.specs.Calls.{linkOf, restartOf}
 use Rattle.controller.specs.Line.{requestOf}
+use Rattle.controller.specs.Modbus.{modbusOf}
 use Rattle.controller.specs.Made.{Made}
-use Rattle.controller.specs.Says.{saysRestart, placeAndLength, bytesOf, Ticks, Sets, Resets, Restarts, Replies}
+use Rattle.controller.specs.Says.{saysRestart, placeAndLength, bytesOf, Ticks, Sets, Resets, Restarts, Replies, Polls}
 use Rattle.controller.specs.Sound.{Sound}
-use Rattle.series.specs.Events.{tick, link, settings, reset, restart, request, eventOf, run}
+use Rattle.series.specs.Events.{Event, tick, link, settings, reset, restart, request, modbus, eventOf, run}
 use Rattle.lines.specs.Places.{take-least}
 use Rattle.calls.specs.declared.Call as read
 use Rattle.calls.specs.declared.Call.the-variants as C
 use Rattle.calls.proofs.Call.{the-type as call-type}
 use Rattle.calls.specs.Reads.{asCall}
-use Rattle.acts.specs.Acts.{Ask, event, nothing, blank, askOf, askBy, eventsIn, ticked, taken, cleared, restarted, replied, saidAt, saidTo, leftAt, leftBy, lent}
+use Rattle.acts.specs.Acts.{Ask, event, nothing, blank, askOf, askBy, eventsIn, ticked, taken, cleared, restarted, replied, polled, saidAt, saidTo, leftAt, leftBy, lent}
 use Rattle.acts.specs.Makes.{saysAct, Makes, Acts, inUse, restart-kept}
 use Rattle.acts.specs.declared.Answer.the-variants as A
 use Rattle.acts.specs.declared.Acted.{Acted}
@@ -68,7 +70,7 @@ makes-restart {c} {d} {set} {count} {total} r s h e =
       sound = subst Sound (sym e) (in-use-sound (r .answer) c (r .next) s (h .sound));
     }
 
--- ---- the line request
+-- ---- a line request and a MODBUS frame
 
 pub least-left : {k : ℕ} (a b : ℕ) → k ≡ min a b → k ≤ a
 least-left a b e = subst (λ (n : ℕ). n ≤ a) (sym e) (min-le-left a b)
@@ -90,19 +92,44 @@ acts-part {c} t reply old part r k h =
       left = ap (λ (l : List ℕ). l ++ drop (length reply) old) (h .left ∙ ap (λ (n : ℕ). leaves (told bytesOf (requestOf c t n .answer)) (take (length reply) old)) room);
     }
 
-pub acts-request : {c : Controller} (s old part : List ℕ) (n room size most : ℕ) (r : Requested) → size ≡ min n (length s) → most ≡ min (length old) room → Replies c (take size s) (take most old) part r
-    → Acts c (event (request (take n s) (take (length old) (blank room)))) old (part ++ drop most old) (record { next = r .next; answer = A.Request (r .answer) })
-unfolding blank
-acts-request {c} s old part n room size most r e f h =
-    let reply : List ℕ = take (length old) (replicate room 0xA5) in
-    let k : length reply ≡ min (length old) room = length-take {A = ℕ} (length old) (replicate room 0xA5) ∙ ap (min (length old)) (length-replicate {A = ℕ} room 0xA5) in
-    let t : take size s ≡ take n s = ap (λ (m : ℕ). take m s) e ∙ take-least n s in
-    let m : most ≡ length reply = f ∙ sym k in
-    let few : length reply ≤ length old = subst (λ (x : ℕ). x ≤ length old) (sym k) (min-le-left (length old) room) in
-    subst (λ (x : ℕ). Acts c (event (request (take n s) reply)) old (part ++ drop x old) (record { next = r .next; answer = A.Request (r .answer) })) (sym m)
-    (acts-part (take n s) reply old part r few
-    (subst (λ (u : List ℕ). Replies c u (take (length reply) old) part r) t
-    (subst (λ (x : ℕ). Replies c (take size s) (take x old) part r) m h)))
+acts-polled : {c : Controller} (t reply old part : List ℕ) (r : Polled) → length reply ≤ length old → Polls c t (take (length reply) old) part r
+    → Acts c (event (modbus t reply)) old (part ++ drop (length reply) old) (record { next = r .next; answer = A.Modbus (r .answer) })
+unfolding eventsIn run eventOf saidTo saidAt saysAct leftBy leftAt
+acts-polled {c} t reply old part r k h =
+    let room : length (take (length reply) old) ≡ length reply = length-take-le (length reply) old k in
+    record {
+      makes = record {
+        next = h .next ∙ ap (λ (n : ℕ). modbusOf c t n .next) room;
+        says = ap polled (h .fills .says ∙ ap (λ (n : ℕ). told length (modbusOf c t n .answer)) room);
+        sound = h .sound;
+      };
+      left = ap (λ (l : List ℕ). l ++ drop (length reply) old) (h .fills .left ∙ ap (λ (n : ℕ). leaves (modbusOf c t n .answer) (take (length reply) old)) room);
+    }
+
+-- the first n bytes of what there is, and so much of the buffer as is asked for
+module _ {c : Controller} (s old part : List ℕ) (n room size most : ℕ) (e : size ≡ min n (length s)) (f : most ≡ min (length old) room) where
+  acts-lent : {a : Acted} (of : List ℕ → List ℕ → Event) (Met : List ℕ → List ℕ → Type 0)
+      → ((t reply : List ℕ) → length reply ≤ length old → Met t (take (length reply) old) → Acts c (event (of t reply)) old (part ++ drop (length reply) old) a)
+      → Met (take size s) (take most old) → Acts c (event (of (take n s) (take (length old) (blank room)))) old (part ++ drop most old) a
+  unfolding blank
+  acts-lent {a} of Met go h =
+      let reply : List ℕ = take (length old) (replicate room 0xA5) in
+      let k : length reply ≡ min (length old) room = length-take {A = ℕ} (length old) (replicate room 0xA5) ∙ ap (min (length old)) (length-replicate {A = ℕ} room 0xA5) in
+      let t : take size s ≡ take n s = ap (λ (m : ℕ). take m s) e ∙ take-least n s in
+      let m : most ≡ length reply = f ∙ sym k in
+      let few : length reply ≤ length old = subst (λ (x : ℕ). x ≤ length old) (sym k) (min-le-left (length old) room) in
+      subst (λ (x : ℕ). Acts c (event (of (take n s) reply)) old (part ++ drop x old) a) (sym m)
+      (go (take n s) reply few
+      (subst (λ (u : List ℕ). Met u (take (length reply) old)) t
+      (subst (λ (x : ℕ). Met (take size s) (take x old)) m h)))
+
+  pub acts-request : (r : Requested) → Replies c (take size s) (take most old) part r
+      → Acts c (event (request (take n s) (take (length old) (blank room)))) old (part ++ drop most old) (record { next = r .next; answer = A.Request (r .answer) })
+  acts-request r h = acts-lent request (λ (t o : List ℕ). Replies c t o part r) (λ t reply k p. acts-part t reply old part r k p) h
+
+  pub acts-modbus : (r : Polled) → Polls c (take size s) (take most old) part r
+      → Acts c (event (modbus (take n s) (take (length old) (blank room)))) old (part ++ drop most old) (record { next = r .next; answer = A.Modbus (r .answer) })
+  acts-modbus r h = acts-lent modbus (λ (t o : List ℕ). Polls c t o part r) (λ t reply k p. acts-polled t reply old part r k p) h
 
 -- ---- a call, by what it asks
 
@@ -121,15 +148,16 @@ unfolding eventsIn run saidTo saysAct leftBy
 acts-none s = record { makes = record { next = refl; says = refl; sound = s }; left = refl }
 
 -- the calls that need no box
-pub asks-nothing : (most : ℕ) (bytes : List ℕ) (call : read.Call) → OneOf (7 ∷ 8 ∷ 9 ∷ 10 ∷ 11 ∷ 12 ∷ 13 ∷ 14 ∷ 15 ∷ []) (tagOf call-type call) → lent most (askBy (asCall bytes call)) ≡ nothing
+pub asks-nothing : (most : ℕ) (bytes : List ℕ) (call : read.Call) → OneOf (8 ∷ 9 ∷ 10 ∷ 11 ∷ 12 ∷ 13 ∷ 14 ∷ 15 ∷ 16 ∷ []) (tagOf call-type call) → lent most (askBy (asCall bytes call)) ≡ nothing
 unfolding lent askBy askOf asCall
-asks-nothing most bytes (C.Tick x i) h = absurd (miss (7 ∷ 8 ∷ 9 ∷ 10 ∷ 11 ∷ 12 ∷ 13 ∷ 14 ∷ 15 ∷ []) 0 tt h)
-asks-nothing most bytes (C.Link on) h = absurd (miss (7 ∷ 8 ∷ 9 ∷ 10 ∷ 11 ∷ 12 ∷ 13 ∷ 14 ∷ 15 ∷ []) 1 tt h)
-asks-nothing most bytes (C.Settings set) h = absurd (miss (7 ∷ 8 ∷ 9 ∷ 10 ∷ 11 ∷ 12 ∷ 13 ∷ 14 ∷ 15 ∷ []) 2 tt h)
-asks-nothing most bytes C.Reset h = absurd (miss (7 ∷ 8 ∷ 9 ∷ 10 ∷ 11 ∷ 12 ∷ 13 ∷ 14 ∷ 15 ∷ []) 3 tt h)
-asks-nothing most bytes C.Counters h = absurd (miss (7 ∷ 8 ∷ 9 ∷ 10 ∷ 11 ∷ 12 ∷ 13 ∷ 14 ∷ 15 ∷ []) 4 tt h)
-asks-nothing most bytes (C.Restart set count total) h = absurd (miss (7 ∷ 8 ∷ 9 ∷ 10 ∷ 11 ∷ 12 ∷ 13 ∷ 14 ∷ 15 ∷ []) 5 tt h)
-asks-nothing most bytes (C.Request n room) h = absurd (miss (7 ∷ 8 ∷ 9 ∷ 10 ∷ 11 ∷ 12 ∷ 13 ∷ 14 ∷ 15 ∷ []) 6 tt h)
+asks-nothing most bytes (C.Tick x i) h = absurd (miss (8 ∷ 9 ∷ 10 ∷ 11 ∷ 12 ∷ 13 ∷ 14 ∷ 15 ∷ 16 ∷ []) 0 tt h)
+asks-nothing most bytes (C.Link on) h = absurd (miss (8 ∷ 9 ∷ 10 ∷ 11 ∷ 12 ∷ 13 ∷ 14 ∷ 15 ∷ 16 ∷ []) 1 tt h)
+asks-nothing most bytes (C.Settings set) h = absurd (miss (8 ∷ 9 ∷ 10 ∷ 11 ∷ 12 ∷ 13 ∷ 14 ∷ 15 ∷ 16 ∷ []) 2 tt h)
+asks-nothing most bytes C.Reset h = absurd (miss (8 ∷ 9 ∷ 10 ∷ 11 ∷ 12 ∷ 13 ∷ 14 ∷ 15 ∷ 16 ∷ []) 3 tt h)
+asks-nothing most bytes C.Counters h = absurd (miss (8 ∷ 9 ∷ 10 ∷ 11 ∷ 12 ∷ 13 ∷ 14 ∷ 15 ∷ 16 ∷ []) 4 tt h)
+asks-nothing most bytes (C.Restart set count total) h = absurd (miss (8 ∷ 9 ∷ 10 ∷ 11 ∷ 12 ∷ 13 ∷ 14 ∷ 15 ∷ 16 ∷ []) 5 tt h)
+asks-nothing most bytes (C.Request n room) h = absurd (miss (8 ∷ 9 ∷ 10 ∷ 11 ∷ 12 ∷ 13 ∷ 14 ∷ 15 ∷ 16 ∷ []) 6 tt h)
+asks-nothing most bytes (C.Modbus n room) h = absurd (miss (8 ∷ 9 ∷ 10 ∷ 11 ∷ 12 ∷ 13 ∷ 14 ∷ 15 ∷ 16 ∷ []) 7 tt h)
 asks-nothing most bytes (C.WriteFrame n room) h = refl
 asks-nothing most bytes (C.ReadFrame n) h = refl
 asks-nothing most bytes (C.WriteField v) h = refl

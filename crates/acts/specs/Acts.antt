@@ -9,8 +9,9 @@ use Rattle.counters.specs.declared.Counters.{Counters}
 use Rattle.controller.specs.Tick.{Told, tickOf}
 use Rattle.controller.specs.Calls.{restartOf, settingsOf, resetOf}
 use Rattle.controller.specs.Line.{requestOf}
+use Rattle.controller.specs.Modbus.{modbusOf}
 use Rattle.controller.specs.Says.{noValue, placeAndLength, bytesOf}
-use Rattle.series.specs.Events.{Event, tick, link, settings, reset, restart, request, run}
+use Rattle.series.specs.Events.{Event, tick, link, settings, reset, restart, request, modbus, run}
 use Rattle.calls.specs.Call.{Call}
 use Rattle.calls.specs.Call as calls
 
@@ -34,6 +35,7 @@ askOf calls.reset = event reset
 askOf calls.counters = counters
 askOf (calls.restart set count total) = event (restart set count total)
 askOf (calls.request s room) = event (request s (blank room))
+askOf (calls.modbus s room) = event (modbus s (blank room))
 askOf (calls.writeFrame s room) = nothing
 askOf (calls.readFrame s) = nothing
 askOf (calls.writeField w) = nothing
@@ -76,12 +78,14 @@ pub data Said : Type 0 where
   counted : Counters → Said
   restarted : Answer (Unit {0}) → Said
   replied : Answer (ℕ × ℕ) → Said
+  polled : Answer ℕ → Said
   aside : Said
 
 unfoldable pub saidAt : Controller → Event → Said
 saidAt c (tick x i) = ticked (tickOf c x i .answer)
 saidAt c (link on) = linked
 saidAt c (request s reply) = replied (told placeAndLength (requestOf c s (length reply) .answer))
+saidAt c (modbus s reply) = polled (told length (modbusOf c s (length reply) .answer))
 saidAt c (settings set) = taken (settingsOf c set .answer)
 saidAt c reset = cleared (resetOf c .answer)
 saidAt c (restart set count total) = restarted (told noValue (restartOf set count total))
@@ -99,6 +103,7 @@ unfoldable pub leftAt : Controller → Event → List ℕ → List ℕ
 leftAt c (tick x i) old = old
 leftAt c (link on) old = old
 leftAt c (request s reply) old = leaves (told bytesOf (requestOf c s (length reply) .answer)) (take (length reply) old) ++ drop (length reply) old
+leftAt c (modbus s reply) old = leaves (modbusOf c s (length reply) .answer) (take (length reply) old) ++ drop (length reply) old
 leftAt c (settings set) old = old
 leftAt c reset old = old
 leftAt c (restart set count total) old = old
@@ -113,6 +118,7 @@ unfoldable pub lentTo : ℕ → Event → Event
 lentTo most (tick x i) = tick x i
 lentTo most (link on) = link on
 lentTo most (request s reply) = request s (take most reply)
+lentTo most (modbus s reply) = modbus s (take most reply)
 lentTo most (settings set) = settings set
 lentTo most reset = reset
 lentTo most (restart set count total) = restart set count total

@@ -1,3 +1,4 @@
 pub mod Acts
 pub mod Makes
+pub mod Script
 pub mod Cases

@@ -11,14 +11,14 @@ use Rattle.controller.specs.declared.Controller.{Controller}
 use Rattle.controller.specs.declared.RestartAnswer.{RestartAnswer}
 use Rattle.controller.specs.declared.RestartAnswer.the-variants as N
 use Rattle.controller.specs.Calls.{controllerIn, restartedFrom}
-use Rattle.controller.specs.Says.{saysTick, saysSet, saysReset, saysRestart, saysReply, noValue}
-use Rattle.controller.specs.Determined.{tickBack, tick-back, setBack, set-back, resetBack, reset-back, restartBack, restart-back, replyBack, reply-back}
+use Rattle.controller.specs.Says.{saysTick, saysSet, saysReset, saysRestart, saysReply, saysPoll, noValue}
+use Rattle.controller.specs.Determined.{tickBack, tick-back, setBack, set-back, resetBack, reset-back, restartBack, restart-back, replyBack, reply-back, pollBack, poll-back}
 use Rattle.controller.specs.Sound.{Sound}
-use Rattle.series.specs.Events.{run, request}
+use Rattle.series.specs.Events.{run, request, modbus}
 use Rattle.calls.specs.declared.Call as read
 use Rattle.calls.specs.declared.Call.the-variants as C
 use Rattle.calls.specs.Reads.{asCall, Within}
-use Rattle.acts.specs.Acts.{Ask, event, blank, askOf, askBy, eventsIn, Said, ticked, linked, taken, cleared, counted, restarted, replied, aside, saidTo, leftBy, lentTo, lent}
+use Rattle.acts.specs.Acts.{Ask, event, blank, askOf, askBy, eventsIn, Said, ticked, linked, taken, cleared, counted, restarted, replied, polled, aside, saidTo, leftBy, lentTo, lent}
 use Rattle.acts.specs.declared.Answer as declared
 use Rattle.acts.specs.declared.Answer.the-variants as A
 use Rattle.acts.specs.declared.Acted.{Acted}
@@ -33,6 +33,7 @@ saysAct (A.Reset a) = cleared (saysReset a)
 saysAct (A.Counters n) = counted n
 saysAct (A.Restart a) = restarted (saysRestart a)
 saysAct (A.Request a) = replied (saysReply a)
+saysAct (A.Modbus a) = polled (saysPoll a)
 saysAct A.Aside = aside
 
 -- ---- the contract
@@ -80,6 +81,7 @@ saidBack (cleared a) = A.Reset (resetBack a)
 saidBack (counted n) = A.Counters n
 saidBack (restarted a) = A.Restart (restartBack a)
 saidBack (replied a) = A.Request (replyBack a)
+saidBack (polled a) = A.Modbus (pollBack a)
 saidBack aside = A.Aside
 
 said-back : (a : declared.Answer) → saidBack (saysAct a) ≡ a
@@ -91,6 +93,7 @@ said-back (A.Reset a) = ap A.Reset (reset-back a)
 said-back (A.Counters n) = refl
 said-back (A.Restart a) = ap A.Restart (restart-back a)
 said-back (A.Request a) = ap A.Request (reply-back a)
+said-back (A.Modbus a) = ap A.Modbus (poll-back a)
 said-back A.Aside = refl
 
 said-one : (a b : declared.Answer) → saysAct a ≡ saysAct b → a ≡ b
@@ -118,6 +121,7 @@ lent-read most bytes C.Reset w h = refl
 lent-read most bytes C.Counters w h = refl
 lent-read most bytes (C.Restart set count total) w h = refl
 lent-read most bytes (C.Request n room) w h = ap (λ (reply : List ℕ). event (request (take n bytes) reply)) (lent-blank most room (omega (arith, w .1)))
+lent-read most bytes (C.Modbus n room) w h = ap (λ (reply : List ℕ). event (modbus (take n bytes) reply)) (lent-blank most room (omega (arith, w .1)))
 lent-read most bytes (C.WriteFrame n room) w h = refl
 lent-read most bytes (C.ReadFrame n) w h = refl
 lent-read most bytes (C.WriteField v) w h = refl

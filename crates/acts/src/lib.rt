@@ -1,6 +1,7 @@
 // What a call makes of the controller, and what it answers.
 use calls::Call;
 use controller::Controller;
+use controller::PollAnswer;
 use controller::RequestAnswer;
 use controller::ResetAnswer;
 use controller::RestartAnswer;
@@ -26,6 +27,7 @@ pub enum Answer {
     Counters(Counters),
     Restart(RestartAnswer),
     Request(RequestAnswer),
+    Modbus(PollAnswer),
     Aside,
 }
 
@@ -150,7 +152,23 @@ fn request(c: Controller, n: usize, room: usize, bytes: &[u8], reply: &mut [u8])
     }
 }
 
-// What a call makes of the controller, and its answer; a request's bytes are the first of `bytes`, and its reply stands at the start of `reply`.
+// A MODBUS frame of the first n bytes, with so much of the reply buffer as it asks for.
+fn modbus(c: Controller, n: usize, room: usize, bytes: &[u8], reply: &mut [u8]) -> Acted
+    requires { ⌜ Sound c ⌝ }
+    ensures { λ r. ⌜ Acts c (event (events.modbus (take n (now (bytes .entry))) (take (length (now (reply .entry))) (blank room)))) (now (reply .entry)) (now (reply .exit)) r ⌝ }
+{
+    let size = lesser(n, bytes.len());
+    let part = lesser(reply.len(), room);
+    let polled = c.modbus(&bytes[..size], &mut reply[..part]);
+    let next = polled.next;
+    let answer = polled.answer;
+    Acted {
+        next,
+        answer: Answer::Modbus(answer),
+    }
+}
+
+// What a call makes of the controller, and its answer; a request's or a frame's bytes are the first of `bytes`, and its reply stands at the start of `reply`.
 pub fn act(c: Controller, call: Call, bytes: &[u8], reply: &mut [u8]) -> Acted
     requires { ⌜ Sound c ⌝ }
     ensures { λ r. ⌜ Acts c (lent (length (now (reply .entry))) (askBy (asCall (now (bytes .entry)) call))) (now (reply .entry)) (now (reply .exit)) r ⌝ }
@@ -163,6 +181,7 @@ pub fn act(c: Controller, call: Call, bytes: &[u8], reply: &mut [u8]) -> Acted
         Call::Counters => counters(c),
         Call::Restart(set, count, total) => restart(c, set, count, total),
         Call::Request(n, room) => request(c, n, room, bytes, reply),
+        Call::Modbus(n, room) => modbus(c, n, room, bytes, reply),
         _ => Acted {
             next: c,
             answer: Answer::Aside,

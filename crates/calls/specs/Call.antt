@@ -25,6 +25,7 @@ pub data Call : Type 0 where
   counters : Call
   restart : Settings → ℕ → ℕ → Call
   request : List ℕ → ℕ → Call
+  modbus : List ℕ → ℕ → Call
   writeFrame : List ℕ → ℕ → Call
   readFrame : List ℕ → Call
   writeField : Weight → Call
@@ -107,7 +108,7 @@ settingsAt l = onGood (numbersField 17 l) (λ vs rest. good (settings (setOf vs)
 unfoldable pub restartAt : List ℕ → Parsed Call
 restartAt l = onGood (numbersField 19 l) (λ vs rest. good (restart (setOf vs) (getD vs 17 0) (getD vs 18 0)) rest)
 
--- B, W and j: bytes, and the room of a buffer; u: bytes, and an hour
+-- B, M, W and j: bytes, and the room of a buffer; u: bytes, and an hour
 unfoldable pub roomAt : ℕ → (List ℕ → ℕ → Call) → List ℕ → Parsed Call
 roomAt most call l = onGood (bytesField l) (λ bytes rest. onGood (fieldAt most rest) (λ n rest'. good (call bytes n) rest'))
 
@@ -154,6 +155,8 @@ callBy letter l =
     (pick (eqb letter 78) (restartAt l)
     -- B
     (pick (eqb letter 66) (roomAt 64 request l)
+    -- M
+    (pick (eqb letter 77) (roomAt 64 modbus l)
     -- W
     (pick (eqb letter 87) (roomAt 600 writeFrame l)
     -- X
@@ -172,7 +175,7 @@ callBy letter l =
     (pick (eqb letter 117) (roomAt greatest32 hour l)
     -- j
     (pick (eqb letter 106) (roomAt 2000 hours l)
-    bad)))))))))))))))
+    bad))))))))))))))))
 
 -- nothing follows the last field
 unfoldable pub atEnd : Parsed Call → Parsed Call

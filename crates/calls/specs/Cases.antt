@@ -11,7 +11,7 @@ use Rattle.settings.specs.Cases.{setOf}
 use Rattle.field.specs.Field.{four, weight}
 use Rattle.journal.specs.declared.Line.the-variants.{Dose}
 use Rattle.text.specs.Scan.{expect, onGood, fieldAt}
-use Rattle.calls.specs.Call.{tick, settings, restart, request, readFrame, writeField, readField, writeLine, hour, minus, plus, signedAt, signedField, isHex, hexValue, bytesAt, bytesField, flagField, numbersField, fieldFrom, tickAt, linkAt, settingsAt, restartAt, roomAt, bytesCall, writeFieldAt, readFieldAt, doseAt, onAt, callBy, atEnd, callOf}
+use Rattle.calls.specs.Call.{tick, settings, restart, request, modbus, readFrame, writeField, readField, writeLine, hour, minus, plus, signedAt, signedField, isHex, hexValue, bytesAt, bytesField, flagField, numbersField, fieldFrom, tickAt, linkAt, settingsAt, restartAt, roomAt, bytesCall, writeFieldAt, readFieldAt, doseAt, onAt, callBy, atEnd, callOf}
 
 -- to unfold this is to unfold every rule of what a line asks
 unfoldable pub readings : Unit {0}
@@ -63,10 +63,13 @@ hex = (refl, refl, refl, refl, refl)
 pub fields :
     (callOf (66 ∷ 9 ∷ 70 ∷ 70 ∷ 48 ∷ 49 ∷ 9 ∷ 54 ∷ 52 ∷ []) ≡ good (request (255 ∷ 1 ∷ []) 64) [])
     × (callOf (66 ∷ 9 ∷ 9 ∷ 54 ∷ 53 ∷ []) ≡ bad)
+    × (callOf (77 ∷ 9 ∷ 48 ∷ 49 ∷ 48 ∷ 51 ∷ 9 ∷ 54 ∷ 52 ∷ []) ≡ good (modbus (1 ∷ 3 ∷ []) 64) [])
+    × (callOf (77 ∷ 9 ∷ 9 ∷ 54 ∷ 53 ∷ []) ≡ bad)
+    × (callOf (109 ∷ 9 ∷ 9 ∷ 48 ∷ []) ≡ bad)
     × (callOf (71 ∷ 9 ∷ 45 ∷ 53 ∷ 9 ∷ 49 ∷ 9 ∷ 48 ∷ 9 ∷ 50 ∷ 53 ∷ 53 ∷ []) ≡ good (writeField (weight (negsuc 4) true false 255)) [])
     × (callOf (75 ∷ 9 ∷ 48 ∷ 49 ∷ 48 ∷ 50 ∷ 48 ∷ 51 ∷ 48 ∷ 52 ∷ []) ≡ good (readField (four 1 2 3 4)) [])
     × (callOf (75 ∷ 9 ∷ 48 ∷ 49 ∷ 48 ∷ 50 ∷ 48 ∷ 51 ∷ []) ≡ bad)
     × (callOf (68 ∷ 9 ∷ 49 ∷ 9 ∷ 50 ∷ 9 ∷ 51 ∷ 9 ∷ 52 ∷ 9 ∷ 54 ∷ 52 ∷ []) ≡ good (writeLine (Dose 1 2 3 4) 64) [])
     × (callOf (117 ∷ 9 ∷ 9 ∷ 55 ∷ []) ≡ good (hour [] 7) [])
 unfolding readings
-fields = (refl, refl, refl, refl, refl, refl, refl)
+fields = (refl, refl, refl, refl, refl, refl, refl, refl, refl, refl)

@@ -8,7 +8,7 @@ use lib.IntN.{ℤ}
 use lib.ListN.{length, take, drop}
 use Rattle.laws.specs.Pick.{pick}
 use Rattle.laws.specs.Decimal.{Parsed, good, bad}
-use Rattle.calls.specs.Call.{Call, request, writeFrame, readFrame, readLine, hour, hours, greatest32, isHex, hexValue, atEnd}
+use Rattle.calls.specs.Call.{Call, request, modbus, writeFrame, readFrame, readLine, hour, hours, greatest32, isHex, hexValue, atEnd}
 use Rattle.calls.specs.Reads.{asCall, sizeOf, Within}
 use Rattle.calls.specs.declared.Call as declared
 use Rattle.calls.specs.declared.Call.the-variants.{Unknown}
@@ -49,10 +49,11 @@ aloneCall letter bytes = pick (eqb letter 88) (readFrame bytes) (readLine bytes)
 -- the call of a letter that takes bytes and a number, and the greatest number that it takes
 unfoldable pub roomCall : ℕ → List ℕ → ℕ → Call
 roomCall letter bytes n =
-    pick (eqb letter 66) (request bytes n) (pick (eqb letter 87) (writeFrame bytes n) (pick (eqb letter 106) (hours bytes n) (hour bytes n)))
+    pick (eqb letter 66) (request bytes n)
+    (pick (eqb letter 77) (modbus bytes n) (pick (eqb letter 87) (writeFrame bytes n) (pick (eqb letter 106) (hours bytes n) (hour bytes n))))
 
 unfoldable pub roomMost : ℕ → ℕ
-roomMost letter = pick (eqb letter 66) 64 (pick (eqb letter 87) 600 (pick (eqb letter 106) 2000 greatest32))
+roomMost letter = pick (eqb letter 66) 64 (pick (eqb letter 77) 64 (pick (eqb letter 87) 600 (pick (eqb letter 106) 2000 greatest32)))
 
 -- a call where the line ends at a place
 pub record Ended (s : List ℕ) (end : ℕ) (call r : declared.Call) : Type 0 where

@@ -12,8 +12,9 @@ use borrow.Author.Tests.{le-leb, lt-leb}
 use Rattle.laws.specs.Pick.{pick, pick-t, pick-f}
 use Rattle.laws.specs.Over.{over}
 use Rattle.laws.specs.Decimal.{Parsed, good, bad}
+use Rattle.paper.specs.Answer.{same}
 use Rattle.text.specs.ScanLaws.{bad-good}
-use Rattle.calls.specs.Call.{Call, tick, link, settings, reset, counters, restart, request, writeFrame, readFrame, writeField, readField, writeLine, readLine, hour, hours, callOf}
+use Rattle.calls.specs.Call.{Call, tick, link, settings, reset, counters, restart, request, modbus, writeFrame, readFrame, writeField, readField, writeLine, readLine, hour, hours, callOf}
 use Rattle.calls.specs.declared.Call as declared
 use Rattle.calls.specs.declared.Call.the-variants as C
 
@@ -26,6 +27,7 @@ asCall bytes C.Reset = good reset []
 asCall bytes C.Counters = good counters []
 asCall bytes (C.Restart set count total) = good (restart set count total) []
 asCall bytes (C.Request n room) = good (request (take n bytes) room) []
+asCall bytes (C.Modbus n room) = good (modbus (take n bytes) room) []
 asCall bytes (C.WriteFrame n room) = good (writeFrame (take n bytes) room) []
 asCall bytes (C.ReadFrame n) = good (readFrame (take n bytes)) []
 asCall bytes (C.WriteField w) = good (writeField w) []
@@ -45,6 +47,7 @@ bytesIn (good reset rest) = []
 bytesIn (good counters rest) = []
 bytesIn (good (restart set count total) rest) = []
 bytesIn (good (request s room) rest) = s
+bytesIn (good (modbus s room) rest) = s
 bytesIn (good (writeFrame s room) rest) = s
 bytesIn (good (readFrame s) rest) = s
 bytesIn (good (writeField w) rest) = []
@@ -64,6 +67,7 @@ sizeOf C.Reset = 0
 sizeOf C.Counters = 0
 sizeOf (C.Restart set count total) = 0
 sizeOf (C.Request n room) = n
+sizeOf (C.Modbus n room) = n
 sizeOf (C.WriteFrame n room) = n
 sizeOf (C.ReadFrame n) = n
 sizeOf (C.WriteField w) = 0
@@ -73,6 +77,12 @@ sizeOf (C.ReadLine n) = n
 sizeOf (C.Hour n h) = n
 sizeOf (C.Hours n room) = n
 sizeOf C.Unknown = 0
+
+abbrev pub Sizes : declared.Call → ℕ → Type 0
+Sizes call r = r ≡ sizeOf call
+
+pub size-determined : (call : declared.Call) {r s : ℕ} → Sizes call r → Sizes call s → r ≡ s
+size-determined call p q = same p q
 
 -- a line of at most 4,095 bytes, its LF left out, read with room for the bytes of every line; else nothing is asked
 unfoldable pub readIn : ℕ → List ℕ → Parsed Call
@@ -87,6 +97,7 @@ Within C.Reset = Unit {0}
 Within C.Counters = Unit {0}
 Within (C.Restart set count total) = Unit {0}
 Within (C.Request n room) = (n ≤ 2048) × (room ≤ 64)
+Within (C.Modbus n room) = (n ≤ 2048) × (room ≤ 64)
 Within (C.WriteFrame n room) = (n ≤ 2048) × (room ≤ 600)
 Within (C.ReadFrame n) = n ≤ 2048
 Within (C.WriteField w) = Unit {0}
@@ -114,6 +125,7 @@ answered (good reset rest) = C.Reset
 answered (good counters rest) = C.Counters
 answered (good (restart set count total) rest) = C.Restart set count total
 answered (good (request s room) rest) = C.Request (length s) room
+answered (good (modbus s room) rest) = C.Modbus (length s) room
 answered (good (writeFrame s room) rest) = C.WriteFrame (length s) room
 answered (good (readFrame s) rest) = C.ReadFrame (length s)
 answered (good (writeField w) rest) = C.WriteField w
@@ -141,6 +153,7 @@ known C.Reset = record { bytes = λ b. refl; same = λ a b e. refl; few = λ w. 
 known C.Counters = record { bytes = λ b. refl; same = λ a b e. refl; few = λ w. omega arith; none = λ b e. refl; back = λ b i. refl }
 known (C.Restart set count total) = record { bytes = λ b. refl; same = λ a b e. refl; few = λ w. omega arith; none = λ b e. refl; back = λ b i. refl }
 known (C.Request n room) = record { bytes = λ b. refl; same = λ a b e. ap (λ (s : List ℕ). good (request s room) []) e; few = λ w. w .0; none = λ b e. bad-good (sym e); back = λ b i. ap (λ (m : ℕ). C.Request m room) (length-take-le n b i) }
+known (C.Modbus n room) = record { bytes = λ b. refl; same = λ a b e. ap (λ (s : List ℕ). good (modbus s room) []) e; few = λ w. w .0; none = λ b e. bad-good (sym e); back = λ b i. ap (λ (m : ℕ). C.Modbus m room) (length-take-le n b i) }
 known (C.WriteFrame n room) = record { bytes = λ b. refl; same = λ a b e. ap (λ (s : List ℕ). good (writeFrame s room) []) e; few = λ w. w .0; none = λ b e. bad-good (sym e); back = λ b i. ap (λ (m : ℕ). C.WriteFrame m room) (length-take-le n b i) }
 known (C.ReadFrame n) = record { bytes = λ b. refl; same = λ a b e. ap (λ (s : List ℕ). good (readFrame s) []) e; few = λ w. w; none = λ b e. bad-good (sym e); back = λ b i. ap (λ (m : ℕ). C.ReadFrame m) (length-take-le n b i) }
 known (C.WriteField w) = record { bytes = λ b. refl; same = λ a b e. refl; few = λ w. omega arith; none = λ b e. refl; back = λ b i. refl }

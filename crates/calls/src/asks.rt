@@ -84,13 +84,14 @@ fn room_call(letter: u8, n: usize, number: u32) -> Call
 {
     match letter {
         b'B' => Call::Request(n, number as usize),
+        b'M' => Call::Modbus(n, number as usize),
         b'W' => Call::WriteFrame(n, number as usize),
         b'j' => Call::Hours(n, number as usize),
         _ => Call::Hour(n, number),
     }
 }
 
-// B, W and j: bytes and the room of a buffer; u: bytes and an hour.
+// B, M, W and j: bytes and the room of a buffer; u: bytes and an hour.
 pub(crate) fn room(line: &[u8], letter: u8, most: u32) -> Call
     requires line { ⌜ length (now line) ≤ 4095 ⌝ }
     requires most { ⌜ most ≡ roomMost letter ⌝ }

@@ -10,7 +10,7 @@ ghost use mathlib.Core.Path.{_≡_};
 ghost use Prim.Native.Nat.{_≤_};
 ghost use lib.ListN.{length, drop, getD};
 ghost use Rattle.calls.specs.Call.{callBy};
-ghost use Rattle.calls.specs.Reads.{sizeOf, Reads};
+ghost use Rattle.calls.specs.Reads.{Sizes, Reads};
 ghost use Rattle.calls.specs.Reading.{Asks};
 
 // A number that may be below 0, read at a place: its value and the place after it, or none.
@@ -39,6 +39,8 @@ pub enum Call {
     Restart(Settings, u32, u32),
     // A line request on so many bytes, and the room of the reply buffer.
     Request(usize, usize),
+    // A MODBUS frame of so many bytes, and the room of the reply buffer.
+    Modbus(usize, usize),
     // The frame writer on a body of so many bytes, and the room of its buffer.
     WriteFrame(usize, usize),
     // The frame reader on so many bytes.
@@ -80,6 +82,7 @@ fn call_of(line: &[u8]) -> Call
         b'Q' => asks::ended(line, 1, Call::Counters),
         b'N' => asks::restart(line),
         b'B' => asks::room(line, letter, 64),
+        b'M' => asks::room(line, letter, 64),
         b'W' => asks::room(line, letter, 600),
         b'X' => asks::alone(line, letter),
         b'G' => asks::weight(line),
@@ -94,11 +97,12 @@ fn call_of(line: &[u8]) -> Call
 }
 
 // How many bytes a call carries.
-fn size_of(call: Call) -> usize
-    ensures { λ r. ⌜ r ≡ sizeOf call ⌝ }
+pub fn size_of(call: Call) -> usize
+    ensures { λ r. ⌜ Sizes call r ⌝ }
 {
     match call {
         Call::Request(n, _) => n,
+        Call::Modbus(n, _) => n,
         Call::WriteFrame(n, _) => n,
         Call::ReadFrame(n) => n,
         Call::ReadLine(n) => n,

@@ -36,7 +36,7 @@ use Rattle.controller.specs.Calls.{freshOf}
 use Rattle.controller.specs.Sound.{Sound}
 use Rattle.controller.specs.Keeps.{fresh-sound}
 use Rattle.hourly.specs.Text.{rowFrom, rowOf}
-use Rattle.series.specs.Events.{Event, tick, link, request, settings, reset, restart, run, handsBack, recordsIn, recordsAt, records}
+use Rattle.series.specs.Events.{Event, tick, link, request, modbus, settings, reset, restart, run, handsBack, recordsIn, recordsAt, records}
 use Rattle.series.specs.Holes.{countsOf, records-follow}
 use Rattle.series.specs.Records.{records-append}
 use Rattle.series.specs.Lines.{amountsOf, hourWith}
@@ -172,6 +172,7 @@ unfolding dosesIn heardSaid saidAt recordsAt
 event-doses c (tick x i) s = tick-doses c x i s
 event-doses c (link on) s = refl
 event-doses c (request b reply) s = refl
+event-doses c (modbus b reply) s = refl
 event-doses c (settings set) s = refl
 event-doses c reset s = refl
 event-doses c (restart set count total) s = restart-none _

@@ -24,8 +24,8 @@ use Rattle.controller.specs.ModbusLaws.{silent-so, heard-so, modbus-refu
 use Rattle.controller.specs.Sound.{Sound}
 use Rattle.controller.specs.Says.{saysPoll, Polls}
 use Rattle.controller.specs.declared.Controller.{Controller}
-use Rattle.controller.specs.declared.PollAnswer.{PollAnswer}
 use Rattle.controller.specs.declared.PollAnswer.the-variants as M
+use Rattle.controller.specs.declared.Polled.{Polled}
 
 -- serving answers what the rule gives
 served-answer : (c : Controller) (ask : Ask) (a : Answer (List ℕ)) → servedBy c ask a .answer ≡ a
@@ -49,10 +49,14 @@ served-next c ask (fault n vs) e = fault-done (sym e)
 
 module _ (c : Controller) (frame old : List ℕ) (s : Sound c) (hearing : Hearing) (heard : Hears (c .set .address) frame hearing) where
   -- R17
-  pub silent : hearing ≡ H.R17 → Polls c frame old old (record { next = c; answer = M.R17 })
-  silent h =
+  pub silent : {r : Polled} → hearing ≡ H.R17 → r .next ≡ c → r .answer ≡ M.R17 → Polls c frame old old r
+  silent {r} h n a =
       let so = silent-so c frame (length old) R17 [] (sym heard ∙ ap saysHearing h) in
-      record { next = sym (ap (λ (r : Result (List ℕ)). r .next) so); fills = fills-refused (ap (λ (r : Result (List ℕ)). r .answer) so) old; sound = s }
+      record {
+        next = n ∙ sym (ap (λ (x : Result (List ℕ)). x .next) so);
+        fills = rw a (fills-refused (ap (λ (x : Result (List ℕ)). x .answer) so) old);
+        sound = subst Sound (sym n) s;
+      }
 
   module _ (asked : Asked) (h : hearing ≡ H.Asked asked) {words : List ℕ} (table : words ≡ tableOf (valuesOf c)) (w : Sent) {new : List ℕ} (serves : Serves (c .set .address) words asked old new w) where
     abbrev rule : Answer (List ℕ)
@@ -67,8 +71,8 @@ module _ (c : Controller) (frame old : List ℕ) (s : Sound c) (hearing : Hearin
     filled : Fills (saysSent w) rule old new
     filled = subst (λ (t : List ℕ). Fills (saysSent w) (servedOf (c .set .address) t (heardAs asked) (length old)) old new) table serves
 
-    polls : (a : PollAnswer) {next : Controller} → saysPoll a ≡ saysSent w → next ≡ modbusOf c frame (length old) .next → Polls c frame old new (record { next = next; answer = a })
-    polls a e n =
+    polls : {r : Polled} → saysPoll (r .answer) ≡ saysSent w → r .next ≡ modbusOf c frame (length old) .next → Polls c frame old new r
+    polls e n =
         record {
           next = n;
           fills = record { says = e ∙ filled .says ∙ ap (told length) (sym answers); left = filled .left ∙ rw answers };
@@ -76,12 +80,12 @@ module _ (c : Controller) (frame old : List ℕ) (s : Sound c) (hearing : Hearin
         }
 
     -- R8
-    pub too-short : w ≡ S.R8 → Polls c frame old new (record { next = c; answer = M.R8 })
-    too-short e =
+    pub too-short : {r : Polled} → w ≡ S.R8 → r .next ≡ c → r .answer ≡ M.R8 → Polls c frame old new r
+    too-short e n a =
         let none : rule ≡ refused R8 [] = told-refused length rule R8 [] (sym (filled .says) ∙ ap saysSent e) in
-        polls M.R8 (sym (ap saysSent e)) (sym (modbus-refused c frame (length old) R8 [] (answers ∙ none)))
+        polls (ap saysPoll a ∙ sym (ap saysSent e)) (n ∙ sym (modbus-refused c frame (length old) R8 [] (answers ∙ none)))
 
-    pub replied-to : {n : ℕ} {on : Bool} → w ≡ S.Bytes n → on ≡ linkAfter (heardAs asked .ask) (c .link) → Polls c frame old new (record { next = withLink on c; answer = M.Sent n })
-    replied-to {n} {on} e l =
-        let next = ap (λ (r : Result (List ℕ)). r .next) so ∙ served-next c (heardAs asked .ask) rule (sym (ap saysSent e) ∙ filled .says) in
-        polls (M.Sent n) (sym (ap saysSent e)) (ap (λ (b : Bool). withLink b c) l ∙ sym next)
+    pub replied-to : {r : Polled} {len : ℕ} {on : Bool} → w ≡ S.Bytes len → on ≡ linkAfter (heardAs asked .ask) (c .link) → r .next ≡ withLink on c → r .answer ≡ M.Sent len → Polls c frame old new r
+    replied-to e l n a =
+        let next = ap (λ (x : Result (List ℕ)). x .next) so ∙ served-next c (heardAs asked .ask) rule (sym (ap saysSent e) ∙ filled .says) in
+        polls (ap saysPoll a ∙ sym (ap saysSent e)) (n ∙ ap (λ (b : Bool). withLink b c) l ∙ sym next)

@@ -20,3 +20,4 @@ pub mod Promises
 pub mod Determined
 pub mod OutsideLaws
 pub mod ModbusLaws
+pub mod ModbusCases

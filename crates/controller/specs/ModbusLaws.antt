@@ -8,7 +8,7 @@ use native.Mathlib.Omega.{arith}
 use lib.ListN.{take, drop}
 use Rattle.laws.specs.Pick.{pick-t, pick-f}
 use Rattle.paper.specs.Answer.{Answer, done, refused, fault}
-use Rattle.paper.specs.AnswerLaws.{done-refused, fault-refused}
+use Rattle.paper.specs.AnswerLaws.{refused-done, fault-done, done-refused}
 use Rattle.single.specs.Single.{InRange, weightIn}
 use Rattle.single.specs.Exact.{words-back}
 use Rattle.registers.specs.Registers.{tableOf}
@@ -45,6 +45,13 @@ unfolding linkedBy
 by-ask c (registers start quantity) = inl refl
 by-ask c (link on) = inr (on, refl, refl)
 by-ask c (exception function number) = inl refl
+
+-- what is served of a write is refused, or sets it
+write-sets : (c : Controller) (on : Bool) (x : Answer (List ℕ)) {r : Result (List ℕ)} {bytes : List ℕ} → r ≡ servedBy c (link on) x → r .answer ≡ done bytes → r .next ≡ linkOf c on
+unfolding servedBy linkedBy
+write-sets c on (done b) e d = ap (λ (y : Result (List ℕ)). y .next) e
+write-sets c on (refused n vs) e d = refused-done (sym (ap (λ (y : Result (List ℕ)). y .answer) e) ∙ d)
+write-sets c on (fault n vs) e d = fault-done (sym (ap (λ (y : Result (List ℕ)). y .answer) e) ∙ d)
 
 module _ (c : Controller) (frame : List ℕ) (room : ℕ) where
   -- R17 before anything else
@@ -88,6 +95,18 @@ module _ (c : Controller) (frame : List ℕ) (room : ℕ) where
   -- a refusal, R17 or R8, changes nothing
   pub modbus-refused : (n : ℕ) (vs : List ℕ) → modbusOf c frame room .answer ≡ refused n vs → modbusOf c frame room .next ≡ c
   modbus-refused n vs e = ⊎-elim (λ same. same) (λ w. done-refused (sym (w .accepted) ∙ e)) modbus-only
+
+  -- an accepted write, for us or for all, sets or clears the link start
+  pub modbus-sets : (all on : Bool) (bytes : List ℕ) → hearOf (c .set .address) frame ≡ done (heard all (link on)) → modbusOf c frame room .answer ≡ done bytes → modbusOf c frame room .next ≡ linkOf c on
+  modbus-sets all on bytes e d = write-sets c on _ (heard-so (heard all (link on)) e) d
+
+  -- no frame changes the phase or the counters
+  pub modbus-keeps : (modbusOf c frame room .next .phase ≡ c .phase) × (modbusOf c frame room .next .counters ≡ c .counters)
+  unfolding linkOf
+  modbus-keeps =
+      ⊎-elim (λ same. (ap (λ (d : Controller). d .phase) same, ap (λ (d : Controller). d .counters) same))
+      (λ w. (ap (λ (d : Controller). d .phase) (w .sets), ap (λ (d : Controller). d .counters) (w .sets)))
+      modbus-only
 
   pub modbus-sound : Sound c → Sound (modbusOf c frame room .next)
   modbus-sound s = ⊎-elim (λ same. subst Sound (sym same) s) (λ w. subst Sound (sym (w .sets)) (link-sound c (w .on) s)) modbus-only

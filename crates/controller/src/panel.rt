@@ -14,6 +14,7 @@ use window::Window;
 ghost use mathlib.Core.Path.{_≡_};
 ghost use Rattle.scale.specs.Scale.{weightBy};
 ghost use Rattle.single.specs.Single.{wordsOf};
+ghost use Rattle.controller.specs.State.{withLink};
 ghost use Rattle.controller.specs.Modbus.{valuesOf};
 ghost use Rattle.controller.specs.Parts.{Holdable};
 ghost use Rattle.controller.specs.Sound.{Sound};
@@ -21,30 +22,29 @@ ghost use Rattle.controller.specs.Says.{Polls};
 
 impl Controller {
     // A MODBUS frame, with a lent reply buffer.
-    pub fn modbus(mut self, frame: &[u8], reply: &mut [u8]) -> Polled
+    pub fn modbus(self, frame: &[u8], reply: &mut [u8]) -> Polled
         requires { ⌜ Sound self ⌝ }
         ensures { λ r. ⌜ Polls self (now (frame .entry)) (now (reply .entry)) (now (reply .exit)) r ⌝ }
     {
         let address = self.set.address as u8;
         let Hearing::Asked(asked) = modbus::hear(address, frame) else {
-            return Polled {
-                next: self,
-                answer: PollAnswer::R17,
-            };
+            return polled(self, self.link, PollAnswer::R17);
         };
+        let link = modbus::link_after(asked, self.link);
         let words = registers::words(values_of(self));
         let Sent::Bytes(len) = modbus::serve(address, words, asked, reply) else {
-            return Polled {
-                next: self,
-                answer: PollAnswer::R8,
-            };
+            return polled(self, self.link, PollAnswer::R8);
         };
-        self.link = modbus::link_after(asked, self.link);
-        Polled {
-            next: self,
-            answer: PollAnswer::Sent(len),
-        }
+        polled(self, link, PollAnswer::Sent(len))
     }
+}
+
+// A frame sets or clears the link start at most.
+fn polled(mut c: Controller, link: bool, answer: PollAnswer) -> Polled
+    ensures { λ r. ⌜ (r .next ≡ withLink link c) × (r .answer ≡ answer) ⌝ }
+{
+    c.link = link;
+    Polled { next: c, answer }
 }
 
 // The words of a weight, filtered by n samples, where an f32 holds it.

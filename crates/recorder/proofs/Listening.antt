@@ -40,19 +40,20 @@ fault-heard (F.F14 channel) = refl
 fault-heard F.F21 = refl
 
 -- an answer that is neither a tick's nor a restart's
-pub other-answer : (a : acts.Answer) → OneOf (1 ∷ 2 ∷ 3 ∷ 4 ∷ 6 ∷ 7 ∷ []) (tagOf answer-type a) → Other ≡ heardSaid (saysAct a)
+pub other-answer : (a : acts.Answer) → OneOf (1 ∷ 2 ∷ 3 ∷ 4 ∷ 6 ∷ 7 ∷ 8 ∷ []) (tagOf answer-type a) → Other ≡ heardSaid (saysAct a)
 unfolding heardSaid saysAct
-other-answer (A.Tick a) h = absurd (miss (1 ∷ 2 ∷ 3 ∷ 4 ∷ 6 ∷ 7 ∷ []) 0 tt h)
+other-answer (A.Tick a) h = absurd (miss (1 ∷ 2 ∷ 3 ∷ 4 ∷ 6 ∷ 7 ∷ 8 ∷ []) 0 tt h)
 other-answer A.Link h = refl
 other-answer (A.Set a) h = refl
 other-answer (A.Reset a) h = refl
 other-answer (A.Counters n) h = refl
-other-answer (A.Restart a) h = absurd (miss (1 ∷ 2 ∷ 3 ∷ 4 ∷ 6 ∷ 7 ∷ []) 5 tt h)
+other-answer (A.Restart a) h = absurd (miss (1 ∷ 2 ∷ 3 ∷ 4 ∷ 6 ∷ 7 ∷ 8 ∷ []) 5 tt h)
 other-answer (A.Request a) h = refl
+other-answer (A.Modbus a) h = refl
 other-answer A.Aside h = refl
 
 -- a call is heard by what it answers
-heard-call : (c : Controller) (bytes : List ℕ) (call : read.Call) → OneOf (0 ∷ 1 ∷ 2 ∷ 3 ∷ 4 ∷ 5 ∷ 6 ∷ 7 ∷ 8 ∷ 9 ∷ 10 ∷ 11 ∷ 12 ∷ 13 ∷ 14 ∷ []) (tagOf call-type call) → heardOf c (asCall bytes call) ≡ heardSaid (saidTo c (askBy (asCall bytes call)))
+heard-call : (c : Controller) (bytes : List ℕ) (call : read.Call) → OneOf (0 ∷ 1 ∷ 2 ∷ 3 ∷ 4 ∷ 5 ∷ 6 ∷ 7 ∷ 8 ∷ 9 ∷ 10 ∷ 11 ∷ 12 ∷ 13 ∷ 14 ∷ 15 ∷ []) (tagOf call-type call) → heardOf c (asCall bytes call) ≡ heardSaid (saidTo c (askBy (asCall bytes call)))
 unfolding heardOf askBy asCall
 heard-call c bytes (C.Tick x i) h = refl
 heard-call c bytes (C.Link on) h = refl
@@ -61,6 +62,7 @@ heard-call c bytes C.Reset h = refl
 heard-call c bytes C.Counters h = refl
 heard-call c bytes (C.Restart set count total) h = refl
 heard-call c bytes (C.Request n room) h = refl
+heard-call c bytes (C.Modbus n room) h = refl
 heard-call c bytes (C.WriteFrame n room) h = refl
 heard-call c bytes (C.ReadFrame n) h = refl
 heard-call c bytes (C.WriteField v) h = refl
@@ -69,7 +71,7 @@ heard-call c bytes (C.WriteLine l room) h = refl
 heard-call c bytes (C.ReadLine n) h = refl
 heard-call c bytes (C.Hour n k) h = refl
 heard-call c bytes (C.Hours n room) h = refl
-heard-call c bytes C.Unknown h = absurd (miss (0 ∷ 1 ∷ 2 ∷ 3 ∷ 4 ∷ 5 ∷ 6 ∷ 7 ∷ 8 ∷ 9 ∷ 10 ∷ 11 ∷ 12 ∷ 13 ∷ 14 ∷ []) 15 tt h)
+heard-call c bytes C.Unknown h = absurd (miss (0 ∷ 1 ∷ 2 ∷ 3 ∷ 4 ∷ 5 ∷ 6 ∷ 7 ∷ 8 ∷ 9 ∷ 10 ∷ 11 ∷ 12 ∷ 13 ∷ 14 ∷ 15 ∷ []) 16 tt h)
 
 module _ (c : Controller) {l old new reply left : List ℕ} {call : read.Call} {r : Acted} (p : Reads l old new call) (room : 2048 ≤ length old) (short : length l ≤ 4095)
     (enough : 64 ≤ length reply) (a : Acts c (lent (length reply) (askBy (asCall new call))) reply left r) where
@@ -87,7 +89,7 @@ module _ (c : Controller) {l old new reply left : List ℕ} {call : read.Call} {
   unfolding asCall heardOf
   hears-lost e = record { next = box; heard = ap (heardOf c) (sym (ap (asCall new) e) ∙ is) }
 
-  pub hears-call : {h : Heard} → OneOf (0 ∷ 1 ∷ 2 ∷ 3 ∷ 4 ∷ 5 ∷ 6 ∷ 7 ∷ 8 ∷ 9 ∷ 10 ∷ 11 ∷ 12 ∷ 13 ∷ 14 ∷ []) (tagOf call-type call) → h ≡ heardSaid (saysAct (r .answer)) → Hears c (callOf l) (record { next = r .next; heard = h })
+  pub hears-call : {h : Heard} → OneOf (0 ∷ 1 ∷ 2 ∷ 3 ∷ 4 ∷ 5 ∷ 6 ∷ 7 ∷ 8 ∷ 9 ∷ 10 ∷ 11 ∷ 12 ∷ 13 ∷ 14 ∷ 15 ∷ []) (tagOf call-type call) → h ≡ heardSaid (saysAct (r .answer)) → Hears c (callOf l) (record { next = r .next; heard = h })
   hears-call k e =
       record {
         next = box;

@@ -11,7 +11,7 @@ use Rattle.controller.specs.Sound.{Sound}
 use Rattle.controller.specs.Keeps.{fresh-sound}
 use Rattle.counters.specs.Laws.{AllRecordable}
 use Rattle.controller.specs.Promises.{tick-recordable}
-use Rattle.series.specs.Events.{Event, tick, link, request, settings, reset, restart, run}
+use Rattle.series.specs.Events.{Event, tick, link, request, modbus, settings, reset, restart, run}
 use Rattle.series.specs.Kept.{event-sound}
 use Rattle.calls.specs.Call.{Call, callOf}
 use Rattle.acts.specs.Acts.{Ask, event, counters, nothing, askOf, askBy, eventsIn, madeBy, saidAt, saidTo}
@@ -66,6 +66,7 @@ unfolding heardSaid saidAt
 event-writable c (tick x i) s = tick-writable (tickOf c x i .answer) (λ t e. tick-recordable c x i t s e)
 event-writable c (link on) s = tt
 event-writable c (request b reply) s = tt
+event-writable c (modbus b reply) s = tt
 event-writable c (settings set) s = tt
 event-writable c reset s = tt
 event-writable c (restart set count total) s = restart-writable _

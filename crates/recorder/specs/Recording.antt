@@ -10,7 +10,7 @@ use Rattle.controller.specs.Calls.{freshOf}
 use Rattle.controller.specs.Sound.{Sound}
 use Rattle.lines.specs.Lines.{linesOf}
 use Rattle.calls.specs.Call.{Call, callOf}
-use Rattle.acts.specs.Acts.{Said, ticked, linked, taken, cleared, counted, restarted, replied, aside, askOf, saidTo, madeBy}
+use Rattle.acts.specs.Acts.{Said, ticked, linked, taken, cleared, counted, restarted, replied, polled, aside, askOf, saidTo, madeBy}
 use Rattle.clock.specs.Clock.{greatestHour, Note, note, firstOf, heardBy, Runs}
 use Rattle.clock.specs.Clock as clock
 use Rattle.clock.specs.declared.Heard.{Heard}
@@ -45,6 +45,7 @@ heardSaid (cleared a) = Other
 heardSaid (counted n) = Other
 heardSaid (restarted a) = heardRestart a
 heardSaid (replied a) = Other
+heardSaid (polled a) = Other
 heardSaid aside = Other
 
 -- a line that is no call may have been a tick, a restart or a set

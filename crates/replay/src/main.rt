@@ -1,14 +1,7 @@
 // Every call of the box from standard input, one answer to a line.
-mod answers;
-mod aside;
-mod hours;
-mod put;
-
 use acts::Acted;
-use acts::Answer;
 use calls::Call;
 use controller::Controller;
-use controller::RequestAnswer;
 use libc::STDOUT_FILENO;
 use lines::Intake;
 use lines::Next;
@@ -16,7 +9,8 @@ ghost use Prim.Native.Nat.{_≤_};
 ghost use lib.ListN.{length};
 ghost use Rattle.controller.specs.Sound.{Sound};
 ghost use Rattle.calls.specs.Reads.{asCall, Within};
-ghost use Rattle.replay.specs.Answers.{Made, Carries};
+ghost use Rattle.acts.specs.Script.{Made};
+ghost use Rattle.replay.specs.Answers.{Carries};
 
 // What is carried on behind the whole lines of a buffer.
 struct Carried {
@@ -27,83 +21,19 @@ struct Carried {
 // So many bytes hold every answer.
 const ENOUGH: usize = 4096;
 
-// How many bytes a call carries.
-fn size_of(call: Call) -> usize {
-    match call {
-        Call::Request(n, _) => n,
-        Call::WriteFrame(n, _) => n,
-        Call::ReadFrame(n) => n,
-        Call::ReadLine(n) => n,
-        Call::Hour(n, _) => n,
-        Call::Hours(n, _) => n,
-        _ => 0,
-    }
-}
-
-// The room of the buffer that a call asks for.
-fn room_of(call: Call) -> usize {
-    match call {
-        Call::Request(_, room) => room,
-        Call::WriteFrame(_, room) => room,
-        Call::WriteLine(_, room) => room,
-        Call::Hours(_, room) => room,
-        _ => 0,
-    }
-}
-
-// The buffer that a request is lent, each byte A5.
-fn lend(call: Call, spare: &mut [u8]) {
-    if let Call::Request(_, room) = call {
-        let n = put::within(room, spare);
-        put::blank(&mut spare[..n]);
-    }
-}
-
 // What a call makes of the controller, and the box's answer.
 fn made(c: Controller, call: Call, bytes: &[u8], spare: &mut [u8]) -> Acted
     requires sound { ⌜ Sound c ⌝ }
     requires room { ⌜ Within call × (64 ≤ length (now spare)) ⌝ }
-    ensures { λ r. ⌜ Made c (asCall (now (bytes .entry)) call) r ⌝ }
+    ensures { λ r. ⌜ Made c (asCall (now (bytes .entry)) call) (r .next) ⌝ }
 {
-    lend(call, spare);
+    answers::lend(call, spare);
     acts::act(c, call, bytes, spare)
-}
-
-// The reply to a request, with the buffer that it was lent.
-fn put_reply(out: &mut [u8], call: Call, replied: RequestAnswer, spare: &[u8]) -> usize {
-    let room = put::within(room_of(call), spare);
-    answers::reply(out, replied, &spare[..room])
-}
-
-// The answer of a writer or reader, on the bytes of its call and with a buffer of its room.
-fn put_aside(out: &mut [u8], call: Call, bytes: &[u8], spare: &mut [u8]) -> usize {
-    let size = put::within(size_of(call), bytes);
-    let room = put::within(room_of(call), spare);
-    aside::answer(out, call, &bytes[..size], &mut spare[..room])
-}
-
-// The answer to a call.
-fn put_answer(out: &mut [u8], call: Call, said: Answer, bytes: &[u8], spare: &mut [u8]) -> usize {
-    if let Answer::Aside = said {
-        return put_aside(out, call, bytes, spare);
-    }
-    if let Answer::Request(replied) = said {
-        return put_reply(out, call, replied, spare);
-    }
-    answers::answer(out, said)
-}
-
-// The answer, and how many bytes of the buffer it has.
-fn say(out: &mut [u8], call: Call, said: Answer, bytes: &[u8], spare: &mut [u8]) -> usize
-    ensures { λ r. ⌜ r ≤ length (now (out .exit)) ⌝ }
-{
-    let len = put_answer(out, call, said, bytes, spare);
-    put::within(len, out)
 }
 
 // Writes the answers out.
 fn write_out(out: &[u8], len: usize) {
-    let n = put::within(len, out);
+    let n = pieces::within(len, out);
     io::write_all(STDOUT_FILENO, &out[..n]);
 }
 
@@ -151,7 +81,7 @@ fn answer_lines(
         let acted = made(c, call, bytes, spare);
         let said = acted.answer;
         c = acted.next;
-        len += say(&mut out[len..], call, said, bytes, spare);
+        len += answers::say(&mut out[len..], call, said, bytes, spare);
     }
 }
 

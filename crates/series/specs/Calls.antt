@@ -2,7 +2,9 @@
 use mathlib.Core.Path.{_≡_, refl, sym, _∙_}
 use mathlib.Core.Bool.{Bool, true}
 use mathlib.Core.List.{List, []}
+use mathlib.Core.Logic.{_⊎_, inl, inr, ⊎-elim}
 use Prim.Native.Nat.{ℕ}
+use lib.ListN.{length}
 use lib.IntN.{ℤ}
 use borrow.Author.Tests.{eq-eqb}
 use Rattle.paper.specs.Answer.{Answer, done, refused, fault, told}
@@ -11,14 +13,19 @@ use Rattle.controller.specs.declared.Controller.{Controller}
 use Rattle.counters.specs.declared.Counters.{Counters}
 use Rattle.controller.specs.declared.Ticked.{Ticked}
 use Rattle.controller.specs.declared.Requested.{Requested}
+use Rattle.controller.specs.declared.Polled.{Polled}
 use Rattle.controller.specs.declared.SetTo.{SetTo}
 use Rattle.controller.specs.declared.ResetTo.{ResetTo}
 use Rattle.controller.specs.declared.Restarted.{Restarted}
 use Rattle.controller.specs.Calls.{restartOf, controllerIn, freshOf, linkOf, restartedFrom}
-use Rattle.controller.specs.Says.{saysRestart, Ticks, Sets, Resets, Restarts, Replies}
+use Rattle.controller.specs.Says.{saysRestart, Ticks, Sets, Resets, Restarts, Replies, Polls}
 use Rattle.controller.specs.Made.{Made}
+use Rattle.controller.specs.Modbus.{modbusOf}
+use Rattle.controller.specs.ModbusLaws.{modbus-only, modbus-sets}
+use Rattle.modbus.specs.Asks.{heard, hearOf}
+use Rattle.modbus.specs.Asks as asks
 use Rattle.paper.specs.AnswerLaws.{refused-done, fault-done}
-use Rattle.series.specs.Events.{tick, link, request, settings, reset, restart, eventOf, run, givenBy, countingAt, handedBack}
+use Rattle.series.specs.Events.{tick, link, request, modbus, settings, reset, restart, eventOf, run, givenBy, countingAt, handedBack}
 
 pub fresh-is : (r : Controller) → Made freshOf r → r ≡ run freshOf []
 unfolding run
@@ -36,6 +43,19 @@ link-is c on r h = h .is
 pub request-is : (c : Controller) (s old new : List ℕ) (r : Requested) → Replies c s old new r → r .next ≡ eventOf c (request s old)
 unfolding eventOf
 request-is c s old new r h = h .next
+
+pub modbus-is : (c : Controller) (s old new : List ℕ) (r : Polled) → Polls c s old new r → r .next ≡ eventOf c (modbus s old)
+unfolding eventOf
+modbus-is c s old new r h = h .next
+
+-- Demand 3's link starts include these writes: an accepted write is the link start that it sets or clears, and any other frame leaves the controller
+pub write-is : (c : Controller) (s old bytes : List ℕ) (all on : Bool) → hearOf (c .set .address) s ≡ done (heard all (asks.link on)) → modbusOf c s (length old) .answer ≡ done bytes → eventOf c (modbus s old) ≡ eventOf c (link on)
+unfolding eventOf
+write-is c s old bytes all on e d = modbus-sets c s (length old) all on bytes e d
+
+pub modbus-stays : (c : Controller) (s old : List ℕ) → (eventOf c (modbus s old) ≡ c) ⊎ ((on : Bool) × (eventOf c (modbus s old) ≡ eventOf c (link on)))
+unfolding eventOf
+modbus-stays c s old = ⊎-elim (λ e. inl e) (λ w. inr (w .on, w .sets)) (modbus-only c s (length old))
 
 pub settings-is : (c : Controller) (set : Settings) (r : SetTo) → Sets c set r → r .next ≡ eventOf c (settings set)
 unfolding eventOf

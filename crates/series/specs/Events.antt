@@ -15,14 +15,16 @@ use Rattle.counters.specs.Counters.{counters}
 use Rattle.controller.specs.Tick.{Told, tickOf}
 use Rattle.controller.specs.Calls.{restartOf, settingsOf, resetOf, linkOf, isReady, restartedFrom}
 use Rattle.controller.specs.Line.{requestOf}
+use Rattle.controller.specs.Modbus.{modbusOf}
 use Rattle.controller.specs.Outside.{Noted, noted, wAt, dosesSeen}
 
 -- an event for each kind of call: a tick with its sample and inputs, a link start set or cleared, a line request with the bytes offered and the reply buffer,
--- new settings, a counter reset, a restart with a set and two stored numbers
+-- a MODBUS frame and the reply buffer, new settings, a counter reset, a restart with a set and two stored numbers
 pub data Event : Type 0 where
   tick : ℤ → ℕ → Event
   link : Bool → Event
   request : List ℕ → List ℕ → Event
+  modbus : List ℕ → List ℕ → Event
   settings : Settings → Event
   reset : Event
   restart : Settings → ℕ → ℕ → Event
@@ -32,6 +34,7 @@ unfoldable pub eventOf : Controller → Event → Controller
 eventOf c (tick x i) = tickOf c x i .next
 eventOf c (link on) = linkOf c on
 eventOf c (request s reply) = requestOf c s (length reply) .next
+eventOf c (modbus s reply) = modbusOf c s (length reply) .next
 eventOf c (settings set) = settingsOf c set .next
 eventOf c reset = resetOf c .next
 eventOf c (restart set count total) = restartedFrom c (restartOf set count total)
@@ -59,6 +62,7 @@ sightOf c (tick x i) m =
     record { notes = noted c c' (wAt c x c') m; doses = dosesSeen c x c' m }
 sightOf c (link on) m = unmoved m
 sightOf c (request s reply) m = unmoved m
+sightOf c (modbus s reply) m = unmoved m
 sightOf c (settings set) m = unmoved m
 sightOf c reset m = unmoved m
 sightOf c (restart set count total) m = unmoved m
@@ -80,6 +84,7 @@ unfoldable pub countingAt : Controller → Event → Counting
 countingAt c (tick x i) = goesOn
 countingAt c (link on) = goesOn
 countingAt c (request s reply) = goesOn
+countingAt c (modbus s reply) = goesOn
 countingAt c (settings set) = goesOn
 countingAt c reset = pick (isReady c) cleared goesOn
 countingAt c (restart set count total) = givenBy (restartOf set count total) count total
@@ -145,6 +150,7 @@ unfoldable pub recordsAt : Controller → Event → List Record
 recordsAt c (tick x i) = recordsIn (tickOf c x i .answer)
 recordsAt c (link on) = []
 recordsAt c (request s reply) = []
+recordsAt c (modbus s reply) = []
 recordsAt c (settings set) = []
 recordsAt c reset = []
 recordsAt c (restart set count total) = []

@@ -27,8 +27,9 @@ use Rattle.counters.specs.Laws.{AllRecordable}
 use Rattle.controller.specs.Promises.{tick-recordable, request-zero, settings-counters, restart-counters}
 use Rattle.controller.specs.Outside.{Noted, Agrees}
 use Rattle.counters.specs.Laws.{countedIn, Tells}
+use Rattle.controller.specs.ModbusLaws.{modbus-sound, modbus-keeps}
 use Rattle.controller.specs.OutsideLaws.{Answers, tick-agrees, tick-counters, tick-records}
-use Rattle.series.specs.Events.{Event, tick, link, request, settings, reset, restart, eventOf, run, noNotes, Sight, unmoved, sightOf, Counting, goesOn, cleared, given, givenBy, countingAt, recordsIn, recordsAt}
+use Rattle.series.specs.Events.{Event, tick, link, request, modbus, settings, reset, restart, eventOf, run, noNotes, Sight, unmoved, sightOf, Counting, goesOn, cleared, given, givenBy, countingAt, recordsIn, recordsAt}
 
 -- the numbers from which the doses are counted after a call
 unfoldable pub countersFrom : Counting → Counters → Counters
@@ -127,6 +128,9 @@ module _ (c : Controller) (m : Noted) (s : Sound c) (a : Agrees (c .phase) m) wh
   event-kept (request b reply) =
       let z = request-zero c b (length reply) .1 in
       still-kept c _ m a (request-sound c b (length reply) s) (ap (λ (d : Controller). d .phase) z) (ap (λ (d : Controller). d .counters) z)
+  event-kept (modbus b reply) =
+      let k = modbus-keeps c b (length reply) in
+      still-kept c _ m a (modbus-sound c b (length reply) s) (k .0) (k .1)
   event-kept (settings set) =
       still-kept c _ m a (settings-sound c set s) (settings-phase c set (settingsAnswer c set)) (settings-counters c set)
   event-kept reset = reset-kept c m (isReady c) refl s a

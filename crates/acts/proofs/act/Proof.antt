@@ -17,48 +17,6 @@ use Rattle.acts.proofs.act.Tie as tie
 sample-fits : (c : tie.After-known-told) → SFits w32 (c .before .call .given .0 .0)
 sample-fits c = search needs
 
-enum-known-call : tie.Need-enum-known-call
-enum-known-call c = search needs
-
-tick-requires : tie.Need-tick-requires
-tick-requires c κs = search needs
-
-enum-known-call-2 : tie.Need-enum-known-call-2
-enum-known-call-2 c = search needs
-
-link-requires : tie.Need-link-requires
-link-requires c κs = search needs
-
-enum-known-call-3 : tie.Need-enum-known-call-3
-enum-known-call-3 c = search needs
-
-settings-requires : tie.Need-settings-requires
-settings-requires c κs = search needs
-
-enum-told : tie.Need-enum-told
-enum-told c = search needs
-
-reset-requires : tie.Need-reset-requires
-reset-requires c κs = search needs
-
-enum-told-2 : tie.Need-enum-told-2
-enum-told-2 c = search needs
-
-counters-requires : tie.Need-counters-requires
-counters-requires c κs = search needs
-
-enum-known-call-4 : tie.Need-enum-known-call-4
-enum-known-call-4 c = search needs
-
-restart-requires : tie.Need-restart-requires
-restart-requires c κs = search needs
-
-enum-known-call-5 : tie.Need-enum-known-call-5
-enum-known-call-5 c = search needs
-
-request-requires : tie.Need-request-requires
-request-requires c κs = search needs
-
 returns : tie.Need-returns
 unfolding lent lentTo askBy askOf asCall leftBy leftAt
 returns c =
@@ -95,9 +53,6 @@ returns-6 c =
     let a = c .before .before .before .before .before .before .args in
     acts-as (as-call (length (now (a .reply))) (now (a .bytes)) (c .before .before .call4 .given .1)) (acts-made refl (c .restart .ensures))
 
-same-length : tie.Need-same-length
-same-length c = search needs
-
 returns-7 : tie.Need-returns-7
 unfolding lent lentTo askBy askOf asCall
 returns-7 c =
@@ -105,34 +60,24 @@ returns-7 c =
     acts-as (as-call (length (now (a .reply))) (now (a .bytes)) (c .before .before .before .before .before .call5 .given .1)) (c .before .before .request .ensures)
 
 returns-8 : tie.Need-returns-8
+unfolding lent lentTo askBy askOf asCall
 returns-8 c =
+    let a = c .before .before .before .before .before .before .before .before .before .args in
+    acts-as (as-call (length (now (a .reply))) (now (a .bytes)) (c .before .before .before .before .before .call6 .given .1)) (c .before .before .modbus .ensures)
+
+returns-9 : tie.Need-returns-9
+returns-9 c =
     let a = c .before .before .before .args in
-    acts-as (asks-nothing (length (now (a .reply))) (now (a .bytes)) (a .call) (c .match .keys8)) (acts-none (c .before .before .before .pre))
+    acts-as (asks-nothing (length (now (a .reply))) (now (a .bytes)) (a .call) (c .match .keys9)) (acts-none (c .before .before .before .pre))
 
 pub act-spec : {M : Type 1} → statement M
 act-spec =
     tie.close
     (tie.spec
-    enum-known-call
-    tick-requires
-    enum-known-call-2
-    link-requires
-    enum-known-call-3
-    settings-requires
-    enum-told
-    reset-requires
-    enum-told-2
-    counters-requires
-    enum-known-call-4
-    restart-requires
-    enum-known-call-5
-    request-requires
-    returns
-    returns-2
-    returns-3
-    returns-4
-    returns-5
-    returns-6
-    same-length
-    returns-7
-    returns-8)
+    (λ c. search needs) (λ c κs. search needs) (λ c. search needs) (λ c κs. search needs) (λ c. search needs)
+    (λ c κs. search needs) (λ c. search needs) (λ c κs. search needs) (λ c. search needs) (λ c κs. search needs)
+    (λ c. search needs) (λ c κs. search needs) (λ c. search needs) (λ c κs. search needs) (λ c. search needs) (λ c κs. search needs)
+    returns returns-2 returns-3 returns-4 returns-5 returns-6
+    (λ c. search needs) returns-7
+    (λ c. search needs) returns-8
+    returns-9)

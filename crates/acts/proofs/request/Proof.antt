@@ -6,41 +6,24 @@ use borrow.Author.Needs.{needs}
 use Rattle.acts.proofs.request.Statement.{statement}
 use Rattle.acts.proofs.request.Tie as tie
 
-lesser-requires : tie.Need-lesser-requires
-lesser-requires c κs = search needs
-
-lesser-requires-2 : tie.Need-lesser-requires-2
-lesser-requires-2 c κs = search needs
-
 slice-aggregate-request : tie.Need-slice-aggregate-request
 slice-aggregate-request c = sym (length-take-le (c .before .before .lesser .result) (now (c .before .before .before .before .before .args .bytes)) (least-right _ _ (c .before .before .lesser .ensures)))
-
-slice-relend-prefix-request : tie.Need-slice-relend-prefix-request
-slice-relend-prefix-request c = least-left _ _ (c .before .lesser2 .ensures)
 
 slice-aggregate-request-2 : tie.Need-slice-aggregate-request-2
 slice-aggregate-request-2 c = sym (length-take-le (c .before .before .lesser2 .result) (now (c .before .before .before .before .before .before .args .reply)) (least-left _ _ (c .before .before .lesser2 .ensures)))
 
-request-requires : tie.Need-request-requires
-request-requires c κs = search needs
-
-same-length : tie.Need-same-length
-same-length c = search needs
-
 returns : tie.Need-returns
 returns c =
     let a = c .before .before .before .before .before .before .before .before .before .before .args in
-    acts-request (now (a .bytes)) (now (a .reply)) _ (a .n) (a .room) _ _ (c .before .before .before .request .result) (c .before .before .before .before .before .before .before .lesser .ensures) (c .before .before .before .before .before .before .lesser2 .ensures) (c .before .before .before .request .ensures)
+    acts-request (now (a .bytes)) (now (a .reply)) _ (a .n) (a .room) _ _ (c .before .before .before .before .before .before .before .lesser .ensures) (c .before .before .before .before .before .before .lesser2 .ensures) (c .before .before .before .request .result) (c .before .before .before .request .ensures)
 
 pub request-spec : {M : Type 1} → statement M
 request-spec =
     tie.close
     (tie.spec
-    lesser-requires
-    lesser-requires-2
+    (λ c κs. search needs) (λ c κs. search needs)
     slice-aggregate-request
-    slice-relend-prefix-request
+    (λ c. least-left _ _ (c .before .lesser2 .ensures))
     slice-aggregate-request-2
-    request-requires
-    same-length
+    (λ c κs. search needs) (λ c. search needs)
     returns)

@@ -13,13 +13,14 @@ use borrow.Author.Needs.{needs}
 use Rattle.calls.proofs.call_of.Statement.{statement}
 use Rattle.calls.proofs.call_of.Tie as tie
 
-returns-16 : tie.Need-returns-16
+returns-17 : tie.Need-returns-17
 unfolding callBy
-returns-16 c =
+returns-17 c =
     let n = c .match .rest in
     by-key (c .before .byte-at .ensures) refl
     (unasked
     (pick-f _ _ _ (ne-eqb _ _ (λ t. c .before .before .before .pre .1 (sym (c .before .byte-at .ensures) ∙ t)))
+    ∙ pick-f _ _ _ (ne-eqb _ _ (n .0 .0 .0 .0 .0 .0 .0 .0 .0 .0 .0 .0 .0 .0 .0 .1))
     ∙ pick-f _ _ _ (ne-eqb _ _ (n .0 .0 .0 .0 .0 .0 .0 .0 .0 .0 .0 .0 .0 .0 .1))
     ∙ pick-f _ _ _ (ne-eqb _ _ (n .0 .0 .0 .0 .0 .0 .0 .0 .0 .0 .0 .0 .0 .1))
     ∙ pick-f _ _ _ (ne-eqb _ _ (n .0 .0 .0 .0 .0 .0 .0 .0 .0 .0 .0 .0 .1))
@@ -41,23 +42,25 @@ call-of-spec =
     (λ c κs. search needs) (λ c κs. search needs)
     (λ c κs. (c .before .before .before .pre .0, sym (ap roomMost (c .match .keys6))))
     (λ c κs. (c .before .before .before .pre .0, sym (ap roomMost (c .match .keys7))))
+    (λ c κs. (c .before .before .before .pre .0, sym (ap roomMost (c .match .keys8))))
     (λ c κs. c .before .before .before .pre .0) (λ c κs. search needs) (λ c κs. c .before .before .before .pre .0)
     (λ c κs. search needs) (λ c κs. search needs) (λ c κs. c .before .before .before .pre .0)
-    (λ c κs. (c .before .before .before .pre .0, sym (ap roomMost (c .match .keys14))))
     (λ c κs. (c .before .before .before .pre .0, sym (ap roomMost (c .match .keys15))))
+    (λ c κs. (c .before .before .before .pre .0, sym (ap roomMost (c .match .keys16))))
     (λ c. by-key {k = 76} (c .before .before .byte-at .ensures) (c .before .match .keys1) (c .link .ensures))
     (λ c. by-key {k = 83} (c .before .before .byte-at .ensures) (c .before .match .keys2) (c .set .ensures))
     (λ c. by-key {k = 67} (c .before .before .byte-at .ensures) (c .before .match .keys3) (asked (c .ended .ensures) refl refl (omega arith) tt))
     (λ c. by-key {k = 81} (c .before .before .byte-at .ensures) (c .before .match .keys4) (asked (c .ended2 .ensures) refl refl (omega arith) tt))
     (λ c. by-key {k = 78} (c .before .before .byte-at .ensures) (c .before .match .keys5) (c .restart .ensures))
     (λ c. by-key {k = 66} (c .before .before .byte-at .ensures) (c .before .match .keys6) (subst (λ (n : ℕ). Asks (now (c .before .before .before .before .args .line)) (roomAt 64 (roomCall n) (drop 1 (now (c .before .before .before .before .args .line)))) (c .room .result)) (c .before .match .keys6) (c .room .ensures)))
-    (λ c. by-key {k = 87} (c .before .before .byte-at .ensures) (c .before .match .keys7) (subst (λ (n : ℕ). Asks (now (c .before .before .before .before .args .line)) (roomAt 600 (roomCall n) (drop 1 (now (c .before .before .before .before .args .line)))) (c .room2 .result)) (c .before .match .keys7) (c .room2 .ensures)))
-    (λ c. by-key {k = 88} (c .before .before .byte-at .ensures) (c .before .match .keys8) (subst (λ (n : ℕ). Asks (now (c .before .before .before .before .args .line)) (bytesCall (aloneCall n) (drop 1 (now (c .before .before .before .before .args .line)))) (c .alone .result)) (c .before .match .keys8) (c .alone .ensures)))
-    (λ c. by-key {k = 71} (c .before .before .byte-at .ensures) (c .before .match .keys9) (c .weight .ensures))
-    (λ c. by-key {k = 75} (c .before .before .byte-at .ensures) (c .before .match .keys10) (c .four .ensures))
-    (λ c. by-key {k = 68} (c .before .before .byte-at .ensures) (c .before .match .keys11) (c .dose .ensures))
-    (λ c. by-key {k = 72} (c .before .before .byte-at .ensures) (c .before .match .keys12) (c .on .ensures))
-    (λ c. by-key {k = 108} (c .before .before .byte-at .ensures) (c .before .match .keys13) (subst (λ (n : ℕ). Asks (now (c .before .before .before .before .args .line)) (bytesCall (aloneCall n) (drop 1 (now (c .before .before .before .before .args .line)))) (c .alone2 .result)) (c .before .match .keys13) (c .alone2 .ensures)))
-    (λ c. by-key {k = 117} (c .before .before .byte-at .ensures) (c .before .match .keys14) (subst (λ (n : ℕ). Asks (now (c .before .before .before .before .args .line)) (roomAt 4294967295 (roomCall n) (drop 1 (now (c .before .before .before .before .args .line)))) (c .room3 .result)) (c .before .match .keys14) (c .room3 .ensures)))
-    (λ c. by-key {k = 106} (c .before .before .byte-at .ensures) (c .before .match .keys15) (subst (λ (n : ℕ). Asks (now (c .before .before .before .before .args .line)) (roomAt 2000 (roomCall n) (drop 1 (now (c .before .before .before .before .args .line)))) (c .room4 .result)) (c .before .match .keys15) (c .room4 .ensures)))
-    returns-16)
+    (λ c. by-key {k = 77} (c .before .before .byte-at .ensures) (c .before .match .keys7) (subst (λ (n : ℕ). Asks (now (c .before .before .before .before .args .line)) (roomAt 64 (roomCall n) (drop 1 (now (c .before .before .before .before .args .line)))) (c .room2 .result)) (c .before .match .keys7) (c .room2 .ensures)))
+    (λ c. by-key {k = 87} (c .before .before .byte-at .ensures) (c .before .match .keys8) (subst (λ (n : ℕ). Asks (now (c .before .before .before .before .args .line)) (roomAt 600 (roomCall n) (drop 1 (now (c .before .before .before .before .args .line)))) (c .room3 .result)) (c .before .match .keys8) (c .room3 .ensures)))
+    (λ c. by-key {k = 88} (c .before .before .byte-at .ensures) (c .before .match .keys9) (subst (λ (n : ℕ). Asks (now (c .before .before .before .before .args .line)) (bytesCall (aloneCall n) (drop 1 (now (c .before .before .before .before .args .line)))) (c .alone .result)) (c .before .match .keys9) (c .alone .ensures)))
+    (λ c. by-key {k = 71} (c .before .before .byte-at .ensures) (c .before .match .keys10) (c .weight .ensures))
+    (λ c. by-key {k = 75} (c .before .before .byte-at .ensures) (c .before .match .keys11) (c .four .ensures))
+    (λ c. by-key {k = 68} (c .before .before .byte-at .ensures) (c .before .match .keys12) (c .dose .ensures))
+    (λ c. by-key {k = 72} (c .before .before .byte-at .ensures) (c .before .match .keys13) (c .on .ensures))
+    (λ c. by-key {k = 108} (c .before .before .byte-at .ensures) (c .before .match .keys14) (subst (λ (n : ℕ). Asks (now (c .before .before .before .before .args .line)) (bytesCall (aloneCall n) (drop 1 (now (c .before .before .before .before .args .line)))) (c .alone2 .result)) (c .before .match .keys14) (c .alone2 .ensures)))
+    (λ c. by-key {k = 117} (c .before .before .byte-at .ensures) (c .before .match .keys15) (subst (λ (n : ℕ). Asks (now (c .before .before .before .before .args .line)) (roomAt 4294967295 (roomCall n) (drop 1 (now (c .before .before .before .before .args .line)))) (c .room4 .result)) (c .before .match .keys15) (c .room4 .ensures)))
+    (λ c. by-key {k = 106} (c .before .before .byte-at .ensures) (c .before .match .keys16) (subst (λ (n : ℕ). Asks (now (c .before .before .before .before .args .line)) (roomAt 2000 (roomCall n) (drop 1 (now (c .before .before .before .before .args .line)))) (c .room5 .result)) (c .before .match .keys16) (c .room5 .ensures)))
+    returns-17)

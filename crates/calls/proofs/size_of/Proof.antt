@@ -11,14 +11,15 @@ use Rattle.calls.proofs.size_of.Statement.{statement}
 use Rattle.calls.proofs.size_of.Tie as tie
 
 -- a call of no bytes
-none : (r : declared.Call) → OneOf (0 ∷ 1 ∷ 2 ∷ 3 ∷ 4 ∷ 5 ∷ 9 ∷ 10 ∷ 11 ∷ 15 ∷ []) (tagOf call-type r) → 0 ≡ sizeOf r
+none : (r : declared.Call) → OneOf (0 ∷ 1 ∷ 2 ∷ 3 ∷ 4 ∷ 5 ∷ 10 ∷ 11 ∷ 12 ∷ 16 ∷ []) (tagOf call-type r) → 0 ≡ sizeOf r
 unfolding sizeOf
-none (C.Request n room) h = absurd (miss (0 ∷ 1 ∷ 2 ∷ 3 ∷ 4 ∷ 5 ∷ 9 ∷ 10 ∷ 11 ∷ 15 ∷ []) 6 tt h)
-none (C.WriteFrame n room) h = absurd (miss (0 ∷ 1 ∷ 2 ∷ 3 ∷ 4 ∷ 5 ∷ 9 ∷ 10 ∷ 11 ∷ 15 ∷ []) 7 tt h)
-none (C.ReadFrame n) h = absurd (miss (0 ∷ 1 ∷ 2 ∷ 3 ∷ 4 ∷ 5 ∷ 9 ∷ 10 ∷ 11 ∷ 15 ∷ []) 8 tt h)
-none (C.ReadLine n) h = absurd (miss (0 ∷ 1 ∷ 2 ∷ 3 ∷ 4 ∷ 5 ∷ 9 ∷ 10 ∷ 11 ∷ 15 ∷ []) 12 tt h)
-none (C.Hour n k) h = absurd (miss (0 ∷ 1 ∷ 2 ∷ 3 ∷ 4 ∷ 5 ∷ 9 ∷ 10 ∷ 11 ∷ 15 ∷ []) 13 tt h)
-none (C.Hours n room) h = absurd (miss (0 ∷ 1 ∷ 2 ∷ 3 ∷ 4 ∷ 5 ∷ 9 ∷ 10 ∷ 11 ∷ 15 ∷ []) 14 tt h)
+none (C.Request n room) h = absurd (miss (0 ∷ 1 ∷ 2 ∷ 3 ∷ 4 ∷ 5 ∷ 10 ∷ 11 ∷ 12 ∷ 16 ∷ []) 6 tt h)
+none (C.Modbus n room) h = absurd (miss (0 ∷ 1 ∷ 2 ∷ 3 ∷ 4 ∷ 5 ∷ 10 ∷ 11 ∷ 12 ∷ 16 ∷ []) 7 tt h)
+none (C.WriteFrame n room) h = absurd (miss (0 ∷ 1 ∷ 2 ∷ 3 ∷ 4 ∷ 5 ∷ 10 ∷ 11 ∷ 12 ∷ 16 ∷ []) 8 tt h)
+none (C.ReadFrame n) h = absurd (miss (0 ∷ 1 ∷ 2 ∷ 3 ∷ 4 ∷ 5 ∷ 10 ∷ 11 ∷ 12 ∷ 16 ∷ []) 9 tt h)
+none (C.ReadLine n) h = absurd (miss (0 ∷ 1 ∷ 2 ∷ 3 ∷ 4 ∷ 5 ∷ 10 ∷ 11 ∷ 12 ∷ 16 ∷ []) 13 tt h)
+none (C.Hour n k) h = absurd (miss (0 ∷ 1 ∷ 2 ∷ 3 ∷ 4 ∷ 5 ∷ 10 ∷ 11 ∷ 12 ∷ 16 ∷ []) 14 tt h)
+none (C.Hours n room) h = absurd (miss (0 ∷ 1 ∷ 2 ∷ 3 ∷ 4 ∷ 5 ∷ 10 ∷ 11 ∷ 12 ∷ 16 ∷ []) 15 tt h)
 none (C.Tick x i) h = refl
 none (C.Link on) h = refl
 none (C.Settings set) h = refl
@@ -36,7 +37,8 @@ size-of-spec =
     tie.close
     (tie.spec
     (λ c. search needs) (λ c. search needs) (λ c. search needs) (λ c. search needs) (λ c. search needs)
-    (λ c. search needs) (λ c. sym (ap sizeOf (c .before .call .given .1)))
+    (λ c. search needs) (λ c. search needs) (λ c. sym (ap sizeOf (c .before .call .given .1)))
     (λ c. sym (ap sizeOf (c .before .call2 .given .1))) (λ c. sym (ap sizeOf (c .before .call3 .given .1)))
     (λ c. sym (ap sizeOf (c .before .call4 .given .1))) (λ c. sym (ap sizeOf (c .before .call5 .given .1)))
-    (λ c. sym (ap sizeOf (c .before .call6 .given .1))) (λ c. none (c .before .args .call) (c .match .keys7)))
+    (λ c. sym (ap sizeOf (c .before .call6 .given .1))) (λ c. sym (ap sizeOf (c .before .call7 .given .1)))
+    (λ c. none (c .before .args .call) (c .match .keys8)))

@@ -24,14 +24,20 @@ enum-known-asked c = search needs
 enum-told : tie.Need-enum-told
 enum-told c = search needs
 
+polled-requires : tie.Need-polled-requires
+polled-requires c κs = tt
+
 -- R17
 returns : tie.Need-returns
 returns c =
-    let h = c .before .before in
-    silent _ _ _ (h .before .before .before .before .pre) (h .hear .result) (h .hear .ensures) (c .enum-told .given .1)
+    let h = c .before .before .before in
+    silent _ _ _ (h .before .before .before .before .pre) (h .hear .result) (h .hear .ensures) (c .before .enum-told .given .1) (c .polled .ensures .0) (c .polled .ensures .1)
+
+link-after-requires : tie.Need-link-after-requires
+link-after-requires c κs = tt
 
 values-of-requires : tie.Need-values-of-requires
-values-of-requires c κs = c .before .before .before .before .before .before .before .pre
+values-of-requires c κs = c .before .before .before .before .before .before .before .before .pre
 
 words-requires : tie.Need-words-requires
 words-requires c κs = tt
@@ -45,34 +51,39 @@ enum-known-len c = search needs
 enum-told-2 : tie.Need-enum-told-2
 enum-told-2 c = search needs
 
+polled-requires-2 : tie.Need-polled-requires-2
+polled-requires-2 c κs = tt
+
 same-length : tie.Need-same-length
 same-length c = search needs
 
 -- R8
 returns-2 : tie.Need-returns-2
 returns-2 c =
-    let w = c .before .before .before .before in
+    let w = c .before .before .before .before .before in
     let t = w .before .before in
-    let a = t .before .before .before in
+    let a = t .before .before .before .before in
     let h = a .before .before in
     too-short _ _ _ (h .before .before .before .before .pre) (h .hear .result) (h .hear .ensures) (a .asked .given .0 .0) (a .asked .given .1)
-    (t .words .ensures ∙ ap tableOf (t .before .values-of .ensures)) (w .serve .result) (w .serve .ensures) (c .enum-told2 .given .1)
+    (t .words .ensures ∙ ap tableOf (t .before .values-of .ensures)) (w .serve .result) (w .serve .ensures)
+    (c .before .enum-told2 .given .1) (c .polled2 .ensures .0) (c .polled2 .ensures .1)
 
-link-after-requires : tie.Need-link-after-requires
-link-after-requires c κs = tt
+polled-requires-3 : tie.Need-polled-requires-3
+polled-requires-3 c κs = tt
 
 same-length-2 : tie.Need-same-length-2
 same-length-2 c = search needs
 
 returns-3 : tie.Need-returns-3
 returns-3 c =
-    let l = c .before .before in
-    let w = l .before .before .before .before in
+    let w = c .before .before .before .before .before .before in
     let t = w .before .before in
-    let a = t .before .before .before in
+    let l = t .before .before in
+    let a = l .before .before in
     let h = a .before .before in
     replied-to _ _ _ (h .before .before .before .before .pre) (h .hear .result) (h .hear .ensures) (a .asked .given .0 .0) (a .asked .given .1)
-    (t .words .ensures ∙ ap tableOf (t .before .values-of .ensures)) (w .serve .result) (w .serve .ensures) (l .len .given .1) (c .link-after .ensures)
+    (t .words .ensures ∙ ap tableOf (t .before .values-of .ensures)) (w .serve .result) (w .serve .ensures)
+    (c .before .before .len .given .1) (l .link-after .ensures) (c .polled3 .ensures .0) (c .polled3 .ensures .1)
 
 pub modbus-spec : {M : Type 1} → statement M
 modbus-spec =
@@ -82,14 +93,17 @@ modbus-spec =
     hear-requires
     enum-known-asked
     enum-told
+    polled-requires
     returns
+    link-after-requires
     values-of-requires
     words-requires
     serve-requires
     enum-known-len
     enum-told-2
+    polled-requires-2
     same-length
     returns-2
-    link-after-requires
+    polled-requires-3
     same-length-2
     returns-3)

@@ -2,8 +2,8 @@ use mathlib.Core.Path.{sym}
 use native.Mathlib.Omega.{arith}
 use lib.Seq.{length-take-le}
 use borrow.Author.Needs.{needs}
-use Rattle.replay.proofs.put.within.Statement.{statement}
-use Rattle.replay.proofs.put.within.Tie as tie
+use Rattle.pieces.proofs.within.Statement.{statement}
+use Rattle.pieces.proofs.within.Tie as tie
 
 returns : tie.Need-returns
 returns c = (search needs, sym (length-take-le _ _ (search needs)))

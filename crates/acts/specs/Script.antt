@@ -1,0 +1,88 @@
+-- Lines one after another, as blocks of an input hand them over, and the controller that they make. Assumes nothing.
+use mathlib.Core.Path.{_≡_, refl, sym, ap, _∙_, subst}
+use mathlib.Core.List.{List, [], _∷_, _++_}
+use Prim.Native.Nat.{ℕ, _-_, _≤_}
+use native.Mathlib.Omega.{arith}
+use lib.ListN.{length, take, drop, length-take}
+use Rattle.laws.specs.Decimal.{Parsed}
+use Rattle.controller.specs.declared.Controller.{Controller}
+use Rattle.controller.specs.Sound.{Sound}
+use Rattle.series.specs.Events.{run}
+use Rattle.lines.specs.declared.Intake.{Intake}
+use Rattle.lines.specs.declared.Taken.{Taken}
+use Rattle.lines.specs.declared.Next.{Next}
+use Rattle.lines.specs.declared.Next.the-variants.{Line, More}
+use Rattle.lines.specs.Places.{partOf}
+use Rattle.lines.specs.Intake.{comes, nextOf, handed, Behind, Waits, Stands, Steps, next-steps}
+use Rattle.calls.specs.Call.{Call, callOf}
+use Rattle.calls.specs.declared.Call as read
+use Rattle.calls.specs.Reads.{asCall, Within, Reads, read-call}
+use Rattle.acts.specs.Acts.{Ask, askBy, eventsIn, lent, madeBy}
+use Rattle.acts.specs.Makes.{Acts, lent-read}
+use Rattle.acts.specs.declared.Acted.{Acted}
+
+-- the next controller is what a call makes of it
+pub record Made (c : Controller) (p : Parsed Call) (d : Controller) : Type 0 where
+  pub next : d ≡ madeBy c p
+  pub sound : Sound d
+
+-- the controller after lines, one after another
+unfoldable pub madeByAll : Controller → List (List ℕ) → Controller
+madeByAll c [] = c
+madeByAll c (l ∷ ls) = madeByAll (madeBy c (callOf l)) ls
+
+-- lines are made, and those still to come find the controller that they would have found
+pub record Brings (first : Controller) (start : Intake) (input : List ℕ) (c : Controller) (held : Intake) : Type 0 where
+  pub sound : Sound c
+  pub made : (future : List ℕ) → madeByAll first (comes start input future) ≡ madeByAll c (comes held input future)
+
+-- ---- a call that was read
+
+-- with 64 bytes for a reply, it is made as its line asks
+pub made-call : (c : Controller) (call : read.Call) (bytes : List ℕ) {old new : List ℕ} {r : Acted} → Within call → 64 ≤ length old
+    → Acts c (lent (length old) (askBy (asCall bytes call))) old new r → Made c (asCall bytes call) (r .next)
+unfolding madeBy
+made-call c call bytes {old} w h p = record { next = p .makes .next ∙ ap (λ (a : Ask). run c (eventsIn a)) (lent-read (length old) bytes call w h); sound = p .makes .sound }
+
+-- and a line of a fitting length, read with room for its bytes, is its call
+pub made-read : {c d : Controller} {call : read.Call} {line old new : List ℕ} → Reads line old new call → 2048 ≤ length old → length line ≤ 4095
+    → Made c (asCall new call) d → Made c (callOf line) d
+made-read {c} {d} p h k m = subst (λ (q : Parsed Call). Made c q d) (read-call p h k) m
+
+-- ---- a step over the lines
+
+pub brings-none : {c : Controller} {i : Intake} {input : List ℕ} → Sound c → Brings c i input c i
+brings-none s = record { sound = s; made = λ future. refl }
+
+-- what the next line, or that there is none, tells
+module _ (input : List ℕ) (held : Intake) (t : Taken) (e : t ≡ nextOf held input) where
+  steps : Steps held input t
+  steps = subst (Steps held input) (sym e) (next-steps held input)
+
+  pub line-behind : {from to : ℕ} → t .next ≡ Line from to → Behind held input from to (t .intake)
+  line-behind n = subst (Stands held input (t .intake)) n (steps .stands)
+
+  pub none-waits : t .next ≡ More → Waits (t .intake) input
+  none-waits n = subst (Stands held input (t .intake)) n (steps .stands)
+
+  pub line-short : {from to : ℕ} → t .next ≡ Line from to → length (take (to - from) (drop from input)) ≤ 4095
+  line-short {from} {to} n = omega (arith, line-behind n .short, length-take (to - from) (drop from input))
+
+  -- a line's call leaves what the others find
+  pub brings-line : {first d : Controller} {start : Intake} {c : Controller} {from to : ℕ} → Brings first start input c held
+      → t .next ≡ Line from to → Made c (callOf (take (to - from) (drop from input))) d → Brings first start input d (t .intake)
+  unfolding handed partOf madeByAll
+  brings-line {c = c} g n m = record {
+    sound = m .sound;
+    made = λ future.
+        g .made future
+        ∙ ap (madeByAll c) (steps .comes future ∙ ap (λ (x : Next). handed input x ++ comes (t .intake) input future) n)
+        ∙ ap (λ (d : Controller). madeByAll d (comes (t .intake) input future)) (sym (m .next));
+  }
+
+  pub brings-more : {first : Controller} {start : Intake} {c : Controller} → Brings first start input c held → t .next ≡ More → Brings first start input c (t .intake)
+  unfolding handed
+  brings-more {c = c} g n = record {
+    sound = g .sound;
+    made = λ future. g .made future ∙ ap (madeByAll c) (steps .comes future ∙ ap (λ (x : Next). handed input x ++ comes (t .intake) input future) n);
+  }

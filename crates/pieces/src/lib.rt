@@ -1,0 +1,145 @@
+// The pieces of an answer's text, each put at a place of a lent buffer and answering the place after it. A piece without room is left out.
+ghost use Rattle.io.specs.Counts.{Counts};
+
+// The letter of an answer, and its numbers: so many as `count` says, the first after a minus where `minus` is.
+pub struct Words {
+    pub letter: u8,
+    pub minus: bool,
+    pub count: usize,
+    pub numbers: [u64; 4],
+}
+
+const TAB: u8 = 9;
+
+const LF: u8 = 10;
+
+impl Words {
+    // A letter alone.
+    pub fn none(letter: u8) -> Words {
+        Words {
+            letter,
+            minus: false,
+            count: 0,
+            numbers: [0, 0, 0, 0],
+        }
+    }
+
+    // A letter and one number.
+    pub fn one(letter: u8, n: u64) -> Words {
+        Words {
+            letter,
+            minus: false,
+            count: 1,
+            numbers: [n, 0, 0, 0],
+        }
+    }
+
+    // A letter and two numbers.
+    pub fn two(letter: u8, n: u64, m: u64) -> Words {
+        Words {
+            letter,
+            minus: false,
+            count: 2,
+            numbers: [n, m, 0, 0],
+        }
+    }
+
+    // A letter and four numbers.
+    pub fn four(letter: u8, n: u64, m: u64, k: u64, l: u64) -> Words {
+        Words {
+            letter,
+            minus: false,
+            count: 4,
+            numbers: [n, m, k, l],
+        }
+    }
+}
+
+// So many bytes of a buffer, at most all.
+pub fn within(n: usize, buffer: &[u8]) -> usize
+    ensures { λ r. ⌜ Counts r (now (buffer .entry)) ⌝ }
+{
+    if n < buffer.len() { n } else { buffer.len() }
+}
+
+// Each byte A5, as before a call.
+pub fn blank(buffer: &mut [u8]) {
+    for i in 0..buffer.len() {
+        buffer[i] = 0xA5;
+    }
+}
+
+// A minus, where there is one.
+fn sign(out: &mut [u8], at: usize, minus: bool) -> usize {
+    if minus {
+        return text::put_byte(out, at, b'-');
+    }
+    at
+}
+
+// A tab, a minus where there is one, and a number.
+fn field(out: &mut [u8], at: usize, minus: bool, n: u64) -> usize {
+    let after = text::put_byte(out, at, TAB);
+    let start = sign(out, after, minus);
+    text::put_decimal(out, start, n)
+}
+
+// A tab and the 16 digits of a number's bits.
+pub fn bits(out: &mut [u8], at: usize, n: u64) -> usize {
+    let after = text::put_byte(out, at, TAB);
+    text::put_hex(out, after, 16, n)
+}
+
+// The letter of an answer and its numbers, a tab before each, at the buffer's start.
+pub fn put_words(out: &mut [u8], w: Words) -> usize {
+    let numbers = w.numbers;
+    let count = w.count;
+    let mut minus = w.minus;
+    let mut p = text::put_byte(out, 0, w.letter);
+    for i in 0..4 {
+        if count <= i {
+            return p;
+        }
+        p = field(out, p, minus, numbers[i]);
+        minus = false;
+    }
+    p
+}
+
+// The end of the line.
+pub fn end(out: &mut [u8], at: usize) -> usize {
+    text::put_byte(out, at, LF)
+}
+
+// Bytes, two digits a byte.
+fn digits(out: &mut [u8], at: usize, bytes: &[u8]) -> usize {
+    let mut p = at;
+    for i in 0..bytes.len() {
+        p = text::put_hex(out, p, 2, bytes[i] as u64);
+    }
+    p
+}
+
+// A tab, bytes, and the end of the line.
+pub fn bytes(out: &mut [u8], at: usize, bytes: &[u8]) -> usize {
+    let start = text::put_byte(out, at, TAB);
+    let after = digits(out, start, bytes);
+    end(out, after)
+}
+
+// A line of an answer's letter and its numbers.
+pub fn line(out: &mut [u8], w: Words) -> usize {
+    let after = put_words(out, w);
+    end(out, after)
+}
+
+// A line of an answer's letter, its numbers and a buffer.
+pub fn shown(out: &mut [u8], w: Words, buffer: &[u8]) -> usize {
+    let after = put_words(out, w);
+    bytes(out, after, buffer)
+}
+
+// 1 or 0.
+pub fn flag(on: bool) -> u64 {
+    if on { 1 } else { 0 }
+}
