@@ -109,11 +109,23 @@ pub dose-inside : (f : Form) (h c a s p : ℕ) → h ≤ 9999999 → c ≤ 99999
 unfolding inRange within mostOfD
 dose-inside f h c a s p hh hc ha hs hp = rw (le-leb _ _ hh, le-leb _ _ hc, le-leb _ _ ha, le-leb _ _ hs, le-leb _ _ hp)
 
+pub hour-inside : (f : Form) (h : ℕ) → h ≤ 9999999 → inRange f (On h) ≡ true
+unfolding inRange within mostOfH
+hour-inside f h e = rw (le-leb _ _ e)
+
 -- a product is at most 255 in either form
 pub product-most : (f : Form) → productMost f ≤ 255
 unfolding productMost
 product-most Old = omega arith
 product-most New = omega arith
+
+-- an old line in range is in range in the new form too
+pub range-either : (f : Form) (l : Line) → inRange f l ≡ true → inRange New l ≡ true
+unfolding productMost
+range-either f (Dose h c a s p) e =
+    let r = dose-range f h c a s p e in
+    dose-inside New h c a s p (r .0) (r .1) (r .2) (r .3) (omega (arith, r .4, product-most f))
+range-either f (On h) e = hour-inside New h (on-range f h e)
 
 -- a dose in range has its fields in range
 fields-within : (f : Form) (h c a s p : ℕ) → inRange f (Dose h c a s p) ≡ true → within (doseFields f h c a s p) (mostOfD f) ≡ true

@@ -1,0 +1,4 @@
+pub mod Holes
+pub mod HoleLaws
+pub mod Marks
+pub mod Contracts
