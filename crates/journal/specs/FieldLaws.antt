@@ -174,8 +174,7 @@ fields-few : (f : Form) (s : List ℕ) (at n : ℕ) → n ≡ fieldsAfter f (get
 fields-few f s at n q = subst (λ (m : ℕ). m ≤ 5) (sym q) (most-five f (getD s at 0))
 
 -- k of the n fields of the line at `at` are read: their values stand in got, and p is the place after them
-pub record Fielded (f : Form) (s : List ℕ) (at n : ℕ) (got : List ℕ) (k p : ℕ) : Type 0 where
-  pub asked : n ≡ fieldsAfter f (getD s at 0)
+pub record Fielded (s : List ℕ) (at n : ℕ) (got : List ℕ) (k p : ℕ) : Type 0 where
   pub some : 0 < n
   pub most : n ≤ 5
   pub few : k ≤ n
@@ -197,15 +196,14 @@ letter-inside f s at n q z =
     ]
 
 -- behind the letter
-pub fielded-none : (f : Form) (s : List ℕ) (at n : ℕ) (got : List ℕ) → n ≡ fieldsAfter f (getD s at 0) → (n ≡ 0 → ⊥) → length got ≡ 5 → Fielded f s at n got 0 (at + 1)
-fielded-none f s at n got q z g = let h = letter-inside f s at n q z in record { asked = q; some = omega (arith, z); most = fields-few f s at n q; few = omega arith; inside = omega arith; size = g; left = refl }
+pub fielded-none : (f : Form) (s : List ℕ) (at n : ℕ) (got : List ℕ) → n ≡ fieldsAfter f (getD s at 0) → (n ≡ 0 → ⊥) → length got ≡ 5 → Fielded s at n got 0 (at + 1)
+fielded-none f s at n got q z g = let h = letter-inside f s at n q z in record { some = omega (arith, z); most = fields-few f s at n q; few = omega arith; inside = omega arith; size = g; left = refl }
 
-module _ {f : Form} {s : List ℕ} {at n : ℕ} {got : List ℕ} {k p : ℕ} (w : Fielded f s at n got k p) where
+module _ {s : List ℕ} {at n : ℕ} {got : List ℕ} {k p : ℕ} (w : Fielded s at n got k p) where
   -- one field more
-  pub fielded-more : {r : Num} {v q : ℕ} → k < n → Scans s (fieldAt (getD mostOf k 0) (drop p s)) r → r ≡ Good v q → Fielded f s at n (set got k v) (k + 1) q
+  pub fielded-more : {r : Num} {v q : ℕ} → k < n → Scans s (fieldAt (getD mostOf k 0) (drop p s)) r → r ≡ Good v q → Fielded s at n (set got k v) (k + 1) q
   fielded-more {r} {v} {q} h c e =
       record {
-        asked = w .asked;
         some = w .some;
         most = w .most;
         few = omega arith;
@@ -213,10 +211,6 @@ module _ {f : Form} {s : List ℕ} {at n : ℕ} {got : List ℕ} {k p : ℕ} (w 
         size = length-set got k v ∙ w .size;
         left = sym (fields-turn s got n k p h (w .most) (omega (arith, w .size)) c e) ∙ w .left;
       }
-
-  -- a field that is none
-  pub fielded-bad : {r : Num} → k < n → Scans s (fieldAt (getD mostOf k 0) (drop p s)) r → r ≡ Bad → lineOf f (drop at s) ≡ bad
-  fielded-bad h c e = line-broken f s at n (w .asked) (w .some) (sym (w .left) ∙ fields-stop s (take k got) n k p h (w .most) c e)
 
   -- every field is read
   all-read : n ≤ k → fieldsAt [] (take n got) (drop p s) ≡ fieldsAt (take n mostOf) [] (drop (at + 1) s)
@@ -226,10 +220,15 @@ module _ {f : Form} {s : List ℕ} {at n : ℕ} {got : List ℕ} {k p : ℕ} (w 
       ∙ ap (λ (j : ℕ). fieldsAt (drop k (take n mostOf)) (take j got) (drop p s)) (sym e)
       ∙ w .left
 
-  -- no LF behind the last
-  pub fielded-torn : n ≤ k → (getD s p 0 ≡ LF → ⊥) → lineOf f (drop at s) ≡ bad
-  fielded-torn h e = line-torn f s got at n p (w .asked) (w .some) (all-read h) e
+  module _ (f : Form) (asked : n ≡ fieldsAfter f (getD s at 0)) where
+    -- a field that is none
+    pub fielded-bad : {r : Num} → k < n → Scans s (fieldAt (getD mostOf k 0) (drop p s)) r → r ≡ Bad → lineOf f (drop at s) ≡ bad
+    fielded-bad h c e = line-broken f s at n asked (w .some) (sym (w .left) ∙ fields-stop s (take k got) n k p h (w .most) c e)
 
-  -- its LF behind the last: they make the line
-  pub fielded-line : n ≤ k → getD s p 0 ≡ LF → Stands f s at (lineFrom n got) (p + 1)
-  fielded-line h e = stands-at f s at (lineFrom n got) (p + 1) (line-read s got at n p (w .asked) (w .some) (all-read h) e) (omega (arith, byte-inside s p (omega arith)))
+    -- no LF behind the last
+    pub fielded-torn : n ≤ k → (getD s p 0 ≡ LF → ⊥) → lineOf f (drop at s) ≡ bad
+    fielded-torn h e = line-torn f s got at n p asked (w .some) (all-read h) e
+
+    -- its LF behind the last: they make the line
+    pub fielded-line : n ≤ k → getD s p 0 ≡ LF → Stands f s at (lineFrom n got) (p + 1)
+    fielded-line h e = stands-at f s at (lineFrom n got) (p + 1) (line-read f s got at n p asked (w .some) (all-read h) e) (omega (arith, byte-inside s p (omega arith)))

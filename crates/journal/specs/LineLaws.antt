@@ -348,4 +348,3 @@ write-short f l room e h = pick-t _ _ _ e ∙ pick-f _ _ _ (lt-leb _ _ h)
 pub write-fits : (f : Form) (l : Line) (room : ℕ) → inRange f l ≡ true → length (textOf f l) ≤ room → writeOf f l room ≡ done (textOf f l)
 unfolding writeOf inRoom
 write-fits f l room e h = pick-t _ _ _ e ∙ pick-t _ _ _ (le-leb _ _ h)
-

@@ -100,7 +100,13 @@ pub const PRODUCT_MOST: u32 = 255;
 // A line has at most so many fields after its letter.
 pub const FIELDS: usize = 5;
 
-pub const MOST: [u32; FIELDS] = [HOUR_MOST, COUNT_MOST, AMOUNT_MOST, SETTLED_MOST, PRODUCT_MOST];
+pub const MOST: [u32; FIELDS] = [
+    HOUR_MOST,
+    COUNT_MOST,
+    AMOUNT_MOST,
+    SETTLED_MOST,
+    PRODUCT_MOST,
+];
 
 // A journal has at most so many bytes.
 pub const ROOM: usize = 65536;
