@@ -1,11 +1,18 @@
-use mathlib.Core.Path.{refl, ap}
+use mathlib.Core.Path.{_≡_, refl, subst}
+use mathlib.Core.Bool.{Bool}
+use mathlib.Core.List.{List}
+use Prim.Native.Nat.{ℕ, _-_}
 use native.Mathlib.Omega.{arith}
 use borrow.Author.Needs.{needs}
 use Rattle.laws.specs.Pick.{so}
-use Rattle.journal.specs.Journal.{hourIn}
-use Rattle.hourly.proofs.Marking.{ends-on, ends-first, ends-turn, ends-hole, ends-told}
-use Rattle.hourly.proofs.mark_hole.Statement.{statement}
-use Rattle.hourly.proofs.mark_hole.Tie as tie
+use Rattle.holes.specs.Marks.{Adds}
+use Rattle.holes.proofs.Marking.{ends-on, ends-first, ends-turn, ends-before, ends-hole, ends-told}
+use Rattle.holes.proofs.mark_hole.Statement.{statement}
+use Rattle.holes.proofs.mark_hole.Tie as tie
+
+-- the places that were marked
+placed : {old new : List Bool} {a b x y : ℕ} → a ≡ x → b ≡ y → Adds old a b new → Adds old x y new
+placed {old} {new} {a} {b} {x} {y} p q m = subst (λ (i : ℕ). Adds old i y new) p (subst (λ (i : ℕ). Adds old a i new) q m)
 
 enum-known-line : tie.Need-enum-known-line
 enum-known-line c = search needs
@@ -23,7 +30,7 @@ enum-told-2 : tie.Need-enum-told-2
 enum-told-2 c = search needs
 
 returns-2 : tie.Need-returns-2
-returns-2 c = ends-told _ _ (c .enum-told2 .given .1) (c .before .before .before .line .given .1) (ends-first _ _ _ _ _ _)
+returns-2 c = ends-told _ _ (c .enum-told2 .given .1) (c .before .before .before .line .given .1) (ends-first _ _ _ _ _ _ _)
 
 in-turn-requires : tie.Need-in-turn-requires
 in-turn-requires c κs = search needs
@@ -31,36 +38,31 @@ in-turn-requires c κs = search needs
 returns-3 : tie.Need-returns-3
 returns-3 c =
     ends-told _ _ (c .before .before .before .before2 .given .1) (c .before .before .before .before .before .before .line .given .1)
-    (ends-turn _ _ _ _ _ _ _ _ (so (c .before .in-turn .ensures) (c .if1 .taken)))
+    (ends-turn _ _ _ _ _ _ _ _ _ (so (c .before .in-turn .ensures) (c .if1 .taken)))
 
-sub-mark : tie.Need-sub-mark
-sub-mark c = c .before .before .before .before .before .before .before .before .before .before .pre .earlier _ _ (c .before .before .before .before .before2 .given .1)
+returns-4 : tie.Need-returns-4
+returns-4 c =
+    ends-told _ _ refl (c .before .before .before .before .before .before .before .line .given .1) (ends-before _ _ _ _ _ _ _ _ (c .if2 .taken))
 
-cast-mark : tie.Need-cast-mark
-cast-mark c = search needs
+place-of-requires : tie.Need-place-of-requires
+place-of-requires c κs = search needs
 
-sub-mark-2 : tie.Need-sub-mark-2
-unfolding hourIn
-sub-mark-2 c = omega (arith, c .before .before .before .before .before .before .before .before .before .before .pre .low, ap hourIn (c .before .before .before .before .before .before .before .line .given .1))
-
-cast-mark-2 : tie.Need-cast-mark-2
-cast-mark-2 c = search needs
+place-of-requires-2 : tie.Need-place-of-requires-2
+place-of-requires-2 c κs = search needs
 
 mark-requires : tie.Need-mark-requires
-unfolding hourIn
-mark-requires c κs = omega (arith, c .before .before .before .before .before .before .before .before .before .before .pre .size, c .before .before .before .before .before .before .before .before .before .before .pre .high, ap hourIn (c .before .before .before .before .before .before .before .line .given .1))
+mark-requires c κs = search needs
 
 same-length : tie.Need-same-length
 same-length c = search needs
 
-returns-4 : tie.Need-returns-4
-unfolding hourIn
-returns-4 c =
-    let pre = c .before .before .before .before .before .before .before .before .before .before .before .before .before .pre in
-    let line = c .before .before .before .before .before .before .before .before .before .before .line .given .1 in
-    let earlier = c .before .before .before .before .before .before .before .before2 .given .1 in
+returns-5 : tie.Need-returns-5
+returns-5 c =
+    let line = c .before .before .before .before .before .before .before .before .before .before .before .before .before .line .given .1 in
+    let earlier = c .before .before .before .before .before .before .before .before .before .before .before2 .given .1 in
     ends-told _ _ earlier line
-    (ends-hole _ _ _ _ _ _ _ _ _ (so (c .before .before .before .before .before .in-turn .ensures) (c .before .before .before .before .if1 .left)) (pre .earlier _ _ earlier) (omega (arith, pre .low, ap hourIn line)) (c .before .before .mark .ensures))
+    (ends-hole _ _ _ _ _ _ _ _ _ _ (so (c .before .before .before .before .before .before .before .before .in-turn .ensures) (c .before .before .before .before .before .before .before .if1 .left)) (c .before .before .before .before .before .before .if2 .left)
+    (placed (c .before .before .before .before .place-of .ensures) (c .before .before .before .place-of2 .ensures) (c .before .before .mark .ensures)))
 
 pub mark-hole-spec : {M : Type 1} → statement M
 mark-hole-spec =
@@ -74,10 +76,9 @@ mark-hole-spec =
     returns-2
     in-turn-requires
     returns-3
-    sub-mark
-    cast-mark
-    sub-mark-2
-    cast-mark-2
+    returns-4
+    place-of-requires
+    place-of-requires-2
     mark-requires
     same-length
-    returns-4)
+    returns-5)
