@@ -10,6 +10,7 @@ use lib.Dec.{eqb}
 use lib.ListN.{length}
 use borrow.Author.Tests.{eq-eqb, ne-eqb}
 use Rattle.laws.specs.Pick.{pick, pick-true, pick-false}
+use Rattle.journal.specs.Line.{inRange, productMost}
 use Rattle.journal.specs.LineLaws.{dose-range}
 use Rattle.journal.specs.JournalLaws.{Each}
 use Rattle.journal.specs.declared.Form.the-variants.{New}
@@ -97,25 +98,96 @@ sum-single (suc n) p a h = go (ℕ-discrete p n)
     go (yes e) = omega (arith, ap (λ (b : Bool). pick b a 0) (eq-eqb p n e) ∙ pick-true a 0, sum-zero n (λ q. pick (eqb p q) a 0) (λ q l. other q (λ d. omega arith)))
     go (no d) = omega (arith, other n d, sum-single n p a (omega arith))
 
+no-total : total [] ≡ 0
+unfolding total
+no-total = refl
+
 total-append : (a b : List ℕ) → total (a ++ b) ≡ total a + total b
 unfolding total
 total-append [] b = refl
 total-append (x ∷ xs) b = omega (arith, total-append xs b)
+
+-- an amount that counts where a test holds, and nowhere where another fails
+counted-once : (a : ℕ) (b : Bool) → total (pick (b && true) (a ∷ []) []) ≡ pick b a 0
+unfolding total pick
+counted-once a true = omega arith
+counted-once a false = refl
+
+counted-never : (a : ℕ) (b : Bool) → total (pick (b && false) (a ∷ []) []) ≡ 0
+unfolding total pick
+counted-never a true = refl
+counted-never a false = refl
+
+counted-here : (a : ℕ) (b : Bool) → total (pick b (a ∷ []) []) ≡ pick b a 0
+unfolding total pick
+counted-here a true = omega arith
+counted-here a false = refl
 
 -- the amount of one line, for each product and over all
 dose-sums : (h x c a s p : ℕ) → p < 256 → sumBelow 256 (λ q. total (doseAt (One q) h (Dose x c a s p))) ≡ total (doseAt All h (Dose x c a s p))
 unfolding doseAt asksFor
 dose-sums h x c a s p l = go (eqb x h)
   where
-    one : (q : ℕ) (b : Bool) → total (pick (b && true) (a ∷ []) []) ≡ pick b a 0
-    unfolding total pick
-    one q true = omega arith
-    one q false = refl
-
     go : (b : Bool) → sumBelow 256 (λ q. total (pick (eqb p q && b) (a ∷ []) [])) ≡ total (pick b (a ∷ []) [])
-    go true = sum-same 256 (λ q. total (pick (eqb p q && true) (a ∷ []) [])) (λ q. pick (eqb p q) a 0) (λ q k. one q (eqb p q)) ∙ sum-single 256 p a l
-    go false = sum-zero 256 (λ q. total (pick (eqb p q && false) (a ∷ []) [])) (λ q k. none (eqb p q))
+    go true = sum-same 256 (λ q. total (pick (eqb p q && true) (a ∷ []) [])) (λ q. pick (eqb p q) a 0) (λ q k. counted-once a (eqb p q)) ∙ sum-single 256 p a l ∙ sym (counted-here a true ∙ pick-true a 0)
+    go false = sum-zero 256 (λ q. total (pick (eqb p q && false) (a ∷ []) [])) (λ q k. counted-never a (eqb p q)) ∙ sym (counted-here a false ∙ pick-false a 0)
+
+-- of an H none
+on-sums : (h x : ℕ) → sumBelow 256 (λ q. total (doseAt (One q) h (On x))) ≡ total (doseAt All h (On x))
+unfolding doseAt total
+on-sums h x = sum-zero 256 (λ q. 0) (λ q k. refl)
+
+line-sums : (h : ℕ) (l : Line) → inRange New l ≡ true → sumBelow 256 (λ q. total (doseAt (One q) h l)) ≡ total (doseAt All h l)
+unfolding productMost
+line-sums h (Dose x c a s p) r = dose-sums h x c a s p (omega (arith, dose-range New x c a s p r .4))
+line-sums h (On x) r = on-sums h x
 
 -- the sums of the 256 products add up to the sum over all, hour by hour
 pub amounts-add-up : (h : ℕ) (ls : List Line) → Ranged ls → sumBelow 256 (λ q. total (amountsAt (One q) h ls)) ≡ total (amountsAt All h ls)
-amounts-add-up h ls r = ?
+unfolding amountsAt
+amounts-add-up h [] r = sum-zero 256 (λ q. total []) (λ q k. no-total) ∙ sym no-total
+amounts-add-up h (l ∷ ls) r =
+    sum-same 256 (λ q. total (doseAt (One q) h l ++ amountsAt (One q) h ls)) (λ q. total (doseAt (One q) h l) + total (amountsAt (One q) h ls)) (λ q k. total-append (doseAt (One q) h l) (amountsAt (One q) h ls))
+    ∙ sum-add 256 (λ q. total (doseAt (One q) h l)) (λ q. total (amountsAt (One q) h ls))
+    ∙ sums (line-sums h l (r .0)) (amounts-add-up h ls (r .1))
+    ∙ sym (total-append (doseAt All h l) (amountsAt All h ls))
+  where
+    sums : {a b c d : ℕ} → a ≡ b → c ≡ d → a + c ≡ b + d
+    sums p q = omega arith
+
+-- the sum that is printed of an hour, 0 where none is
+unfoldable pub sumIn : Row → ℕ
+sumIn (rowM doses sum bits) = sum
+sumIn rowI = 0
+sumIn rowX = 0
+
+sum-printed : (w : Products) (ls : List Line) (h : ℕ) → sumIn (rowOf w ls h) ≡ pick (inHole h ls) 0 (pick (hasOn h ls) (total (amountsAt w h ls)) 0)
+unfolding rowOf rowFrom hourOf measuredOrIdle sumIn pick
+sum-printed w ls h = go (inHole h ls) (hasOn h ls) (amountsAt w h ls)
+  where
+    go : (hole on : Bool) (amounts : List ℕ) → sumIn (rowFrom (pick hole missing (pick on (measuredOrIdle amounts) missing)) amounts) ≡ pick hole 0 (pick on (total amounts) 0)
+    go true on amounts = refl
+    go false true [] = sym no-total
+    go false true (a ∷ as') = refl
+    go false false amounts = refl
+
+-- so do the sums that are printed for each product: to the one printed over all
+pub sums-add-up : (ls : List Line) → Ranged ls → (h : ℕ) → sumBelow 256 (λ q. sumIn (rowOf (One q) ls h)) ≡ sumIn (rowOf All ls h)
+sums-add-up ls r h =
+    sum-same 256 (λ q. sumIn (rowOf (One q) ls h)) (λ q. pick (inHole h ls) 0 (pick (hasOn h ls) (total (amountsAt (One q) h ls)) 0)) (λ q k. sum-printed (One q) ls h)
+    ∙ go (inHole h ls) (hasOn h ls)
+    ∙ sym (sum-printed All ls h)
+  where
+    shown : (hole on : Bool) → ℕ → ℕ
+    shown hole on n = pick hole 0 (pick on n 0)
+
+    none : (hole : Bool) (on : Bool) → ((n : ℕ) → shown hole on n ≡ 0) → sumBelow 256 (λ q. shown hole on (total (amountsAt (One q) h ls))) ≡ shown hole on (total (amountsAt All h ls))
+    none hole on z = sum-zero 256 (λ q. shown hole on (total (amountsAt (One q) h ls))) (λ q k. z (total (amountsAt (One q) h ls))) ∙ sym (z (total (amountsAt All h ls)))
+
+    go : (hole on : Bool) → sumBelow 256 (λ q. pick hole 0 (pick on (total (amountsAt (One q) h ls)) 0)) ≡ pick hole 0 (pick on (total (amountsAt All h ls)) 0)
+    go true on = none true on (λ n. pick-true 0 _)
+    go false true =
+        sum-same 256 (λ q. shown false true (total (amountsAt (One q) h ls))) (λ q. total (amountsAt (One q) h ls)) (λ q k. pick-false _ _ ∙ pick-true _ _)
+        ∙ amounts-add-up h ls r
+        ∙ sym (pick-false _ _ ∙ pick-true _ _)
+    go false false = none false false (λ n. pick-false 0 _ ∙ pick-false _ _)
