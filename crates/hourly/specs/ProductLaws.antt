@@ -46,7 +46,7 @@ pub one-prints-all : (q : ℕ) (ls : List Line) → Each (OfProduct q) ls → ro
 unfolding rowsOf rowOf
 one-prints-all q ls e = go (spanOf ls)
   where
-    go : (hs : List ℕ) → map (λ h. record { hour = h; row = rowFrom (hourOf (One q) ls h) (amountsAt (One q) h ls) }) hs ≡ map (λ h. record { hour = h; row = rowFrom (hourOf All ls h) (amountsAt All h ls) }) hs
+    go : (hs : List ℕ) → map {B = HourRow} (λ h. record { hour = h; row = rowFrom (hourOf (One q) ls h) (amountsAt (One q) h ls) }) hs ≡ map {B = HourRow} (λ h. record { hour = h; row = rowFrom (hourOf All ls h) (amountsAt All h ls) }) hs
     go [] = refl
     go (h ∷ hs) = rw (one-is-all q ls e h, amounts-one q h ls e, go hs)
 
@@ -89,14 +89,14 @@ sum-add (suc n) f g = omega (arith, sum-add n f g)
 sum-single : (n p a : ℕ) → p < n → sumBelow n (λ q. pick (eqb p q) a 0) ≡ a
 unfolding sumBelow
 sum-single zero p a h = absurd (omega arith)
-sum-single (suc n) p a h = go (ℕ-discrete p n)
+sum-single (suc n) p a h = go (ℕ-discrete p n) (sum-single n p a)
   where
     other : (q : ℕ) → (p ≡ q → ⊥) → pick (eqb p q) a 0 ≡ 0
     other q d = ap (λ (b : Bool). pick b a 0) (ne-eqb p q d) ∙ pick-false a 0
 
-    go : Dec (p ≡ n) → pick (eqb p n) a 0 + sumBelow n (λ q. pick (eqb p q) a 0) ≡ a
-    go (yes e) = omega (arith, ap (λ (b : Bool). pick b a 0) (eq-eqb p n e) ∙ pick-true a 0, sum-zero n (λ q. pick (eqb p q) a 0) (λ q l. other q (λ d. omega arith)))
-    go (no d) = omega (arith, other n d, sum-single n p a (omega arith))
+    go : Dec (p ≡ n) → (p < n → sumBelow n (λ q. pick (eqb p q) a 0) ≡ a) → pick (eqb p n) a 0 + sumBelow n (λ q. pick (eqb p q) a 0) ≡ a
+    go (yes e) again = omega (arith, ap (λ (b : Bool). pick b a 0) (eq-eqb p n e) ∙ pick-true a 0, sum-zero n (λ q. pick (eqb p q) a 0) (λ q l. other q (λ d. omega arith)))
+    go (no d) again = omega (arith, other n d, again (omega arith))
 
 no-total : total [] ≡ 0
 unfolding total
@@ -104,7 +104,7 @@ no-total = refl
 
 total-append : (a b : List ℕ) → total (a ++ b) ≡ total a + total b
 unfolding total
-total-append [] b = refl
+total-append [] b = omega arith
 total-append (x ∷ xs) b = omega (arith, total-append xs b)
 
 -- an amount that counts where a test holds, and nowhere where another fails

@@ -1,26 +1,47 @@
-use mathlib.Core.Path.{ap, sym, _∙_}
 use borrow.Author.Needs.{needs}
-use Rattle.hourly.specs.Tally.{counted, withOn}
 use Rattle.hourly.proofs.with_line.Statement.{statement}
 use Rattle.hourly.proofs.with_line.Tie as tie
+use Rattle.hourly.proofs.with_line.Reads as reads
+use Rattle.hourly.proofs.with_line.Lts as lts
+use Rattle.hourly.proofs.asks_for.Reads as asks-for-reads
+use Rattle.hourly.proofs.with_dose.Reads as with-dose-reads
 
+-- src/lib.rt:128:13
 enum-known-line : tie.Need-enum-known-line
 enum-known-line c = search needs
 
+-- src/lib.rt:132:16
+asks-for-requires : tie.Need-asks-for-requires
+asks-for-requires c κs = search needs
+
+-- src/lib.rt:133:17
 with-dose-requires : tie.Need-with-dose-requires
 with-dose-requires c κs = search needs
 
+-- src/lib.rt:133:17
+returns : tie.Need-returns
+returns c = ?
+
+-- src/lib.rt:137:53
 enum-told : tie.Need-enum-told
 enum-told c = search needs
 
-returns : tie.Need-returns
-unfolding counted
-returns c = c .with-dose .ensures ∙ ap (counted (c .before .before .before .before .args .t)) (sym (c .before .before .line .given .1))
-
+-- src/lib.rt:120:1
 returns-2 : tie.Need-returns-2
-unfolding counted withOn
-returns-2 c = ap (counted (c .before .before .args .t)) (sym (c .enum-told .given .1))
+returns-2 c = ?
+
+-- src/lib.rt:120:1
+returns-3 : tie.Need-returns-3
+returns-3 c = ?
 
 pub with-line-spec : {M : Type 1} → statement M
 with-line-spec =
-    tie.close (tie.spec enum-known-line with-dose-requires enum-told returns returns-2)
+    tie.close
+    (tie.spec
+    enum-known-line
+    asks-for-requires
+    with-dose-requires
+    returns
+    enum-told
+    returns-2
+    returns-3)
