@@ -77,6 +77,12 @@ unfoldable pub headBytes : Form → ℕ
 headBytes Old = 0
 headBytes New = 4
 
+-- one line at most
+pub head-few : (f : Form) → headLines f ≤ 1
+unfolding headLines
+head-few Old = omega arith
+head-few New = omega arith
+
 body-lines : (f : Form) (s : List ℕ) → bodyOf f s ≡ linesFrom f noPast (headLines f + 1) (drop (headBytes f) s)
 unfolding bodyOf linesFrom headLines headBytes
 body-lines Old s = refl
