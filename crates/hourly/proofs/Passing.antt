@@ -16,7 +16,6 @@ use Rattle.journal.specs.LineLaws.{Stands, text-only, text-least, range-either}
 use Rattle.journal.specs.Journal.{hourIn, outOfOrder, tooFar, noPast, pastAfter, ordered, formOf, journalOf, firstHour, lastHour}
 use Rattle.journal.specs.JournalLaws.{linesFrom, headBytes, headLines, head-inside, journal-lines, told-none, told-bad, told-good, order-broken, order-far, order-kept}
 use Rattle.journal.specs.declared.Line.{Line}
-use Rattle.journal.specs.declared.Line.the-variants.{Dose, On}
 use Rattle.journal.specs.declared.Past.{Past}
 use Rattle.journal.specs.declared.Refusal.{Refusal}
 use Rattle.journal.specs.Says.{saysRefusal, refusal-done, refusal-told}

@@ -2,12 +2,10 @@
 use mathlib.Core.Path.{_≡_, refl, sym, ap, _∙_}
 use mathlib.Core.Bool.{Bool, true, false, _&&_}
 use mathlib.Core.List.{List, [], _∷_, _++_, map}
-use mathlib.Core.Logic.{_⊎_, inl, inr}
-use Prim.Native.Nat.{ℕ, zero, suc, _+_, _≤_, _<_}
+use Prim.Native.Nat.{ℕ, zero, suc, _+_, _<_}
 use native.Mathlib.Omega.{arith}
 use native.Mathlib.Decide.{ℕ-discrete}
 use lib.Dec.{eqb}
-use lib.ListN.{length}
 use borrow.Author.Tests.{eq-eqb, ne-eqb}
 use Rattle.laws.specs.Pick.{pick, pick-true, pick-false}
 use Rattle.journal.specs.Line.{inRange, productMost}
@@ -17,7 +15,7 @@ use Rattle.journal.specs.declared.Form.the-variants.{New}
 use Rattle.journal.specs.declared.Line.{Line}
 use Rattle.journal.specs.declared.Line.the-variants.{Dose, On}
 use Rattle.holes.specs.Holes.{inHole}
-use Rattle.hourly.specs.Hours.{HourAnswer, measured, idle, missing, asksFor, doseAt, amountsAt, hasOn, total, measuredOrIdle, hourOf}
+use Rattle.hourly.specs.Hours.{missing, asksFor, doseAt, amountsAt, hasOn, total, measuredOrIdle, hourOf}
 use Rattle.hourly.specs.Text.{Row, rowM, rowI, rowX, HourRow, rowFrom, rowOf, rowsOf, spanOf}
 use Rattle.hourly.specs.Accepted.{Ranged}
 use Rattle.hourly.specs.declared.Products.{Products}

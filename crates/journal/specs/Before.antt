@@ -1,15 +1,14 @@
 -- The journal as document 01 alone has it, before W4: its definitions unchanged, with lines that have no product. Nothing reads by them; a journal without a V line is read as they read it (Since). Assumes nothing.
-use mathlib.Core.Path.{_≡_, refl}
 use mathlib.Core.Bool.{Bool, true, false, _&&_}
 use mathlib.Core.List.{List, [], _∷_}
 use Prim.Native.Nat.{ℕ, zero, suc}
 use lib.Dec.{eqb, ltb}
 use lib.ListN.{length, getD}
 use Rattle.laws.specs.Pick.{pick}
-use Rattle.laws.specs.Decimal.{Parsed, good, bad, numberAt, digitsFrom, isDigit}
+use Rattle.laws.specs.Decimal.{Parsed, good, bad}
 use Rattle.paper.specs.Answer.{Answer, done, refused, told}
 use Rattle.paper.specs.Numbers.{R10, R11, R12, R13}
-use Rattle.text.specs.Scan.{expect, onGood}
+use Rattle.text.specs.Scan.{onGood}
 use Rattle.journal.specs.Line.{letterD, letterH, fieldsAt}
 use Rattle.journal.specs.Journal.{outOfOrder, tooFar, noPast}
 use Rattle.journal.specs.declared.Past.{Past}

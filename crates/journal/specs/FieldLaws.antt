@@ -21,7 +21,7 @@ use Rattle.journal.specs.declared.Form.the-variants.{Old, New}
 use Rattle.journal.specs.LineLaws.{Stands, stands-at}
 use Rattle.journal.specs.Fields.{mostOf, fieldsOfD, fieldsAfter, productFrom, lineFrom}
 use Rattle.journal.specs.declared.Line.{Line}
-use Rattle.journal.specs.declared.Line.the-variants.{Dose, On}
+use Rattle.journal.specs.declared.Line.the-variants.{On}
 use Rattle.text.specs.declared.Num.{Num}
 use Rattle.text.specs.declared.Num.the-variants.{Good, Bad}
 

@@ -14,11 +14,10 @@ use Rattle.laws.specs.Whole.{false-true}
 use Rattle.laws.specs.Decimal.{Parsed, good, bad, numberAt, decimal, isDigit}
 use Rattle.laws.specs.DecimalLaws.{Stops, number-decimal, number-only, decimal-some, decimal-length}
 use Rattle.paper.specs.Answer.{done, refused, inRoom}
-use Rattle.paper.specs.AnswerLaws.{refused-done}
 use Rattle.paper.specs.Numbers.{R8, R10}
 use Rattle.text.specs.Scan.{LF, TAB, expect, onGood}
 use Rattle.text.specs.ScanLaws.{bad-good}
-use Rattle.journal.specs.Line.{holds, noLine, placed, lineAt, versionText, writeOf, writeVersionOf, Single, version, dated, versioned, isVersion, oneLine, whole, letterD, letterH, letterV, mostOfD, mostOfH, doseFields, fieldsText, textOf, within, productMost, inRange, fieldsAt, doseFrom, onFrom, lineOf}
+use Rattle.journal.specs.Line.{holds, noLine, placed, lineAt, writeOf, letterD, letterH, mostOfD, mostOfH, doseFields, fieldsText, textOf, within, productMost, inRange, fieldsAt, doseFrom, onFrom, lineOf}
 use Rattle.journal.specs.declared.Form.{Form}
 use Rattle.journal.specs.declared.Form.the-variants.{Old, New}
 use Rattle.journal.specs.declared.Line.{Line}
@@ -242,13 +241,13 @@ fields-length : (v : ℕ) (vs : List ℕ) → length (fieldsText (v ∷ vs)) ≡
 unfolding fieldsText
 fields-length v vs = omega (arith, length-append (decimal v) (fieldsText vs))
 
--- how many bytes the product's field takes
-pub productLength : Form → ℕ → ℕ
-productLength Old p = 0
-productLength New p = 1 + length (decimal p)
+-- the field of a dose's product: none in the old form
+unfoldable pub productText : Form → ℕ → List ℕ
+productText Old p = []
+productText New p = TAB ∷ decimal p
 
-pub dose-length : (f : Form) (h c a s p : ℕ) → length (textOf f (Dose h c a s p)) ≡ 6 + length (decimal h) + length (decimal c) + length (decimal a) + length (decimal s) + productLength f p
-unfolding textOf doseFields productLength
+pub dose-length : (f : Form) (h c a s p : ℕ) → length (textOf f (Dose h c a s p)) ≡ 6 + length (decimal h) + length (decimal c) + length (decimal a) + length (decimal s) + length (productText f p)
+unfolding textOf doseFields productText
 dose-length Old h c a s p = omega (arith, fields-none, fields-length h (c ∷ a ∷ s ∷ []), fields-length c (a ∷ s ∷ []), fields-length a (s ∷ []), fields-length s [])
 dose-length New h c a s p = omega (arith, fields-none, fields-length h (c ∷ a ∷ s ∷ p ∷ []), fields-length c (a ∷ s ∷ p ∷ []), fields-length a (s ∷ p ∷ []), fields-length s (p ∷ []), fields-length p [])
 
@@ -261,8 +260,8 @@ pub text-least : (f : Form) (l : Line) → 4 ≤ length (textOf f l)
 text-least f (Dose h c a s p) = omega (arith, dose-length f h c a s p)
 text-least f (On h) = omega (arith, on-length f h, decimal-some h)
 
-product-short : (f : Form) (p : ℕ) → p ≤ productMost f → productLength f p ≤ 4
-unfolding productLength productMost
+product-short : (f : Form) (p : ℕ) → p ≤ productMost f → length (productText f p) ≤ 4
+unfolding productText productMost
 product-short Old p h = omega arith
 product-short New p h = omega (arith, decimal-length 3 p (omega arith) (omega arith))
 

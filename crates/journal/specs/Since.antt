@@ -1,6 +1,6 @@
 -- A journal without a V line is read exactly as it was before W4, with product 0. Assumes nothing.
 use mathlib.Core.Path.{_≡_, refl, sym, ap, _∙_}
-use mathlib.Core.Bool.{Bool, true, false, _&&_}
+use mathlib.Core.Bool.{false, _&&_}
 use mathlib.Core.List.{List, [], _∷_, map}
 use Prim.Native.Nat.{ℕ, zero, suc}
 use lib.Dec.{eqb, ltb}
@@ -8,7 +8,7 @@ use lib.ListN.{length}
 use Rattle.laws.specs.Pick.{pick, pick-f, pick-map}
 use Rattle.laws.specs.Decimal.{Parsed, good, bad}
 use Rattle.paper.specs.Answer.{Answer, done, refused, fault, told}
-use Rattle.paper.specs.Numbers.{R10, R11, R12, R13}
+use Rattle.paper.specs.Numbers.{R11, R12, R13}
 use Rattle.text.specs.Scan.{onGood}
 use Rattle.journal.specs.Line.{letterD, letterH, mostOfD, mostOfH, fieldsAt, doseFrom, onFrom, versioned, lineOf}
 use Rattle.journal.specs.Journal.{hourIn, closes, outOfOrder, tooFar, noPast, pastAfter, ordered, onLine, readFrom, formOf, bodyOf, journalOf}

@@ -5,15 +5,14 @@ use mathlib.Core.List.{List, [], _∷_, _++_, append-nil}
 use Prim.Native.Nat.{ℕ, _+_, _≤_}
 use native.Mathlib.Omega.{arith}
 use lib.Dec.{eqb}
-use lib.ListN.{length, getD, drop}
+use lib.ListN.{length, drop}
 use borrow.Author.Tests.{eqb-true}
-use Rattle.laws.specs.Pick.{pick, pick-t, pick-f}
+use Rattle.laws.specs.Pick.{pick, pick-f}
 use Rattle.laws.specs.Bools.{and-left, and-right}
 use Rattle.laws.specs.Whole.{false-true}
 use Rattle.laws.specs.Decimal.{Parsed, good, bad}
-use Rattle.paper.specs.Answer.{Answer, done, refused}
+use Rattle.paper.specs.Answer.{Answer, done}
 use Rattle.paper.specs.AnswerLaws.{refused-done}
-use Rattle.paper.specs.Numbers.{R10}
 use Rattle.text.specs.Scan.{TAB, LF}
 use Rattle.journal.specs.Line.{letterV, versionText, textOf, inRange, lineOf, versioned, isVersion, Single, version, dated, whole, oneLine}
 use Rattle.journal.specs.LineLaws.{read-text, text-only}

@@ -1,4 +1,3 @@
-use mathlib.Core.Path.{ap, sym, _∙_}
 use borrow.Author.Needs.{needs}
 use Rattle.hourly.specs.Hours.{asksFor}
 use Rattle.hourly.proofs.asks_for.Statement.{statement}

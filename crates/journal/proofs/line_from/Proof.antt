@@ -1,4 +1,4 @@
-use mathlib.Core.Path.{ap, sym, _∙_}
+use mathlib.Core.Path.{sym}
 use borrow.Author.Needs.{needs}
 use borrow.Author.Tests.{eq-eqb, ne-eqb}
 use Rattle.laws.specs.Pick.{pick-t, pick-f}
