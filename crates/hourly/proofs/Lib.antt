@@ -1,4 +1,4 @@
 pub mod Tallying
-pub mod Marking
+pub mod Settling
 pub mod Passing
 pub mod Among

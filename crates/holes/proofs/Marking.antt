@@ -1,23 +1,21 @@
--- Whether a count follows, the marks of a hole's hours, and the marks set in the tallies. Assumes nothing.
+-- Whether a count follows, and the marks of a hole's hours. Assumes nothing.
 use mathlib.Core.Path.{_≡_, refl, sym, ap, _∙_}
-use mathlib.Core.Bool.{Bool, true, false, _&&_, _||_, or-true, or-false}
-use mathlib.Core.List.{List, [], _∷_, _++_}
+use mathlib.Core.Bool.{Bool, true, false, not, _&&_, _||_, or-true, or-false}
+use mathlib.Core.List.{List}
 use Prim.Native.Nat.{ℕ, _+_, _-_, _≤_, _<_, max}
 use native.Mathlib.Omega.{arith}
 use native.Mathlib.Decide.{ℕ-discrete}
 use lib.Dec.{eqb, leb, ltb}
-use lib.ListN.{length, getD, set, length-set, replicate, length-replicate, getD-replicate}
+use lib.ListN.{length, getD, set, length-set}
 use lib.Seq.{getD-set-same, getD-set-other}
 use borrow.Author.Tests.{eq-eqb, ne-eqb, le-leb, lt-leb, lt-ltb, le-ltb, leb-true, leb-false, ltb-true, ltb-false}
 use Rattle.laws.specs.Pick.{pick-t, pick-f}
 use Rattle.journal.specs.declared.Line.{Line}
 use Rattle.journal.specs.declared.Line.the-variants.{Dose, On}
-use Rattle.hourly.specs.Holes.{nextCount, follows, endsHole, holeFrom, inHole}
-use Rattle.hourly.specs.HoleLaws.{lastDose, hole-more}
-use Rattle.hourly.specs.Tally.{outside, unmarkedOf, tallyOf, withHole, Unmarked, Marks, Tells, Adds, AddsHole, Sets}
-use Rattle.hourly.specs.declared.Before.{Before}
-use Rattle.hourly.specs.declared.Before.the-variants.{Nothing, At}
-use Rattle.hourly.specs.declared.Tally.{Tally}
+use Rattle.holes.specs.Holes.{nextCount, follows, endsHole}
+use Rattle.holes.specs.Marks.{Adds, AddsHole}
+use Rattle.holes.specs.declared.Before.{Before}
+use Rattle.holes.specs.declared.Before.the-variants.{Nothing, At}
 
 -- ---- a count that follows
 
@@ -80,7 +78,7 @@ marking-none old from to =
       at = λ j h. sym (ap (λ (b : Bool). getD old j false || b) (none-below from j) ∙ or-false (getD old j false));
     }
 
-pub marking-more : (old : List Bool) (from to k : ℕ) (new : List Bool) → Marking old from to k new → k ≤ to → to < length old → Marking old from to (k + 1) (set new k true)
+pub marking-more : (old : List Bool) (from to k : ℕ) (new : List Bool) → Marking old from to k new → k ≤ to → k < length old → Marking old from to (k + 1) (set new k true)
 marking-more old from to k new m h b =
     record {
       size = length-set new k true ∙ m .size;
@@ -108,8 +106,18 @@ marking-more old from to k new m h b =
         ∙ m .at j i
         ∙ ap (λ (b : Bool). getD old j false || (leb from j && b)) (later j n)
 
-pub marking-all : (old : List Bool) (from to k : ℕ) (new : List Bool) → Marking old from to k new → to < k → Adds old from to new
+-- no place is left, or none that is to be marked
+pub marking-all : (old : List Bool) (from to k : ℕ) (new : List Bool) → Marking old from to k new → length old ≤ k → Adds old from to new
 marking-all old from to k new m h =
+    record { size = m .size; at = λ j i. m .at j i ∙ ap (λ (b : Bool). getD old j false || b) (same j i (leb from j) (leb j to) refl refl) }
+  where
+    same : (j : ℕ) → j < length old → (a b : Bool) → leb from j ≡ a → leb j to ≡ b → (a && ltb j k) ≡ (a && b)
+    same j i false b p q = refl
+    same j i true true p q = lt-ltb j k (omega arith)
+    same j i true false p q = le-ltb j k (omega (arith, leb-true from j p, leb-false j to q, m .high))
+
+pub marking-past : (old : List Bool) (from to k : ℕ) (new : List Bool) → Marking old from to k new → to < k → Adds old from to new
+marking-past old from to k new m h =
     record { size = m .size; at = λ j i. m .at j i ∙ ap (λ (b : Bool). getD old j false || b) (same j (leb from j) (leb j to) refl refl) }
   where
     same : (j : ℕ) (a b : Bool) → leb from j ≡ a → leb j to ≡ b → (a && ltb j k) ≡ (a && b)
@@ -127,17 +135,17 @@ pub ends-on : (old : List Bool) (first : ℕ) (before : Before) (x : ℕ) → Ad
 unfolding endsHole
 ends-on old first before x = ends-none old first before (On x) (λ h. refl)
 
-pub ends-first : (old : List Bool) (first y d a s : ℕ) → AddsHole old first Nothing (Dose y d a s) old
+pub ends-first : (old : List Bool) (first y d a s p : ℕ) → AddsHole old first Nothing (Dose y d a s p) old
 unfolding endsHole
-ends-first old first y d a s = ends-none old first Nothing (Dose y d a s) (λ h. refl)
+ends-first old first y d a s p = ends-none old first Nothing (Dose y d a s p) (λ h. refl)
 
-pub ends-turn : (old : List Bool) (first x c y d a s : ℕ) → follows c d ≡ true → AddsHole old first (At x c) (Dose y d a s) old
+pub ends-turn : (old : List Bool) (first x c y d a s p : ℕ) → follows c d ≡ true → AddsHole old first (At x c) (Dose y d a s p) old
 unfolding endsHole
-ends-turn old first x c y d a s e = ends-none old first (At x c) (Dose y d a s) (λ h. rw e)
+ends-turn old first x c y d a s p e = ends-none old first (At x c) (Dose y d a s p) (λ h. rw e)
 
 -- places count from the first hour on
-place-low : (first x k : ℕ) → first ≤ x → leb (x - first) k ≡ leb x (first + k)
-place-low first x k h = go (leb x (first + k)) refl
+place-low : (first x k : ℕ) → leb (x - first) k ≡ leb x (first + k)
+place-low first x k = go (leb x (first + k)) refl
   where
     go : (b : Bool) → leb x (first + k) ≡ b → leb (x - first) k ≡ b
     go true e = let l = leb-true x (first + k) e in le-leb (x - first) k (omega arith)
@@ -150,69 +158,26 @@ place-high first y k h = go (leb (first + k) y) refl
     go true e = let l = leb-true (first + k) y e in le-leb k (y - first) (omega arith)
     go false e = let l = leb-false (first + k) y e in lt-leb k (y - first) (omega arith)
 
-pub ends-hole : (old new : List Bool) (first x c y d a s : ℕ) → follows c d ≡ false → first ≤ x → first ≤ y → Adds old (x - first) (y - first) new → AddsHole old first (At x c) (Dose y d a s) new
+pub ends-hole : (old new : List Bool) (first x c y d a s p : ℕ) → follows c d ≡ false → first ≤ y → Adds old (x - first) (y - first) new → AddsHole old first (At x c) (Dose y d a s p) new
 unfolding endsHole
-ends-hole old new first x c y d a s e low high m =
-    record { size = m .size; at = λ k h. m .at k h ∙ rw (e, place-low first x k low, place-high first y k high) refl }
+ends-hole old new first x c y d a s p e high m =
+    record { size = m .size; at = λ k h. m .at k h ∙ rw (e, place-low first x k, place-high first y k high) refl }
+
+-- a line before the first hour ends no hole there
+pub ends-before : (old : List Bool) (first : ℕ) (before : Before) (y d a s p : ℕ) → y < first → AddsHole old first before (Dose y d a s p) old
+unfolding endsHole
+ends-before old first Nothing y d a s p h = ends-none old first Nothing (Dose y d a s p) (λ k. refl)
+ends-before old first (At x c) y d a s p h =
+    record { size = refl; at = λ k i. sym (ap (λ (b : Bool). getD old k false || b) (none k) ∙ or-false (getD old k false)) }
+  where
+    never : (u v : Bool) → (u && (v && false)) ≡ false
+    never true true = refl
+    never true false = refl
+    never false v = refl
+
+    none : (k : ℕ) → endsHole (first + k) (At x c) (Dose y d a s p) ≡ false
+    none k = ap (λ (b : Bool). not (follows c d) && (leb x (first + k) && b)) (lt-leb (first + k) y (omega arith)) ∙ never (not (follows c d)) (leb x (first + k))
 
 -- what is told of the two lines
 pub ends-told : {old new : List Bool} {first : ℕ} {before : Before} {l : Line} (b : Before) (m : Line) → before ≡ b → l ≡ m → AddsHole old first b m new → AddsHole old first before l new
 ends-told b m p q a = rw (p, q) a
-
--- ---- the marks of some lines
-
-pub marks-start : (holed : List Bool) (first : ℕ) → holed ≡ replicate 744 false → Marks holed first []
-unfolding inHole holeFrom
-marks-start holed first e =
-    record { size = ap length e ∙ length-replicate 744 false; at = λ k b. ap (λ (t : List Bool). getD t k false) e ∙ getD-replicate 744 k false false b }
-
--- no line, no hole, whatever the first
-pub marks-none : (holed : List Bool) (f g : ℕ) → Marks holed f [] → Marks holed g []
-unfolding inHole holeFrom
-marks-none holed f g m = record { size = m .size; at = λ k b. m .at k b }
-
-pub marks-more : (old new : List Bool) (first : ℕ) (ls : List Line) (l : Line) → Marks old first ls → AddsHole old first (lastDose Nothing ls) l new → Marks new first (ls ++ l ∷ [])
-marks-more old new first ls l m a =
-    record {
-      size = a .size ∙ m .size;
-      at = λ k b. a .at k (omega (arith, m .size)) ∙ ap (λ (x : Bool). x || endsHole (first + k) (lastDose Nothing ls) l) (m .at k b) ∙ sym (hole-more (first + k) ls l);
-    }
-
--- ---- the marks set in the tallies
-
--- those before k are set
-pub record Setting (table : List Tally) (holed : List Bool) (k : ℕ) (new : List Tally) : Type 0 where
-  pub size : length new ≡ 744
-  pub set : (j : ℕ) → j < k → getD new j outside ≡ withHole (getD table j outside) (getD holed j false)
-  pub left : (j : ℕ) → k ≤ j → getD new j outside ≡ getD table j outside
-
-pub setting-none : (table : List Tally) (holed : List Bool) → length table ≡ 744 → Setting table holed 0 table
-setting-none table holed n = record { size = n; set = λ j h. absurd (omega arith); left = λ j h. refl }
-
-pub setting-more : (table : List Tally) (holed : List Bool) (k : ℕ) (new : List Tally) → Setting table holed k new → k < 744 → Setting table holed (k + 1) (set new k (withHole (getD new k outside) (getD holed k false)))
-setting-more table holed k new s h =
-    record {
-      size = length-set new k _ ∙ s .size;
-      set = λ j i. go j i (ℕ-discrete k j);
-      left = λ j i. getD-set-other new k j (withHole (getD new k outside) (getD holed k false)) outside (λ e. omega arith) ∙ s .left j (omega arith);
-    }
-  where
-    go : (j : ℕ) → j < k + 1 → Dec (k ≡ j) → getD (set new k (withHole (getD new k outside) (getD holed k false))) j outside ≡ withHole (getD table j outside) (getD holed j false)
-    go j i (yes e) =
-        ap (λ (x : ℕ). getD (set new k (withHole (getD new k outside) (getD holed k false))) x outside) (sym e)
-        ∙ getD-set-same new k (withHole (getD new k outside) (getD holed k false)) outside (omega (arith, s .size))
-        ∙ ap (λ (t : Tally). withHole t (getD holed k false)) (s .left k (omega arith))
-        ∙ ap (λ (x : ℕ). withHole (getD table x outside) (getD holed x false)) e
-    go j i (no n) = getD-set-other new k j (withHole (getD new k outside) (getD holed k false)) outside (λ e. n (sym e)) ∙ s .set j (omega arith)
-
-pub setting-all : (table : List Tally) (holed : List Bool) (k : ℕ) (new : List Tally) → Setting table holed k new → 744 ≤ k → Sets table holed new
-setting-all table holed k new s h = record { size = s .size; at = λ j i. s .set j (omega arith) }
-
--- with them the table tells all of the lines
-pub sets-tell : (table new : List Tally) (holed : List Bool) (first : ℕ) (ls : List Line) → Unmarked table first ls → Marks holed first ls → Sets table holed new → Tells new first ls
-unfolding unmarkedOf tallyOf withHole
-sets-tell table new holed first ls u m s =
-    record {
-      size = s .size;
-      at = λ k b. s .at k b ∙ ap (λ (t : Tally). withHole t (getD holed k false)) (u .at k b) ∙ ap (withHole (unmarkedOf ls (first + k))) (m .at k b);
-    }

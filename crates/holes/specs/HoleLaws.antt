@@ -13,10 +13,13 @@ use Rattle.laws.specs.Whole.{false-true}
 use Rattle.journal.specs.JournalLaws.{Each}
 use Rattle.journal.specs.declared.Line.{Line}
 use Rattle.journal.specs.declared.Line.the-variants.{Dose, On}
-use Rattle.hourly.specs.Holes.{nextCount, follows, doseBefore, endsHole, holeFrom, inHole}
-use Rattle.hourly.specs.Kinds.{Exactly}
-use Rattle.hourly.specs.declared.Before.{Before}
-use Rattle.hourly.specs.declared.Before.the-variants.{Nothing, At}
+use Rattle.holes.specs.Holes.{nextCount, follows, doseBefore, endsHole, holeFrom, inHole}
+use Rattle.holes.specs.declared.Before.{Before}
+use Rattle.holes.specs.declared.Before.the-variants.{Nothing, At}
+
+-- each of the two follows from the other
+abbrev pub Exactly : Type 0 → Type 0 → Type 0
+Exactly a b = (a → b) × (b → a)
 
 -- ---- one line more
 
@@ -44,7 +47,7 @@ hole-more h ls l = from-more h Nothing ls l
 -- ---- where a hole is
 
 abbrev pub OnLine : Line → Type 0
-OnLine (Dose x c a s) = ⊥
+OnLine (Dose x c a s q) = ⊥
 OnLine (On x) = Unit
 
 -- behind a D line of hour x and count c the next D line, with at most H lines between, does not follow it, and h lies from x to its hour
@@ -55,7 +58,8 @@ pub record Breaks (h x c : ℕ) (ls : List Line) : Type 0 where
   pub count : ℕ
   pub amount : ℕ
   pub settled : ℕ
-  pub whole : ls ≡ between ++ Dose hour count amount settled ∷ rest
+  pub product : ℕ
+  pub whole : ls ≡ between ++ Dose hour count amount settled product ∷ rest
   pub ons : Each OnLine between
   pub broken : follows c count ≡ false
   pub from : x ≤ h
@@ -69,12 +73,13 @@ pub record Hole (h : ℕ) (ls : List Line) : Type 0 where
   pub count : ℕ
   pub amount : ℕ
   pub settled : ℕ
-  pub whole : ls ≡ fore ++ Dose hour count amount settled ∷ rest
+  pub product : ℕ
+  pub whole : ls ≡ fore ++ Dose hour count amount settled product ∷ rest
   pub next : Breaks h hour count rest
 
-breaks-here : (h x c y d a s : ℕ) (ls : List Line) → endsHole h (At x c) (Dose y d a s) ≡ true → Breaks h x c (Dose y d a s ∷ ls)
+breaks-here : (h x c y d a s q : ℕ) (ls : List Line) → endsHole h (At x c) (Dose y d a s q) ≡ true → Breaks h x c (Dose y d a s q ∷ ls)
 unfolding endsHole
-breaks-here h x c y d a s ls e =
+breaks-here h x c y d a s q ls e =
     let spans = and-right (not (follows c d)) (leb x h && leb h y) e in
     record {
       between = [];
@@ -83,6 +88,7 @@ breaks-here h x c y d a s ls e =
       count = d;
       amount = a;
       settled = s;
+      product = q;
       whole = refl;
       ons = tt;
       broken = not-true (follows c d) (and-left (not (follows c d)) _ e);
@@ -99,6 +105,7 @@ breaks-on h x c y ls b =
       count = b .count;
       amount = b .amount;
       settled = b .settled;
+      product = b .product;
       whole = ap (λ (m : List Line). On y ∷ m) (b .whole);
       ons = (tt, b .ons);
       broken = b .broken;
@@ -106,8 +113,8 @@ breaks-on h x c y ls b =
       to = b .to;
     }
 
-hole-here : (h x c a s : ℕ) (ls : List Line) → Breaks h x c ls → Hole h (Dose x c a s ∷ ls)
-hole-here h x c a s ls b = record { fore = []; rest = ls; hour = x; count = c; amount = a; settled = s; whole = refl; next = b }
+hole-here : (h x c a s q : ℕ) (ls : List Line) → Breaks h x c ls → Hole h (Dose x c a s q ∷ ls)
+hole-here h x c a s q ls b = record { fore = []; rest = ls; hour = x; count = c; amount = a; settled = s; product = q; whole = refl; next = b }
 
 hole-later : (h : ℕ) (l : Line) (ls : List Line) → Hole h ls → Hole h (l ∷ ls)
 hole-later h l ls o =
@@ -118,6 +125,7 @@ hole-later h l ls o =
       count = o .count;
       amount = o .amount;
       settled = o .settled;
+      product = o .product;
       whole = ap (λ (m : List Line). l ∷ m) (o .whole);
       next = o .next;
     }
@@ -130,36 +138,36 @@ after-dose h x c (On y ∷ ls) e = go (after-dose h x c ls e)
     go : Breaks h x c ls ⊎ Hole h ls → Breaks h x c (On y ∷ ls) ⊎ Hole h (On y ∷ ls)
     go (inl b) = inl (breaks-on h x c y ls b)
     go (inr o) = inr (hole-later h (On y) ls o)
-after-dose h x c (Dose y d a s ∷ ls) e = go (endsHole h (At x c) (Dose y d a s)) refl e (after-dose h y d ls)
+after-dose h x c (Dose y d a s q ∷ ls) e = go (endsHole h (At x c) (Dose y d a s q)) refl e (after-dose h y d ls)
   where
-    later : Breaks h y d ls ⊎ Hole h ls → Hole h (Dose y d a s ∷ ls)
-    later (inl b) = hole-here h y d a s ls b
-    later (inr o) = hole-later h (Dose y d a s) ls o
+    later : Breaks h y d ls ⊎ Hole h ls → Hole h (Dose y d a s q ∷ ls)
+    later (inl b) = hole-here h y d a s q ls b
+    later (inr o) = hole-later h (Dose y d a s q) ls o
 
-    go : (b : Bool) → endsHole h (At x c) (Dose y d a s) ≡ b → (b || holeFrom h (At y d) ls) ≡ true → (holeFrom h (At y d) ls ≡ true → Breaks h y d ls ⊎ Hole h ls) → Breaks h x c (Dose y d a s ∷ ls) ⊎ Hole h (Dose y d a s ∷ ls)
-    go true p e rest = inl (breaks-here h x c y d a s ls p)
+    go : (b : Bool) → endsHole h (At x c) (Dose y d a s q) ≡ b → (b || holeFrom h (At y d) ls) ≡ true → (holeFrom h (At y d) ls ≡ true → Breaks h y d ls ⊎ Hole h ls) → Breaks h x c (Dose y d a s q ∷ ls) ⊎ Hole h (Dose y d a s q ∷ ls)
+    go true p e rest = inl (breaks-here h x c y d a s q ls p)
     go false p e rest = inr (later (rest e))
 
 hole-found : (h : ℕ) (ls : List Line) → holeFrom h Nothing ls ≡ true → Hole h ls
 unfolding holeFrom doseBefore endsHole
 hole-found h [] e = false-true e
 hole-found h (On y ∷ ls) e = hole-later h (On y) ls (hole-found h ls e)
-hole-found h (Dose x c a s ∷ ls) e = go (after-dose h x c ls e)
+hole-found h (Dose x c a s q ∷ ls) e = go (after-dose h x c ls e)
   where
-    go : Breaks h x c ls ⊎ Hole h ls → Hole h (Dose x c a s ∷ ls)
-    go (inl b) = hole-here h x c a s ls b
-    go (inr o) = hole-later h (Dose x c a s) ls o
+    go : Breaks h x c ls ⊎ Hole h ls → Hole h (Dose x c a s q ∷ ls)
+    go (inl b) = hole-here h x c a s q ls b
+    go (inr o) = hole-later h (Dose x c a s q) ls o
 
-break-hole : (h x c y d a s : ℕ) (between rest : List Line) → Each OnLine between → follows c d ≡ false → x ≤ h → h ≤ y → holeFrom h (At x c) (between ++ Dose y d a s ∷ rest) ≡ true
+break-hole : (h x c y d a s q : ℕ) (between rest : List Line) → Each OnLine between → follows c d ≡ false → x ≤ h → h ≤ y → holeFrom h (At x c) (between ++ Dose y d a s q ∷ rest) ≡ true
 unfolding holeFrom doseBefore endsHole
-break-hole h x c y d a s [] rest o b f t = rw (b, le-leb x h f, le-leb h y t)
-break-hole h x c y d a s (On z ∷ between) rest o b f t = break-hole h x c y d a s between rest (o .1) b f t
-break-hole h x c y d a s (Dose z e u v ∷ between) rest o b f t = absurd (o .0)
+break-hole h x c y d a s q [] rest o b f t = rw (b, le-leb x h f, le-leb h y t)
+break-hole h x c y d a s q (On z ∷ between) rest o b f t = break-hole h x c y d a s q between rest (o .1) b f t
+break-hole h x c y d a s q (Dose z e u v w ∷ between) rest o b f t = absurd (o .0)
 
-hole-behind : (h x c a s : ℕ) (b : Before) (fore rest : List Line) → holeFrom h (At x c) rest ≡ true → holeFrom h b (fore ++ Dose x c a s ∷ rest) ≡ true
+hole-behind : (h x c a s q : ℕ) (b : Before) (fore rest : List Line) → holeFrom h (At x c) rest ≡ true → holeFrom h b (fore ++ Dose x c a s q ∷ rest) ≡ true
 unfolding holeFrom doseBefore
-hole-behind h x c a s b [] rest e = rw e (or-true (endsHole h b (Dose x c a s)))
-hole-behind h x c a s b (l ∷ fore) rest e = rw (hole-behind h x c a s (doseBefore b l) fore rest e) (or-true (endsHole h b l))
+hole-behind h x c a s q b [] rest e = rw e (or-true (endsHole h b (Dose x c a s q)))
+hole-behind h x c a s q b (l ∷ fore) rest e = rw (hole-behind h x c a s q (doseBefore b l) fore rest e) (or-true (endsHole h b l))
 
 -- an hour lies in a hole exactly if there are such two lines
 pub hole-exactly : (ls : List Line) (h : ℕ) → Exactly (inHole h ls ≡ true) (Hole h ls)
@@ -170,15 +178,15 @@ hole-exactly ls h = (hole-found h ls, back)
     back o =
         let n = o .next in
         ap (holeFrom h Nothing) (o .whole)
-        ∙ hole-behind h (o .hour) (o .count) (o .amount) (o .settled) Nothing (o .fore) (o .rest)
-        (ap (holeFrom h (At (o .hour) (o .count))) (n .whole) ∙ break-hole h (o .hour) (o .count) (n .hour) (n .count) (n .amount) (n .settled) (n .between) (n .rest) (n .ons) (n .broken) (n .from) (n .to))
+        ∙ hole-behind h (o .hour) (o .count) (o .amount) (o .settled) (o .product) Nothing (o .fore) (o .rest)
+        (ap (holeFrom h (At (o .hour) (o .count))) (n .whole) ∙ break-hole h (o .hour) (o .count) (n .hour) (n .count) (n .amount) (n .settled) (n .product) (n .between) (n .rest) (n .ons) (n .broken) (n .from) (n .to))
 
 -- ---- counts that follow
 
 -- the counts of the D lines
 unfoldable pub countsIn : List Line → List ℕ
 countsIn [] = []
-countsIn (Dose x c a s ∷ ls) = c ∷ countsIn ls
+countsIn (Dose x c a s q ∷ ls) = c ∷ countsIn ls
 countsIn (On x ∷ ls) = countsIn ls
 
 -- each count follows the one before it, the first this one
@@ -195,13 +203,13 @@ after-none : (h x c : ℕ) (ls : List Line) → followOn c (countsIn ls) ≡ tru
 unfolding holeFrom doseBefore endsHole countsIn followOn
 after-none h x c [] e = refl
 after-none h x c (On y ∷ ls) e = after-none h x c ls e
-after-none h x c (Dose y d a s ∷ ls) e = rw (and-left (follows c d) _ e) (after-none h y d ls (and-right (follows c d) _ e))
+after-none h x c (Dose y d a s q ∷ ls) e = rw (and-left (follows c d) _ e) (after-none h y d ls (and-right (follows c d) _ e))
 
 from-none : (h : ℕ) (ls : List Line) → allFollow (countsIn ls) ≡ true → holeFrom h Nothing ls ≡ false
 unfolding holeFrom doseBefore endsHole countsIn allFollow
 from-none h [] e = refl
 from-none h (On y ∷ ls) e = from-none h ls e
-from-none h (Dose x c a s ∷ ls) e = after-none h x c ls e
+from-none h (Dose x c a s q ∷ ls) e = after-none h x c ls e
 
 -- where all follow no hour lies in a hole
 pub follow-no-hole : (h : ℕ) (ls : List Line) → allFollow (countsIn ls) ≡ true → inHole h ls ≡ false

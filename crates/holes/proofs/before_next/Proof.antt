@@ -1,8 +1,8 @@
 use mathlib.Core.Path.{ap, sym}
 use borrow.Author.Needs.{needs}
-use Rattle.hourly.specs.Holes.{doseBefore}
-use Rattle.hourly.proofs.before_next.Statement.{statement}
-use Rattle.hourly.proofs.before_next.Tie as tie
+use Rattle.holes.specs.Holes.{doseBefore}
+use Rattle.holes.proofs.before_next.Statement.{statement}
+use Rattle.holes.proofs.before_next.Tie as tie
 
 enum-known-line : tie.Need-enum-known-line
 enum-known-line c = search needs

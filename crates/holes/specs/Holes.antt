@@ -1,4 +1,4 @@
--- Holes in the dose numbers (document 02, W1). Assumes nothing.
+-- Holes in the dose numbers (document 02, W1; W4: W1's test runs over all products). Assumes nothing.
 use mathlib.Core.Path.{_≡_, refl}
 use mathlib.Core.Bool.{Bool, true, false, not, _&&_, _||_}
 use mathlib.Core.List.{List, [], _∷_, map}
@@ -7,8 +7,8 @@ use lib.Dec.{eqb, leb}
 use Rattle.laws.specs.Pick.{pick}
 use Rattle.journal.specs.declared.Line.{Line}
 use Rattle.journal.specs.declared.Line.the-variants.{Dose, On}
-use Rattle.hourly.specs.declared.Before.{Before}
-use Rattle.hourly.specs.declared.Before.the-variants.{Nothing, At}
+use Rattle.holes.specs.declared.Before.{Before}
+use Rattle.holes.specs.declared.Before.the-variants.{Nothing, At}
 
 -- by one (0 after 999,999)
 unfoldable pub nextCount : ℕ → ℕ
@@ -21,12 +21,12 @@ follows before count = eqb count 1 || eqb count (nextCount before)
 -- Where the count does not follow, every hour from the earlier D line's hour to the later one's; the first D line of a journal is not tested
 unfoldable pub endsHole : ℕ → Before → Line → Bool
 endsHole h b (On y) = false
-endsHole h Nothing (Dose y d a s) = false
-endsHole h (At x c) (Dose y d a s) = not (follows c d) && (leb x h && leb h y)
+endsHole h Nothing (Dose y d a s p) = false
+endsHole h (At x c) (Dose y d a s p) = not (follows c d) && (leb x h && leb h y)
 
 -- the D line before the next line, by its hour and count: after a D it is that D, also where its count did not follow; H lines leave it
 unfoldable pub doseBefore : Before → Line → Before
-doseBefore b (Dose x c a s) = At x c
+doseBefore b (Dose x c a s p) = At x c
 doseBefore b (On x) = b
 
 -- hour h lies in a hole that one of these lines ends
@@ -50,9 +50,12 @@ pub follows-last : (map (follows 999999) (0 ∷ 1 ∷ 2 ∷ 999999 ∷ 1000000 �
 unfolding follows nextCount pick
 follows-last = (refl, refl)
 
--- a D line with amount 5
+-- a D line with amount 5, of product 0 and of another
 abbrev dose : ℕ → ℕ → Line
-dose h c = Dose h c 5 1
+dose h c = Dose h c 5 1 0
+
+abbrev doseOf : ℕ → ℕ → ℕ → Line
+doseOf p h c = Dose h c 5 1 p
 
 -- the hours 9 to 15 of some lines
 abbrev holes : List Line → List Bool
@@ -79,3 +82,11 @@ pub hole-next :
     × (holes (dose 10 5 ∷ On 10 ∷ dose 11 5 ∷ dose 12 6 ∷ dose 13 5 ∷ []) ≡ false ∷ true ∷ true ∷ true ∷ true ∷ false ∷ false ∷ [])
 unfolding inHole holeFrom endsHole doseBefore follows nextCount pick
 hole-next = (refl, refl, refl)
+
+-- the test runs over all products: counts that follow across two of them make no hole, and one that does not follow that of another product makes one
+pub hole-products :
+    (holes (doseOf 0 10 1 ∷ doseOf 7 11 2 ∷ doseOf 0 12 3 ∷ doseOf 7 13 4 ∷ []) ≡ false ∷ false ∷ false ∷ false ∷ false ∷ false ∷ false ∷ [])
+    × (holes (doseOf 0 10 1 ∷ doseOf 7 12 3 ∷ On 12 ∷ doseOf 0 13 4 ∷ []) ≡ false ∷ true ∷ true ∷ true ∷ false ∷ false ∷ false ∷ [])
+    × (holes (doseOf 0 10 1 ∷ doseOf 7 11 5 ∷ doseOf 0 12 2 ∷ []) ≡ false ∷ true ∷ true ∷ true ∷ false ∷ false ∷ false ∷ [])
+unfolding inHole holeFrom endsHole doseBefore follows nextCount pick
+hole-products = (refl, refl, refl)

@@ -1,7 +1,7 @@
 use borrow.Author.Needs.{needs}
-use Rattle.hourly.proofs.Marking.{turn-one, turn-last, turn-none, turn-next}
-use Rattle.hourly.proofs.in_turn.Statement.{statement}
-use Rattle.hourly.proofs.in_turn.Tie as tie
+use Rattle.holes.proofs.Marking.{turn-one, turn-last, turn-none, turn-next}
+use Rattle.holes.proofs.in_turn.Statement.{statement}
+use Rattle.holes.proofs.in_turn.Tie as tie
 
 returns : tie.Need-returns
 returns c = turn-one _ _ (c .if1 .taken)
