@@ -36,12 +36,13 @@ use Rattle.controller.specs.Ways.{tick-ways}
 use Rattle.counters.specs.declared.Counters.{Counters}
 use Rattle.counters.specs.declared.Record.{Record}
 use Rattle.counters.specs.Counters.{recordsOf}
+use Rattle.counters.specs.Laws.{AllOf}
 use Rattle.controller.specs.Calls.{freshOf}
 use Rattle.controller.specs.Sound.{Sound}
 use Rattle.controller.specs.Keeps.{fresh-sound}
 use Rattle.hourly.specs.Text.{rowFrom, rowOf}
 use Rattle.series.specs.Events.{Event, tick, link, request, modbus, settings, reset, restart, run, handsBack, recordsIn, recordsAt, records}
-use Rattle.series.specs.Products.{askedOf, asked-append, event-product}
+use Rattle.series.specs.Products.{askedOf, event-product}
 use Rattle.series.specs.Holes.{countsOf, records-follow}
 use Rattle.series.specs.Records.{records-append}
 use Rattle.series.specs.Lines.{amountsOf, hourWith}
@@ -209,6 +210,98 @@ doses-are (l ∷ script) c s =
     doses-cons (heardOf c p) (heardAll (madeBy c p) script)
     ∙ ap₂ (λ (a b : List Record). a ++ b) (line-doses c p s) (doses-are script (madeBy c p) (made-sound c p s))
     ∙ sym (records-append (eventsIn (askBy p)) (eventsOf script) c)
+
+-- ---- the doses of one product are those completed while it was set
+
+-- a dose where product p is set at its tick, else the tick alone
+unfoldable pub whileSet : ℕ → Controller → Heard → Heard
+whileSet p c Ticked = Ticked
+whileSet p c (Dosed d) = pick (eqb (c .set .product) p) (Dosed d) Ticked
+whileSet p c Restarted = Restarted
+whileSet p c Lost = Lost
+whileSet p c Other = Other
+
+-- what each line of a script was, with the doses alone that are completed while product p is set
+unfoldable pub heardWhile : ℕ → Controller → List (List ℕ) → List Heard
+heardWhile p c [] = []
+heardWhile p c (l ∷ ls) = whileSet p c (heardOf c (callOf l)) ∷ heardWhile p (madeBy c (callOf l)) ls
+
+-- with the doses of product p alone
+unfoldable onlyOf : ℕ → Heard → Heard
+onlyOf p Ticked = Ticked
+onlyOf p (Dosed d) = pick (eqb (d .product) p) (Dosed d) Ticked
+onlyOf p Restarted = Restarted
+onlyOf p Lost = Lost
+onlyOf p Other = Other
+
+ask-product : (c : Controller) (a : Ask) → Sound c → AllOf (c .set .product) (records c (eventsIn a))
+unfolding eventsIn records AllOf
+ask-product c (event e) s = rw append-nil (event-product c e s)
+ask-product c counters s = tt
+ask-product c nothing s = tt
+
+set-only : (p : ℕ) (c : Controller) (h : Heard) → AllOf (c .set .product) (dosesIn (h ∷ [])) → whileSet p c h ≡ onlyOf p h
+unfolding whileSet onlyOf dosesIn AllOf
+set-only p c Ticked a = refl
+set-only p c (Dosed d) a = ap (λ (q : ℕ). pick (eqb q p) (Dosed d) Ticked) (sym (a .0))
+set-only p c Restarted a = refl
+set-only p c Lost a = refl
+set-only p c Other a = refl
+
+while-only : (script : List (List ℕ)) (p : ℕ) (c : Controller) → Sound c → heardWhile p c script ≡ map (onlyOf p) (heardAll c script)
+unfolding heardWhile heardAll
+while-only [] p c s = refl
+while-only (l ∷ script) p c s =
+    let call = callOf l in
+    ap₂ (λ (h : Heard) (hs : List Heard). h ∷ hs)
+    (set-only p c (heardOf c call) (subst (AllOf (c .set .product)) (sym (line-doses c call s)) (ask-product c (askBy call) s)))
+    (while-only script p (madeBy c call) (made-sound c call s))
+
+less-only : (p : ℕ) (h : Heard) (n : ℕ) → less (onlyOf p h) n ≡ less h n
+unfolding onlyOf less
+less-only p Ticked n = refl
+less-only p (Dosed d) n = pick-all (λ (h : Heard). less h n ≡ n) (eqb (d .product) p) refl refl
+less-only p Restarted n = refl
+less-only p Lost n = refl
+less-only p Other n = refl
+
+up-only : (p : ℕ) (hs : List Heard) (n : ℕ) → upTo (map (onlyOf p) hs) n ≡ map (onlyOf p) (upTo hs n)
+unfolding upTo
+up-only p [] n = refl
+up-only p (h ∷ hs) zero = refl
+up-only p (h ∷ hs) (suc n) =
+    ap (λ (l : List Heard). onlyOf p h ∷ l) (ap (upTo (map (onlyOf p) hs)) (less-only p h n) ∙ up-only p hs (less h n))
+
+behind-only : (p : ℕ) (hs : List Heard) (n : ℕ) → behind (map (onlyOf p) hs) n ≡ map (onlyOf p) (behind hs n)
+unfolding behind
+behind-only p [] n = refl
+behind-only p (h ∷ hs) zero = refl
+behind-only p (h ∷ hs) (suc n) = ap (behind (map (onlyOf p) hs)) (less-only p h n) ∙ behind-only p hs (less h n)
+
+hours-only : (k p : ℕ) (hs : List Heard) → hourLines k (map (onlyOf p) hs) ≡ map (onlyOf p) (hourLines k hs)
+unfolding hourLines
+hours-only zero p hs = up-only p hs ticksAnHour
+hours-only (suc k) p hs = ap (hourLines k) (behind-only p hs ticksAnHour) ∙ hours-only k p (behind hs ticksAnHour)
+
+only-doses : (p : ℕ) (hs : List Heard) → dosesIn (map (onlyOf p) hs) ≡ askedOf (One p) (dosesIn hs)
+unfolding dosesIn onlyOf askedOf asksFor pick
+only-doses p [] = refl
+only-doses p (Ticked ∷ hs) = only-doses p hs
+only-doses p (Dosed d ∷ hs) = go (eqb (d .product) p) ∙ ap (λ (l : List Record). pick (eqb (d .product) p) (d ∷ []) [] ++ l) (only-doses p hs)
+  where
+    go : (b : Bool) → dosesIn (pick b (Dosed d) Ticked ∷ map (onlyOf p) hs) ≡ pick b (d ∷ []) [] ++ dosesIn (map (onlyOf p) hs)
+    go true = refl
+    go false = refl
+only-doses p (Restarted ∷ hs) = only-doses p hs
+only-doses p (Lost ∷ hs) = only-doses p hs
+only-doses p (Other ∷ hs) = only-doses p hs
+
+-- the doses of product p in an hour are those that its ticks complete while p is set
+pub hour-product : (script : List (List ℕ)) (c : Controller) (p k : ℕ) → Sound c → askedOf (One p) (dosesIn (hourLines k (heardAll c script))) ≡ dosesIn (hourLines k (heardWhile p c script))
+hour-product script c p k s =
+    sym (only-doses p (hourLines k (heardAll c script)))
+    ∙ ap dosesIn (sym (hours-only k p (heardAll c script)))
+    ∙ ap (λ (hs : List Heard). dosesIn (hourLines k hs)) (sym (while-only script p c s))
 
 -- ---- the journal's lines, where none is refused
 
@@ -662,6 +755,10 @@ module _ (input : List ℕ) (s : Script input) (ls : List Line) (accepted : jour
       let h = s .first + k in
       ap₂ (λ (on : Bool) (amounts : List ℕ). pick (inHole h ls) missing (pick on (measuredOrIdle amounts) missing))
       (ap (hasOn h) lines-are ∙ t .on) (ap (amountsAt w h) lines-are ∙ t .amounts)
+
+  -- for one product: by the doses that its ticks completed while that product was set
+  pub of-one-product : (p k : ℕ) → hourOf (One p) ls (s .first + k) ≡ hourWith (inHole (s .first + k) ls) (seenInFull k (heardIn s)) (dosesIn (hourLines k (heardWhile p freshOf (s .script))))
+  of-one-product p k = consumption (One p) k ∙ ap (hourWith (inHole (s .first + k) ls) (seenInFull k (heardIn s))) (hour-product (s .script) freshOf p k fresh-sound)
 
   -- no hour before the first is anything but missing
   pub before-first : (w : Products) (h : ℕ) → h < s .first → hourOf w ls h ≡ missing
