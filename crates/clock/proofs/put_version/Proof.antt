@@ -21,19 +21,19 @@ same-length : tie.Need-same-length
 same-length c = search needs
 
 returns : tie.Need-returns
-returns c = wrote-version _ _ _ (c .before .before .before .before .before .before .before .before .pre) (c .before .before .before .before .before .write-version .ensures) _ (c .before .len .given .1)
+returns c = wrote-version _ _ (c .before .before .before .before .before .write-version .result) (c .before .before .before .before .before .before .before .before .pre) (c .before .before .before .before .before .write-version .ensures) _ (c .before .len .given .1)
 
 same-length-2 : tie.Need-same-length-2
 same-length-2 c = search needs
 
 returns-2 : tie.Need-returns-2
-returns-2 c = version-always _ _ _ (c .before .before .before .before .before .before .before .pre) (c .before .before .before .before .write-version .ensures) _ _ (ap saysWrote (c .enum-told .given .1))
+returns-2 c = version-always _ _ (c .before .before .before .before .write-version .result) (c .before .before .before .before .before .before .before .pre) (c .before .before .before .before .write-version .ensures) _ _ (ap saysWrote (c .enum-told .given .1))
 
 same-length-3 : tie.Need-same-length-3
 same-length-3 c = search needs
 
 returns-3 : tie.Need-returns-3
-returns-3 c = version-always _ _ _ (c .before .before .before .before .before .before .before .pre) (c .before .before .before .before .write-version .ensures) _ _ (ap saysWrote (c .enum-told2 .given .1))
+returns-3 c = version-always _ _ (c .before .before .before .before .write-version .result) (c .before .before .before .before .before .before .before .pre) (c .before .before .before .before .write-version .ensures) _ _ (ap saysWrote (c .enum-told2 .given .1))
 
 pub put-version-spec : {M : Type 1} → statement M
 put-version-spec =
