@@ -468,8 +468,7 @@ unfolding hasOn isOn amountsAt doseAt doseIn askedOf
 doses-here w h [] more = (refl, refl)
 doses-here w h (d ∷ ds) more =
     let r = doses-here w h ds more in
-    let here = pick (asksFor w (d .product)) (d ∷ []) [] in
-    (
+    let here = pick (asksFor w (d .product)) (d ∷ []) [] in (
       r .0,
       ap₂ (λ (a b : List ℕ). a ++ b) (ap (λ (b : Bool). pick (asksFor w (d .product) && b) (d .amount ∷ []) []) (eq-eqb h h refl) ∙ asked-amount w d) (r .1)
           ∙ sym (append-assoc (amountsOf here) (amountsOf (askedOf w ds)) (amountsAt w h more))
