@@ -1,22 +1,18 @@
 -- From what the pass says of a journal to the report where no product was given, and to that of any choice. Assumes nothing.
 use mathlib.Core.Path.{_≡_, refl, sym, ap, _∙_, subst}
 use mathlib.Core.List.{List, [], _∷_}
-use Prim.Native.Nat.{ℕ, min}
-use native.Mathlib.Omega.{arith}
-use native.Mathlib.Decide.{decLt}
+use Prim.Native.Nat.{ℕ}
 use lib.ListN.{length, getD, take}
-use lib.Seq.{take-all}
 use Rattle.paper.specs.Answer.{Answer, done, refused, fault, told}
-use Rattle.paper.specs.AnswerLaws.{fault-refused}
 use Rattle.paper.specs.Numbers.{R2}
 use Rattle.journal.specs.Journal.{journalOf}
 use Rattle.journal.specs.Says.{saysRefusal, refusal-done, refusal-told, namesOf, refusal-names}
 use Rattle.journal.specs.declared.Line.{Line}
 use Rattle.journal.specs.declared.Refusal.{Refusal}
-use Rattle.journal.specs.declared.Refusal.the-variants as J
 use Rattle.hourly.specs.Tally.{summaryOf}
 use Rattle.hourly.specs.Contracts.{judged-lines}
 use Rattle.hourly.specs.declared.Summary.{Summary}
+use Rattle.report.specs.Says.{refusal-fault}
 use Rattle.report.specs.Report.{refusalText, refusalOf}
 use Rattle.report.specs.Contracts.{Holds}
 use Rattle.report.specs.declared.Printout.{Printout}
@@ -29,12 +25,6 @@ use Rattle.chosen.specs.declared.Choice.{Choice}
 -- the journal is accepted: R2 with 0
 pub accepted-none : (s : List ℕ) (m : Summary) → done m ≡ told summaryOf (journalOf s) → refusalText R2 0 ≡ chosenReport noProduct s
 accepted-none s m e = let l = judged-lines s m e in sym (chosen-none R2 (0 ∷ []) s (l .0) (l .1))
-
-refusal-fault : {X Q : Type 0} {n : ℕ} {vs : List ℕ} (r : Refusal) → saysRefusal {X = X} r ≡ fault n vs → Q
-refusal-fault (J.R10 n) e = fault-refused (sym e)
-refusal-fault (J.R11 n) e = fault-refused (sym e)
-refusal-fault (J.R12 n) e = fault-refused (sym e)
-refusal-fault J.R13 e = fault-refused (sym e)
 
 -- the line of a refusal
 refusal-text : (r : Refusal) (n : ℕ) (vs : List ℕ) → saysRefusal {X = List ℕ} r ≡ refused n vs → refusalOf r ≡ refusalText n (getD vs 0 0)
@@ -52,14 +42,6 @@ refused-none s r e = go (journalOf s) refl e
     go (done ls) q h = refusal-done r h
     go (refused n vs) q h = refusal-text r n vs (refusal-told (λ (m : Summary). []) r ∙ ap (told (λ (m : Summary). [])) h) ∙ sym (chosen-refused noProduct n vs s q)
     go (fault n vs) q h = refusal-fault r h
-
--- no more bytes are looked at than were asked for
-pub seen-is : (bytes : List ℕ) (n k : ℕ) → length bytes ≡ 65537 → k ≡ min n 65537 → take k bytes ≡ take n bytes
-seen-is bytes n k size e =
-    elim (decLt n 65537) [
-      | yes h ↦ let f : k ≡ n = omega arith in ap (λ (j : ℕ). take j bytes) f
-      | no h ↦ take-all k bytes (omega arith) ∙ sym (take-all n bytes (omega arith))
-    ]
 
 -- 65,537 bytes were asked for, so it is the report of the journal that was read
 pub reports : (choice : Choice) (bytes : List ℕ) (n : ℕ) (r : Printout) → length bytes ≡ 65537 → Holds (chosenReport (saysChoice choice) (take n bytes)) r → ReportsChosen choice bytes n r

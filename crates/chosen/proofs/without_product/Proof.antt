@@ -6,10 +6,11 @@ use borrow.Author.Needs.{needs}
 use lib.ListN.{length, take}
 use lib.Seq.{length-take-le}
 use Rattle.hourly.specs.Says.{saysJudged}
+use Rattle.report.specs.Report.{seen-is}
 use Rattle.report.specs.Contracts.{Holds}
 use Rattle.chosen.specs.Choice.{noProduct, chosenReport}
 use Rattle.chosen.specs.declared.Choice.the-variants as C
-use Rattle.chosen.proofs.Choosing.{accepted-none, refused-none, seen-is, reports}
+use Rattle.chosen.proofs.Choosing.{accepted-none, refused-none, reports}
 use Rattle.chosen.proofs.without_product.Statement.{statement}
 use Rattle.chosen.proofs.without_product.Tie as tie
 
