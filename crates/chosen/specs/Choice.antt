@@ -6,9 +6,8 @@ use lib.ListN.{getD}
 use Rattle.laws.specs.Pick.{pick}
 use Rattle.laws.specs.Decimal.{Parsed, good, bad, numberAt, digitsFrom, isDigit, decimal, digitsOf, glyph}
 use Rattle.paper.specs.Answer.{Answer, done, refused, fault, told, onDone}
-use Rattle.paper.specs.Numbers.{R2, R10}
+use Rattle.paper.specs.Numbers.{R2}
 use Rattle.journal.specs.Journal.{journalOf}
-use Rattle.journal.specs.declared.Line.{Line}
 use Rattle.hourly.specs.Text.{hoursText}
 use Rattle.hourly.specs.declared.Products.the-variants.{One}
 use Rattle.report.specs.Report.{refusalText}

@@ -1,6 +1,6 @@
 -- The report of a product is the hour program's for it, a refused journal goes before a refused product, and 65,537 bytes of a journal tell its report. Assumes nothing.
 use mathlib.Core.Path.{_≡_, refl, sym, ap, _∙_}
-use mathlib.Core.List.{List, []}
+use mathlib.Core.List.{List}
 use Prim.Native.Nat.{ℕ}
 use native.Mathlib.Omega.{arith}
 use native.Mathlib.Decide.{decLt}

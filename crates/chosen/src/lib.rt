@@ -6,10 +6,9 @@ use report::Printout;
 use text::Num;
 ghost use mathlib.Core.Path.{_≡_};
 ghost use Prim.Native.Nat.{min};
-ghost use lib.ListN.{take};
 ghost use Rattle.report.specs.Report.{refusalOf};
 ghost use Rattle.report.specs.Contracts.{Holds};
-ghost use Rattle.chosen.specs.Choice.{noProduct, chosenReport};
+ghost use Rattle.chosen.specs.declared.Choice.the-variants.{R2};
 ghost use Rattle.chosen.specs.Contracts.{ReadsProduct, ReportsChosen};
 
 // The product of a line, or that it has none.
@@ -54,7 +53,7 @@ fn refusal_line(refusal: Refusal) -> Printout
 
 // What is printed where the first line is no product: the journal's refusal, else R2 with 0.
 fn without_product(bytes: &[u8; journal::READ], n: usize) -> Printout
-    ensures { λ r. ⌜ Holds (chosenReport noProduct (take n (now (bytes .entry)))) r ⌝ }
+    ensures { λ r. ⌜ ReportsChosen R2 (now (bytes .entry)) n r ⌝ }
 {
     let size = smaller(n, journal::READ);
     let all: &[u8] = bytes;

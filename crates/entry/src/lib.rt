@@ -103,7 +103,8 @@ fn text_len(form: Form, line: Line) -> usize
             settled,
             product,
         } => {
-            2 + field_len(hour)
+            2
+                + field_len(hour)
                 + field_len(count)
                 + field_len(amount)
                 + field_len(settled)
@@ -142,7 +143,15 @@ fn store_product(out: &mut [u8], at: usize, form: Form, product: u32) -> usize
 }
 
 // A D line stored from the start.
-fn store_dose(out: &mut [u8], form: Form, hour: u32, count: u32, amount: u32, settled: u32, product: u32) -> usize
+fn store_dose(
+    out: &mut [u8],
+    form: Form,
+    hour: u32,
+    count: u32,
+    amount: u32,
+    settled: u32,
+    product: u32,
+) -> usize
     requires { ⌜ length (textOf form (Dose hour count amount settled product)) ≤ length (now out) ⌝ }
     ensures { λ r. ⌜ Stores (now (out .entry)) 0 (textOf form (Dose hour count amount settled product)) (now (out .exit)) r ⌝ }
 {

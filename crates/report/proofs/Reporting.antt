@@ -1,24 +1,22 @@
 -- From the text's answer to the report, and from the journal's refusal to its line. Assumes nothing.
 use mathlib.Core.Path.{_≡_, refl, sym, ap, _∙_, subst}
 use mathlib.Core.List.{List, [], _++_}
-use Prim.Native.Nat.{ℕ, zero, suc, _-_, _≤_, min}
+use Prim.Native.Nat.{ℕ, zero, suc, _-_, _≤_}
 use native.Mathlib.Omega.{arith}
-use native.Mathlib.Decide.{decLt}
 use lib.ListN.{length, take, drop, replicate, length-replicate}
-use lib.Seq.{take-all}
 use Rattle.laws.specs.Over.{over, sets-over}
 use Rattle.paper.specs.Answer.{Answer, done, refused, fault, told, onDone, inRoom, leaves, Fills}
 use Rattle.paper.specs.AnswerLaws.{refused-done, fault-done, fault-refused, hands-done}
-use Rattle.paper.specs.Numbers.{R8, R10}
+use Rattle.paper.specs.Numbers.{R8}
 use Rattle.text.specs.Put.{Puts}
 use Rattle.text.specs.PutLaws.{room-is, puts-fit}
 use Rattle.journal.specs.Journal.{journalOf}
 use Rattle.journal.specs.Says.{saysRefusal, refusal-done, refusal-told, namesOf, refusal-names}
 use Rattle.journal.specs.declared.Line.{Line}
 use Rattle.journal.specs.declared.Refusal.{Refusal}
-use Rattle.journal.specs.declared.Refusal.the-variants as J
 use Rattle.hourly.specs.Text.{hoursText, printOf}
 use Rattle.hourly.specs.Bounds.{room-enough}
+use Rattle.report.specs.Says.{refusal-fault}
 use Rattle.report.specs.Report.{refusalText, refusalOf, reportFrom, reportOf, seen-enough, journal-named}
 use Rattle.report.specs.Contracts.{Holds, Reports}
 use Rattle.hourly.specs.declared.Products.{Products}
@@ -41,13 +39,6 @@ holds-put text old r z h p =
     let n : length old ≡ 33480 = ap length z ∙ length-replicate {A = ℕ} 33480 0 in
     let f = puts-fit (room-is old 0 text (omega arith)) p in
     holds-over text old r z (f .1 ∙ omega arith) (f .0 ∙ sets-over old text (omega arith))
-
--- no refusal of a journal is a fault
-refusal-fault : {X Q : Type 0} {n : ℕ} {vs : List ℕ} (r : Refusal) → saysRefusal {X = X} r ≡ fault n vs → Q
-refusal-fault (J.R10 n) e = fault-refused (sym e)
-refusal-fault (J.R11 n) e = fault-refused (sym e)
-refusal-fault (J.R12 n) e = fault-refused (sym e)
-refusal-fault J.R13 e = fault-refused (sym e)
 
 -- what the text's answer is made of
 abbrev printFrom : Products → Answer (List Line) → ℕ → Answer (List ℕ)
@@ -96,14 +87,6 @@ module _ (w : Products) (s old new : List ℕ) (z : old ≡ replicate 33480 0) w
       go (done ls) e = refusal-done r (f .says ∙ ap (told length) (room-enough w s ls (length old) e room))
       go (refused k vs) e = line ∙ ap (reportFrom w) (refusal-told (λ (n : ℕ). []) r ∙ ap (told (λ (n : ℕ). [])) (f .says ∙ ap (λ (a : Answer (List Line)). told length (printFrom w a (length old))) e))
       go (fault k vs) e = refusal-fault r (f .says ∙ ap (λ (a : Answer (List Line)). told length (printFrom w a (length old))) e)
-
--- no more bytes are looked at than were asked for
-pub seen-is : (bytes : List ℕ) (n k : ℕ) → length bytes ≡ 65537 → k ≡ min n 65537 → take k bytes ≡ take n bytes
-seen-is bytes n k size e =
-    elim (decLt n 65537) [
-      | yes h ↦ let f : k ≡ n = omega arith in ap (λ (j : ℕ). take j bytes) f
-      | no h ↦ take-all k bytes (omega arith) ∙ sym (take-all n bytes (omega arith))
-    ]
 
 -- 65,537 bytes were asked for, so it is the report of the journal that was read
 pub reports : (w : Products) (bytes seen : List ℕ) (n : ℕ) (r : Printout) → length bytes ≡ 65537 → seen ≡ take n bytes → Holds (reportOf w seen) r → Reports w bytes n r

@@ -1,9 +1,10 @@
 -- What each call of this crate promises, and that two results which both keep the promise are equal. Assumes nothing.
 use mathlib.Core.Path.{_≡_, ap, _∙_}
 use mathlib.Core.List.{List}
-use Prim.Native.Nat.{ℕ}
-use lib.ListN.{length, take}
-use Rattle.paper.specs.Answer.{done, Fills, fills-one, Hands, hands-one}
+use Prim.Native.Nat.{ℕ, _≤_}
+use native.Mathlib.Omega.{arith}
+use lib.ListN.{length, length-append, take}
+use Rattle.paper.specs.Answer.{done, told, bytesIn, Fills, fills-one, Hands, hands-one}
 use Rattle.text.specs.Put.{Puts, puts-determined}
 use Rattle.hourly.specs.Text.{printOf}
 use Rattle.hourly.specs.declared.Products.{Products}
@@ -35,6 +36,14 @@ holds-one text a b p q =
     let e = hands-one p q in
     let n : a .len ≡ b .len = cc in
     ap (λ (k : ℕ). record { bytes = a .bytes; len = k }) n ∙ ap (λ (l : List ℕ). record { bytes = l; len = b .len }) (e .1)
+
+-- the text stands inside its array
+pub holds-inside : (text : List ℕ) (r : Printout) → Holds text r → r .len ≤ length (r .bytes)
+unfolding told bytesIn
+holds-inside text r h =
+    let says : done (r .len) ≡ done (length text) = h .says in
+    let n : r .len ≡ length text = cc in
+    omega (arith, ap length (h .holds) ∙ length-append text _)
 
 -- refusal_line: the line of a refusal
 abbrev pub HoldsRefusal : ℕ → ℕ → Printout → Type 0

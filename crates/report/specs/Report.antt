@@ -2,7 +2,7 @@
 use mathlib.Core.Path.{_≡_, refl, sym, ap, _∙_}
 use mathlib.Core.Bool.{Bool, true, false, _&&_}
 use mathlib.Core.List.{List, [], _∷_, _++_}
-use Prim.Native.Nat.{ℕ, zero, suc, _+_, _≤_}
+use Prim.Native.Nat.{ℕ, zero, suc, _+_, _≤_, min}
 use native.Mathlib.Omega.{arith}
 use native.Mathlib.Decide.{decLt}
 use lib.Dec.{ltb}
@@ -131,4 +131,12 @@ seen-enough w s =
           let n : length (take 65537 s) ≡ 65537 = length-take-le 65537 s (omega arith) in
           ap (reportFrom w) (journal-long (take 65537 s) (omega arith) ∙ sym (journal-long s h))
       | no h ↦ ap (λ (l : List ℕ). reportFrom w (journalOf l)) (take-all 65537 s (omega arith))
+    ]
+
+-- no more bytes are looked at than were asked for
+pub seen-is : (bytes : List ℕ) (n k : ℕ) → length bytes ≡ 65537 → k ≡ min n 65537 → take k bytes ≡ take n bytes
+seen-is bytes n k size e =
+    elim (decLt n 65537) [
+      | yes h ↦ let f : k ≡ n = omega arith in ap (λ (j : ℕ). take j bytes) f
+      | no h ↦ take-all k bytes (omega arith) ∙ sym (take-all n bytes (omega arith))
     ]

@@ -8,7 +8,8 @@ use lib.ListN.{length, take}
 use lib.Seq.{length-take-le}
 use Rattle.report.specs.Contracts.{Holds, PrintsHours}
 use Rattle.report.specs.declared.Printed.{Printed}
-use Rattle.report.proofs.Reporting.{text-holds, never-short, refused-line, seen-is, reports}
+use Rattle.report.specs.Report.{seen-is}
+use Rattle.report.proofs.Reporting.{text-holds, never-short, refused-line, reports}
 use Rattle.report.proofs.report.Statement.{statement}
 use Rattle.report.proofs.report.Tie as tie
 

@@ -17,7 +17,7 @@ use Rattle.paper.specs.Numbers.{R10}
 use Rattle.journal.specs.Line.{inRange, textOf, writeOf, oneLine}
 use Rattle.journal.specs.LineLaws.{text-most, write-range, write-fits}
 use Rattle.journal.specs.Singles.{one-text}
-use Rattle.journal.specs.Says.{saysOne, one-one}
+use Rattle.journal.specs.Says.{one-one}
 use Rattle.entry.specs.Says.{saysWrote, wrote-one}
 use Rattle.journal.specs.declared.Form.{Form}
 use Rattle.journal.specs.declared.Line.{Line}
