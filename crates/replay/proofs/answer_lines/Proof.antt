@@ -63,22 +63,12 @@ pub answer-lines-spec : {M : Type 1} → statement M
 answer-lines-spec =
     tie.close
     (tie.spec
-    Inv-loop
-    μ-loop
-    (λ c. (brings-none (c .before .before .before .before .pre .0), omega arith, refl, refl, refl))
+    Inv-loop μ-loop (λ c. (brings-none (c .before .before .before .before .pre .0), omega arith, refl, refl, refl))
     (λ c κs. search needs) (λ c. search needs) (λ c. search needs) (λ c κs. search needs)
     (λ c. search needs) (λ c. search needs) (λ c. search needs)
     (λ c. record { brings = brings-more _ _ _ (c .before .before .before .before .before .next-line .ensures) (c .before .before .before .before .before .before .loop .inv .0) (c .before .before .enum-told .given .1); waits = none-waits _ _ _ (c .before .before .before .before .before .next-line .ensures) (c .before .before .enum-told .given .1) })
     (λ c κs. omega (arith, c .before .before .before .before .before .before .loop .inv .1, c .before .before .before .before .before .before .loop .inv .4))
-    (λ c. behind c .order)
-    (λ c. behind c .order)
-    (λ c. omega (arith, behind c .inside))
-    (λ c κs. search needs)
-    made-requires
+    (λ c. behind c .order) (λ c. behind c .order) (λ c. omega (arith, behind c .inside)) (λ c κs. search needs) made-requires
     (λ c. c .before .before .before .before .before .before .before .before .before .before .before .with-room .ensures)
-    (λ c. c .before .before .before .before .before .before .before .before .before .before .before .with-room .ensures)
-    (λ c. search needs)
-    (λ c κs. search needs)
-    add-len
-    loop-less
-    loop-again)
+    (λ c. c .before .before .before .before .before .before .before .before .before .before .before .with-room .ensures) (λ c. search needs)
+    (λ c κs. search needs) add-len loop-less loop-again)
