@@ -28,6 +28,7 @@ fn blank(spare: &mut [u8], room: usize) {
 pub fn lend(call: Call, spare: &mut [u8]) {
     if let Call::Request(_, room) = call {
         blank(spare, room);
+        return;
     }
     if let Call::Modbus(_, room) = call {
         blank(spare, room);
