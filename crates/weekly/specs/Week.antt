@@ -8,6 +8,7 @@ use Rattle.paper.specs.Answer.{Answer, done, refused, told, onDone}
 use Rattle.paper.specs.Numbers.{R21}
 use Rattle.journal.specs.Journal.{journalOf}
 use Rattle.journal.specs.declared.Line.{Line}
+use Rattle.hourly.specs.declared.Products.the-variants.{All}
 use Rattle.hourly.specs.Hours.{HourAnswer, hourOf}
 
 -- f 0, f 1, .., n of them
@@ -25,7 +26,7 @@ weekBy hour first = listOf (λ (d : ℕ). dayBy hour (first + 24 * d)) 7
 
 -- each measured, idle or missing as the hour rules say (an hour outside the journal has no H, so they say missing)
 unfoldable pub weekOf : List Line → ℕ → List (List HourAnswer)
-weekOf ls first = weekBy (hourOf ls) first
+weekOf ls first = weekBy (hourOf All ls) first
 
 -- a first hour that is malformed or above 9,999,832 is R21: so the week's last hour is at most 9,999,999
 abbrev pub latest : ℕ
