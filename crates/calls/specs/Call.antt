@@ -217,7 +217,7 @@ callBy letter l =
     (pick (eqb letter 117) (roomAt greatest32 hour l)
     -- j
     (pick (eqb letter 106) (roomAt 2000 hours l)
-    bad)))))))))))))))))
+    bad))))))))))))))))))
 
 -- nothing follows the last field
 unfoldable pub atEnd : Parsed Call → Parsed Call
