@@ -32,14 +32,15 @@ pub days :
 unfolding dayOf dayBy sumOver sumAt coveredOf count kindOf isWorked isHoliday any all listOf ons hourOf inHole holeFrom endsHole doseBefore follows nextCount measuredOrIdle hasOn isOn amountsAt doseAt asksFor total greatest sumOf largestOf meanOf asF64 div ofInt pick
 days = (refl, refl, refl, refl)
 
--- a measured hour and 23 missing ones are worked; D lines without an H are not; a hole takes a day's hours away
+-- a measured hour and 23 missing ones are worked, and two add up, of whatever product; D lines without an H are not; a hole takes a day's hours away
 pub worked :
     (dayOf (Dose 10 1 5 1 0 ∷ On 10 ∷ []) 3 ≡ day Worked 1 5)
     × (dayOf (Dose 10 1 5 1 0 ∷ Dose 11 2 7 1 0 ∷ On 11 ∷ []) 3 ≡ day Worked 1 7)
+    × (dayOf (Dose 10 1 500 1 0 ∷ On 10 ∷ Dose 12 2 250 0 3 ∷ On 12 ∷ []) 3 ≡ day Worked 2 750)
     × (dayOf (Dose 10 1 5 1 0 ∷ []) 3 ≡ day Unknown 0 0)
     × (dayOf (Dose 10 1 5 1 0 ∷ On 10 ∷ Dose 12 3 5 1 0 ∷ On 12 ∷ []) 3 ≡ day Unknown 0 0)
 unfolding dayOf dayBy sumOver sumAt coveredOf count kindOf isWorked isHoliday any all listOf hourOf inHole holeFrom endsHole doseBefore follows nextCount measuredOrIdle hasOn isOn amountsAt doseAt asksFor total greatest sumOf largestOf meanOf asF64 div ofInt pick
-worked = (refl, refl, refl, refl)
+worked = (refl, refl, refl, refl, refl)
 
 -- of an empty journal every day is unknown
 pub nothing : daysOf [] 100 ≡ replicate 7 (day Unknown 0 0)

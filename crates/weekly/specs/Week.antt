@@ -1,5 +1,5 @@
 -- The week: seven days of twenty-four hours from a given first hour (document 02, W12). Assumes nothing.
-use mathlib.Core.Path.{_≡_, refl}
+use mathlib.Core.Path.{_≡_, refl, ap}
 use mathlib.Core.List.{List, [], _∷_, _++_}
 use Prim.Native.Nat.{ℕ, zero, suc, _+_, _*_}
 use lib.Dec.{leb}
@@ -38,6 +38,11 @@ firstOf first = pick (leb first latest) (done first) (refused R21 [])
 -- R21 after the journal's own refusals
 unfoldable pub afterJournal : {X : Type 0} → List ℕ → Answer ℕ → (List Line → ℕ → X) → Answer X
 afterJournal s first what = onDone (journalOf s) (λ ls. told (what ls) first)
+
+-- so a refused journal answers its own refusal, whatever the first hour
+pub journal-first : {X : Type 0} (s : List ℕ) (first : Answer ℕ) (what : List Line → ℕ → X) (n : ℕ) (vs : List ℕ) → journalOf s ≡ refused n vs → afterJournal s first what ≡ refused n vs
+unfolding afterJournal onDone
+journal-first s first what n vs e = ap (λ (a : Answer (List Line)). onDone a (λ ls. told (what ls) first)) e
 
 pub first-cases : (firstOf 0 ≡ done 0) × (firstOf 9999832 ≡ done 9999832) × (firstOf 9999833 ≡ refused R21 [])
 unfolding firstOf pick
