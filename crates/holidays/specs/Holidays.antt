@@ -11,7 +11,7 @@ use Rattle.journal.specs.declared.Line.{Line}
 use Rattle.holes.specs.Holes.{inHole}
 use Rattle.hourly.specs.declared.Products.the-variants.{All}
 use Rattle.hourly.specs.Hours.{measuredOrIdle, hourOf}
-use Rattle.hourly.specs.Kinds.{Exactly}
+use Rattle.holes.specs.HoleLaws.{Exactly}
 use Rattle.counters.specs.declared.Record.{Record}
 use Rattle.controller.specs.Calls.{freshOf}
 use Rattle.series.specs.Events.{Event, run, handsBack, records}

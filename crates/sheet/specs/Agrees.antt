@@ -58,7 +58,7 @@ pub outside : {s : List ℕ} (ls : List Line) (first d k : ℕ) → Accepted s l
 outside ls first d k a h b o = week-hour ls first d k h b ∙ outside-missing All ls (first + 24 * d + k) a o
 
 pub empty : (first d k : ℕ) → d < 7 → k < 24 → hourAt (weekOf [] first) d k ≡ missing
-empty first d k h b = week-hour [] first d k h b ∙ empty-missing (first + 24 * d + k)
+empty first d k h b = week-hour [] first d k h b ∙ empty-missing All (first + 24 * d + k)
 
 -- ---- joined: an answer of `week_of` and the rows of the hour program
 

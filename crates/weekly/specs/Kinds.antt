@@ -14,7 +14,8 @@ use Rattle.journal.specs.declared.Line.the-variants.{Dose, On}
 use Rattle.holes.specs.Holes.{inHole}
 use Rattle.hourly.specs.declared.Products.the-variants.{All}
 use Rattle.hourly.specs.Hours.{HourAnswer, measured, idle, missing, amountsAt, hasOn, measuredOrIdle, hourOf, asksFor}
-use Rattle.hourly.specs.Kinds.{Exactly, on-exactly, none-exactly}
+use Rattle.hourly.specs.Kinds.{on-exactly, none-exactly}
+use Rattle.holes.specs.HoleLaws.{Exactly}
 use Rattle.weekly.specs.Week.{listOf, dayBy}
 use Rattle.weekly.specs.Day.{isMeasured, isIdle, isMissing, any, all, isWorked, isHoliday, isUnknown, kindOf, dayOf}
 use Rattle.weekly.specs.declared.Kind.the-variants.{Worked, Holiday, Unknown}
