@@ -2,9 +2,8 @@
 use libc::STDIN_FILENO;
 use lines::Intake;
 use lines::Next;
-ghost use Prim.Native.Nat.{_+_, _≤_};
 ghost use lib.ListN.{length};
-ghost use Rattle.heading.specs.Heading.{Inside};
+ghost use Rattle.heading.specs.Heading.{Inside, Behind};
 
 // The first line, from one place of the buffer to another, its LF left out; that more has to be read; or that there is none.
 pub enum Found {
@@ -64,10 +63,15 @@ pub fn read_heading(buffer: &mut [u8]) -> Headed
     headed
 }
 
-// Brings what is held of the journal to the buffer's start and reads on behind it; answers how many bytes stand there.
-pub fn read_journal(buffer: &mut [u8], intake: Intake) -> usize
-    ensures { λ r. ⌜ r ≤ length (now (buffer .exit)) ⌝ }
+// Brings what is held of the journal to the buffer's start and reads on behind it; answers how many bytes stand there. Where the input ended before a first line there is no journal, and nothing is read again.
+pub fn read_journal(buffer: &mut [u8], headed: Headed) -> usize
+    ensures { λ r. ⌜ Behind (headed .found) r (length (now (buffer .exit))) ⌝ }
 {
+    let found = headed.found;
+    if let Found::Nothing = found {
+        return 0;
+    }
+    let intake = headed.intake;
     let held = lines::carry(buffer, intake.at, intake.have);
     held + io::read_full(STDIN_FILENO, &mut buffer[held..])
 }

@@ -21,9 +21,8 @@ fn main() {
     let mut bytes = [0u8; journal::READ];
     let headed = heading::read_heading(&mut bytes);
     let found = headed.found;
-    let intake = headed.intake;
     let first = first_in(found, &bytes);
-    let n = heading::read_journal(&mut bytes, intake);
+    let n = heading::read_journal(&mut bytes, headed);
     let made = sheet::report(first, &bytes, n);
     let out = made.bytes;
     let len = made.len;
