@@ -70,7 +70,7 @@ class Box:
     # The tick.
 
     def tick(self, sample, inputs):
-        """('O', outputs), ('D', outputs, count, amount, settled) or
+        """('O', outputs), ('D', outputs, count, amount, settled, product) or
         ('F', number, channel)."""
         if inputs > 15:
             raise Refused(1)
@@ -148,7 +148,8 @@ class Box:
         bit = 1 << output - 1
         self.outputs = self.outputs | bit if on else self.outputs & ~bit
 
-    # The phase rules. Each answers a dose (count, amount, settled) or None.
+    # The phase rules. Each answers a dose (count, amount, settled, product) or
+    # None.
 
     def phase_rule(self):
         return self.RULES[self.s.algorithm // 2][self.phase](self)
@@ -253,7 +254,7 @@ class Box:
         amount = max(amount, 0)
         self.count = (self.count + 1) % 1000000
         self.total = (self.total + amount) % 1000000000
-        return self.count, amount, settled
+        return self.count, amount, settled, self.s.product
 
     # AL0 and AL1, then AL2 and AL3.
     RULES = (

@@ -37,14 +37,18 @@ def good_settings(rng):
                          rng.randint(0, 0xFFFFFF)])
     return Settings(algorithm, C, D, Pc, Pf, M, p7, p8, p9, *bits,
                     rng.choice([1, 127, rng.randint(1, 127)]), serial,
-                    rng.randint(0, 3))
+                    rng.randint(0, 3), product(rng))
+
+
+def product(rng):
+    return rng.choice([0, 0, 0, 1, 2, 7, 255, rng.randint(0, 255)])
 
 
 def bad_settings(rng):
     """One or two rows just outside, far outside, or perhaps just inside."""
     s = list(good_settings(rng))
     for _ in range(rng.randint(1, 2)):
-        row = rng.randrange(17)
+        row = rng.randrange(18)
         least, greatest = ranges(Settings(*s))[row]
         s[row] = max(0, rng.choice([least, least - 1, greatest, greatest + 1,
                                     256, 65536, 4294967295]))
@@ -66,12 +70,17 @@ def bad_counters(rng):
                        (999999, 1000000000), (1000000, 999999999)])
 
 
+def written(s):
+    """Product 0 stands at the end of a set, or does not stand there."""
+    return s[:17] if s.product == 0 and s.serial % 2 else s
+
+
 def set_line(s):
-    return line('S', *s)
+    return line('S', *written(s))
 
 
 def restart_line(s, count=0, total=0):
-    return line('N', *s, count, total)
+    return line('N', *written(s), count, total)
 
 
 # Frames.
@@ -231,8 +240,8 @@ def field_reader_line(rng, s):
 
 def d_line(rng, s):
     values = [rng.choice([0, 1, top, top + 1, rng.randint(0, top)])
-              for top in (9999999, 999999, 1800000, 1)]
-    return line('D', *values, rng.choice([64, rng.randint(0, 30)]))
+              for top in (9999999, 999999, 1800000, 1, 255)]
+    return line('D', *values, rng.choice([64, rng.randint(0, 34)]))
 
 
 def h_line(rng, s):
@@ -241,8 +250,10 @@ def h_line(rng, s):
 
 
 def one_line(rng, s):
+    """Any line of a journal for the reader of either form."""
     text = short_journal(rng)
-    return line('l', text[:text.find(b'\n') + 1] if rng.random() < 0.9 else text)
+    one = rng.choice(text.splitlines(True) or [b''])
+    return line(rng.choice('lm'), one if rng.random() < 0.9 else text)
 
 
 def short_journal(rng):

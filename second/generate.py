@@ -1,4 +1,5 @@
-"""Makes input for `replay`, `record`, `slave`, `hours` and `week` from a seed.
+"""Makes input for `replay`, `record`, `slave`, `hours`, `week` and `product`
+from a seed.
 
 python3 -m second.generate replay SEED [LINES]
 python3 -m second.generate record SEED [HOURS]      a weigher at work
@@ -8,6 +9,7 @@ python3 -m second.generate lost SEED                hours around lines that are 
 python3 -m second.generate slave SEED [FRAMES]       reads of `slave`, a line of hex each
 python3 -m second.generate journal SEED [KIND]
 python3 -m second.generate week SEED KIND           a first hour and such a journal
+python3 -m second.generate product SEED KIND        a product and such a journal
 python3 -m second.generate kinds
 """
 
@@ -187,6 +189,8 @@ def main(words):
         write(journals.make(rng, *words[2:3]))
     elif words[:1] == ['week']:
         write(journals.week(random.Random(int(words[1])), words[2]))
+    elif words[:1] == ['product']:
+        write(journals.one_product(random.Random(int(words[1])), words[2]))
     else:
         sys.exit(__doc__)
 

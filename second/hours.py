@@ -29,16 +29,17 @@ def holes(lines):
             yield earlier[1], later[1]
 
 
-def of(lines):
-    """hour -> [amounts, has an H, in a hole], for every hour first to last."""
+def of(lines, product=None):
+    """hour -> [amounts, has an H, in a hole], for every hour first to last; the
+    amounts of one product where one is asked for."""
     if not lines:
         return {}
     hours = {h: [[], False, False] for h in range(lines[0][1], lines[-1][1] + 1)}
     for line in lines:
-        if line[0] == 'D':
-            hours[line[1]][0].append(line[3])
-        else:
+        if line[0] == 'H':
             hours[line[1]][1] = True
+        elif product in (None, line[5]):
+            hours[line[1]][0].append(line[3])
     for first, last in holes(lines):
         for hour in range(first, last + 1):
             hours[hour][2] = True
@@ -76,7 +77,10 @@ def row(hour, amounts, has_h, in_hole):
 
 def text(data):
     """What the hour program prints of a good journal."""
-    hours = of(journal.read_all(data))
+    return rows(of(journal.read_all(data)))
+
+
+def rows(hours):
     return ''.join(row(h, *hours[h]) for h in sorted(hours)).encode()
 
 

@@ -256,7 +256,107 @@ SHORT = [kind for kind in KINDS
                          'holes-everywhere', 'one-hole', 'days')]
 
 
-# The first line of a week sheet before a journal.
+# The new form: a V line, and a product at the end of each D line.
+
+def renewed(rng, text):
+    """Of a journal of the old form, as many whole lines as fit; a line that is
+    malformed stays so."""
+    products = rng.sample(range(256), 2) + [0]
+    lines = [journal.V]
+    for line in text.splitlines(True):
+        if line[:2] == b'D\t' and line.count(b'\t') == 4 and line[-1:] == b'\n':
+            line = line[:-1] + b'\t%d\n' % rng.choice(products)
+        lines.append(line)
+    return cut(lines)
+
+
+def in_new_form(make_old):
+    return lambda rng: renewed(rng, make_old(rng))
+
+
+def new_exact(rng, size=journal.LONGEST):
+    """Of exactly so many bytes, in one hour; the last five doses take what is
+    left."""
+    hour, count, text = rng.randint(100, 999), rng.randint(100000, 900000), journal.V
+    line = b'D\t%d\t%d\t%d\t1\t%d\n'
+    longest = len(line % (hour, count, 1800000, 255))
+    left = size - len(text) - len(h(hour))
+    while left > 5 * longest:
+        text += line % (hour, count, rng.randint(1000000, 1800000), rng.randint(100, 255))
+        left, count = left - longest, count + 1
+    for n in range(5, 0, -1):
+        digits = 7 - (longest - left // n)
+        text += line % (hour, count, 10 ** (digits - 1), 255)
+        left, count = left - longest + 7 - digits, count + 1
+    return text + h(hour)
+
+
+# What is wrong with a line after V.
+BAD_NEW_LINES = {
+    'no-product': ['D\t%d\t1\t2\t1\n', 'D\t%d\t1\t2\t1\t\n'],
+    'bad-product': ['D\t%d\t1\t2\t1\t256\n', 'D\t%d\t1\t2\t1\t00\n',
+                    'D\t%d\t1\t2\t1\t07\n', 'D\t%d\t1\t2\t1\t-1\n',
+                    'D\t%d\t1\t2\t1\t+7\n', 'D\t%d\t1\t2\t1\t7 \n',
+                    'D\t%d\t1\t2\t1\t7\r\n', 'D\t%d\t1\t2\t1\tx\n',
+                    'D\t%d\t1\t2\t1\t999\n', 'D\t%d\t1\t2\t1\t4294967296\n'],
+    'too-many-new': ['D\t%d\t1\t2\t1\t7\t7\n', 'D\t%d\t1\t2\t1\t7\t\n',
+                     'H\t%d\t7\n', 'D\t%d\t1\t2\t1\t\t7\n'],
+    'bad-value-new': ['D\t10000000\t1\t2\t1\t7\n', 'D\t%d\t1000000\t2\t1\t7\n',
+                      'D\t%d\t1\t1800001\t1\t7\n', 'D\t%d\t1\t2\t2\t7\n',
+                      'H\t10000000\n', 'H\t0%d\n'],
+    'v-again': ['V\t2\n'],
+}
+# What is no V line, as a first line and later.
+NO_V_LINES = ['V\n', 'V\t\n', 'V\t1\n', 'V\t3\n', 'V\t0\n', 'V\t02\n', 'V\t20\n', 'V\t2 \n',
+              'V\t2\r\n', 'V\t2\t\n', 'V\t2\t2\n', 'V\t\t2\n', 'V 2\n', 'V2\n', 'v\t2\n',
+              ' V\t2\n', 'W\t2\n', 'VV\t2\n', 'V\t-2\n', 'V\t+2\n', 'V\t2\0\n', 'V\t%d\n',
+              'V\t%d\t1\t2\t1\n', '\nV\t2\n']
+
+
+def with_bad_new_line(kind):
+    """Somewhere behind V."""
+    def make(rng):
+        lines = renewed(rng, b''.join(of_hours(rng, rng.randint(0, 99), 5, 3))).splitlines(True)
+        bad = rng.choice(BAD_NEW_LINES[kind])
+        bad = bad % rng.choice([200, 999]) if '%' in bad else bad
+        at = rng.randint(1, len(lines))
+        return b''.join(lines[:at] + [bad.encode()] + lines[at:])
+    return make
+
+
+def no_v(rng):
+    """A bad V line in front of lines of either form, or behind V."""
+    bad = rng.choice(NO_V_LINES)
+    bad = (bad % rng.choice([3, 200]) if '%' in bad else bad).encode()
+    return rng.choice([b'', journal.V, h(2)]) + bad + rng.choice([small(rng), b''])
+
+
+def mixed_forms(rng):
+    """Lines of the new form without V, or of the old form behind it."""
+    old = small(rng) or d(7, 1, 2)
+    new = renewed(rng, old)
+    return rng.choice([new[len(journal.V):], journal.V + old, old + new,
+                       new + old, new[:-1], journal.V[:-1]])
+
+
+def products(rng):
+    """Few hours and three products, some counts that do not follow."""
+    return renewed(rng, holed(rng))
+
+
+NEW = {'new-' + kind: in_new_form(make_old) for kind, make_old in KINDS.items()
+       if kind not in ('exact', 'over')}
+NEW.update({'new-exact': new_exact, 'no-v': no_v, 'mixed-forms': mixed_forms,
+            'products': products,
+            'new-over': lambda rng: new_exact(rng, journal.LONGEST + 1)})
+for _kind in BAD_NEW_LINES:
+    NEW[_kind] = with_bad_new_line(_kind)
+SHORT += [kind for kind in NEW if kind not in ('new-exact', 'new-over') and (
+    kind[4:] in SHORT or kind[:4] != 'new-')]
+KINDS.update(NEW)
+
+
+# The first line of a week sheet before a journal, and of the hours of a product.
 
 BAD_FIRST = [b'', b'07', b'00', b'-7', b'-0', b'+7', b' 7', b'7 ', b'\t7', b'7\t', b'7\r',
              b'7\0', b'x', b'7.0', b'A', b'H\t7', b'9999833', b'9999999', b'10000000',
@@ -275,6 +375,20 @@ def week(rng, kind):
         first = rng.choice(BAD_FIRST)
     elif pick == 1:
         first = rng.choice([b'0', b'9999832', b'%d' % rng.randint(0, 9999832)])
+    return first + b'\n' + data
+
+
+def one_product(rng, kind):
+    """A product of the journal, or any."""
+    data = make(rng, kind)
+    spoken = [cells[5] for cells in (line.split(b'\t') for line in data.split(b'\n'))
+              if len(cells) == 6]
+    first = rng.choice(spoken or [b'0'])
+    pick = rng.randrange(10)
+    if pick == 0:
+        first = rng.choice(BAD_FIRST + [b'256', b'999'])
+    elif pick < 3:
+        first = rng.choice([b'0', b'255', b'%d' % rng.randint(0, 255)])
     return first + b'\n' + data
 
 

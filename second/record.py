@@ -69,12 +69,14 @@ class Record:
 
 
 def written(stream, ticks=TICKS):
-    """What each line adds to the journal; a refusal is its end."""
+    """What each line adds to the journal, the first one its V line; a refusal is
+    its end."""
     record = None
     try:
         for line in lines(stream):
             if record is None:
                 record = Record(first_hour(line), ticks)
+                yield journal.V
             else:
                 yield record.take(line)
     except Refused as refused:

@@ -20,7 +20,7 @@ BIT = 0, 1
 HEX = ()        # bytes in hex
 NUMBER = re.compile(rb'0|-?[1-9][0-9]{0,9}')
 BYTES = re.compile(rb'([0-9A-F]{2})*')
-SET = [U32] * 17
+SET = [U32] * 18
 
 
 class Malformed(Exception):
@@ -72,7 +72,8 @@ class Replay:
 
     def restart(self, *values):
         """Refused, the old controller stays in use."""
-        self.box = Box(Settings(*values[:17]), values[17], values[18])
+        *values, count, total = values
+        self.box = Box(Settings(*values), count, total)
         return ('A',)
 
     def request(self, data, room):
@@ -102,8 +103,8 @@ class Replay:
             raise Malformed
         return ('P',) + fields.read(field)
 
-    def write_d(self, hour, count, amount, settled, room):
-        line = journal.write('D', (hour, count, amount, settled), room)
+    def write_d(self, hour, count, amount, settled, product, room):
+        line = journal.write('D', (hour, count, amount, settled, product), room)
         return 'P', len(line), lent(room, line)
 
     def write_h(self, hour, room):
@@ -112,6 +113,9 @@ class Replay:
 
     def read_line(self, line):
         return journal.read(line)
+
+    def read_new_line(self, line):
+        return journal.read_new(line)
 
     def one_hour(self, data, hour):
         answer = hours.one(data, hour)
@@ -138,9 +142,10 @@ class Replay:
         b'X': (read_frame, [HEX], False),
         b'G': (write_field, [I32, BIT, BIT, BYTE], False),
         b'K': (read_field, [HEX], False),
-        b'D': (write_d, [U32, U32, U32, U32, (0, 64)], True),
+        b'D': (write_d, [U32, U32, U32, U32, U32, (0, 64)], True),
         b'H': (write_h, [U32, (0, 64)], True),
         b'l': (read_line, [HEX], False),
+        b'm': (read_new_line, [HEX], False),
         b'u': (one_hour, [HEX, U32], False),
         b'j': (hour_text, [HEX, (0, 2000)], True),
     }
@@ -152,6 +157,9 @@ class Replay:
             if letter not in self.CALLS:
                 raise Malformed
             call, forms, buffered = self.CALLS[letter]
+            # Lines of before, without the product, which is the 18th setting.
+            if letter in (b'S', b'N') and len(given) == len(forms) - 1:
+                given.insert(17, b'0')
             if len(given) != len(forms):
                 raise Malformed
             values = [value(*pair) for pair in zip(given, forms)]

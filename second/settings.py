@@ -4,9 +4,11 @@ from collections import namedtuple
 
 from second.refusal import Refused
 
-# In the table's order; row 1 is the algorithm, row 17 the decimal point.
+# In the table's order; row 1 is the algorithm, row 17 the decimal point, row 18
+# the product code. Settings of before have 17 rows: product 0.
 Settings = namedtuple('Settings', 'algorithm C D Pc Pf M p7 p8 p9 p11 o '
-                                  'in1 in2 in3 address serial point')
+                                  'in1 in2 in3 address serial point product',
+                      defaults=[0])
 
 # "AL0, C 10,000, D 100, Pc 0, Pf 0, M 100, p7 4, p8 4, p9 1, address 1,
 # the rest 0."
@@ -38,6 +40,7 @@ def ranges(s):
         (1, 127),           # address
         (0, 16777215),      # serial
         (0, 3),             # decimal point
+        (0, 255),           # product code
     ]
 
 

@@ -3,20 +3,23 @@ compares what they print, byte by byte:
 
 python3 tests/compare.py                            some of each
 python3 tests/compare.py replay [SEEDS [LINES]]     scripts of so many lines
-python3 tests/compare.py journals [SEEDS]           34 journals a seed
+python3 tests/compare.py journals [SEEDS]           76 journals a seed
 python3 tests/compare.py record [SEEDS [HOURS]]     hours of ticks, and their hours
 python3 tests/compare.py slave [SEEDS [FRAMES]]     MODBUS frames, each a read
-python3 tests/compare.py week [SEEDS]               a first hour and 34 journals a seed
+python3 tests/compare.py week [SEEDS]               first hours before such journals
+python3 tests/compare.py product [SEEDS]            products before such journals
 
 Each runs the stored cases first, then input from the seeds 1 to SEEDS. The
 journals are of every kind that the generator knows: small and empty ones, the
 largest (65,536 bytes), a month (744 hours), thousands of doses in one hour,
-holes in the counts, one byte too many, and every kind of malformed line. For `record` a seed gives a
+holes in the counts, one byte too many, and every kind of malformed line, of
+the old form and of the new. For `record` a seed gives a
 weigher at work, hours with something at their ends, eight hours around lines
 that are no call, a script of every call after a first hour, and first lines
 that are no hour. What `record` prints goes through `hours` too. `slave` is given
 what each read brings as a packet of its own. `week` is given every kind of
-journal behind first hours in and beside it, and behind lines that are none.
+journal behind first hours in and beside it, and behind lines that are none;
+`product` likewise.
 
 At the first difference it prints the output line of both and the input line
 that it answers, and ends with status 1. It does so too where a task fails, and
@@ -40,17 +43,18 @@ import traceback
 ROOT = os.path.dirname(os.path.dirname(os.path.abspath(__file__)))
 sys.path.insert(0, ROOT)
 
-from second import (calls, generate, hours, journals, record, replay,  # noqa: E402
-                    slave, week)
+from second import (calls, generate, hours, journals, product, record,  # noqa: E402
+                    replay, slave, week)
 
 AT_A_TIME = 2
 SOME = {'replay': (4, 20000), 'journals': (10,), 'record': (1, 2), 'slave': (20, 200),
-        'week': (10,)}
+        'week': (10,), 'product': (10,)}
 NEEDED = {'replay': ['replay'], 'journals': ['hours'], 'record': ['record', 'hours'],
-          'slave': ['slave'], 'week': ['week']}
+          'slave': ['slave'], 'week': ['week'], 'product': ['product']}
 SUMMARY = {'replay': '%d scripts, %d answers', 'hours': '%d journals, %d lines of hours',
            'record': '%d scripts, %d lines of journal',
-           'slave': '%d scripts, %d rows of replies', 'week': '%d sheets, %d lines'}
+           'slave': '%d scripts, %d rows of replies', 'week': '%d sheets, %d lines',
+           'product': '%d journals, %d lines of hours'}
 
 
 # The programs.
@@ -114,6 +118,7 @@ SECOND = {
     'hours': hours.printed,
     'slave': lambda data: rows(slave.in_packets(data)),
     'week': lambda data: week.printed(io.BytesIO(data)),
+    'product': lambda data: product.printed(io.BytesIO(data)),
 }
 
 
@@ -125,10 +130,10 @@ def answered_line(name, data, n):
         return n
     if name == 'record':
         written = 0
-        for at, text in enumerate(record.written(io.BytesIO(data)), 2):
+        for at, text in enumerate(record.written(io.BytesIO(data)), 1):
             written += text.count(b'\n')
             if written >= n:
-                return 1 if text == b'R\t10\t1\n' else at
+                return at
     return 0
 
 
@@ -165,7 +170,8 @@ def difference(name, case, data, ours, theirs):
 STORED = {'replay': ['tests/cases/*.replay', 'crates/replay/stdin'],
           'journals': ['tests/cases/*.journal'],
           'record': ['tests/cases/*.record', 'crates/record/stdin', 'samples/*.record'],
-          'slave': ['tests/cases/*.slave'], 'week': ['tests/cases/*.week']}
+          'slave': ['tests/cases/*.slave'], 'week': ['tests/cases/*.week'],
+          'product': ['tests/cases/*.product']}
 BAD_FIRST_LINES = 10        # a seed
 
 
@@ -199,10 +205,12 @@ def seeded_journals(seed):
         yield 'hours', case, journals.make(random.Random(seed), kind)
 
 
-def seeded_weeks(seed):
+def seeded_after(name, seed):
+    """Journals behind a first line: for `week` and `product`."""
+    make = {'week': journals.week, 'product': journals.one_product}[name]
     for kind in journals.KINDS:
-        case = 'second.generate week %d %s' % (seed, kind)
-        yield 'week', case, journals.week(random.Random(seed), kind)
+        case = 'second.generate %s %d %s' % (name, seed, kind)
+        yield name, case, make(random.Random(seed), kind)
 
 
 def seeded_calls(seed):
@@ -260,8 +268,8 @@ def tasks(kind, seeds, *size):
             yield Task(name, seeded, (name, kind, seed, *size), 1)
         elif kind == 'journals':
             yield Task(name, seeded_journals, (seed,), len(journals.KINDS))
-        elif kind == 'week':
-            yield Task(name, seeded_weeks, (seed,), len(journals.KINDS))
+        elif kind in ('week', 'product'):
+            yield Task(name, seeded_after, (name, seed), len(journals.KINDS))
         else:
             yield Task(name, seeded_calls, (seed,), 1 + BAD_FIRST_LINES)
             yield Task(name, seeded, (name, 'record', seed, *size), 1)

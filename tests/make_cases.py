@@ -13,7 +13,8 @@ ROOT = os.path.dirname(os.path.dirname(os.path.abspath(__file__)))
 CASES = os.path.join(ROOT, 'tests', 'cases')
 sys.path.insert(0, ROOT)
 
-from second import frames, generate, hopper, journals, modbus, replay  # noqa: E402
+from second import (frames, generate, hopper, journal, journals, modbus,  # noqa: E402
+                    replay)
 from second.calls import checked, framed, line  # noqa: E402
 from second.replay import Replay  # noqa: E402
 from second.settings import DEFAULT, Settings  # noqa: E402
@@ -25,6 +26,7 @@ AL2 = AL1._replace(algorithm=2, M=700)
 AL3 = AL2._replace(algorithm=3)
 CODES = (0xC0, 0xC2, 0xC3, 0xC4, 0xC5)
 START = 8
+V = journal.V
 
 
 class Case:
@@ -117,12 +119,12 @@ def settings_case():
     case.ask(*CODES)
     case.head('each setting at and beside its least and greatest value')
     for base in (AL0, AL1, AL2, AL3):
-        for row in range(17):
+        for row in range(18):
             for number in (0, 1, 2, 3, 4, 5, 19, 20, 21, 49, 63, 64, 99, 100,
-                           101, 127, 128, 129, 250, 251, 499, 500, 501, 699,
+                           101, 127, 128, 129, 250, 251, 255, 256, 499, 500, 501, 699,
                            1000, 1001, 99999, 100000, 16777215, 16777216,
                            4294967295):
-                if base is AL1 or row in (0, 1, 2, 5):
+                if base is AL1 or row in (0, 1, 2, 5, 17):
                     values = list(base)
                     values[row] = number
                     case.settings(Settings(*values))
@@ -136,8 +138,17 @@ def settings_case():
     case.settings(AL1._replace(D=0, p9=0))
     case.settings(AL1._replace(p7=3, p8=2))
     case.settings(AL1._replace(in2=2, point=4))
-    case.settings(Settings(*[4294967295] * 17))
-    case.settings(Settings(*[0] * 17))
+    case.settings(AL1._replace(point=4, product=256))
+    case.settings(Settings(*[4294967295] * 18))
+    case.settings(Settings(*[0] * 18))
+    case.head('17 settings: product 0')
+    case.say('S', *AL1._replace(point=4)[:17])
+    case.say('S', *AL1[:17])
+    case.say('N', *AL1._replace(point=4)[:17], 1000000, 0)
+    case.say('N', *AL1._replace(product=256), 1000000, 0)
+    case.say('N', *AL1[:17], 1000000, 0)
+    case.say('N', *AL1[:17], 5, 6)
+    case.say('Q')
 
     case.head('a set keeps link start, counters, inputs, output 4; not Z')
     case.new(AL1, 7, 700)
@@ -1205,6 +1216,42 @@ def modbus_starts(case):
     case.registers()
 
 
+def product_case():
+    """The product of each dose is that of the settings."""
+    case = Case(88)
+    for s in (AL1, AL2, AL3):
+        case.head('AL%d: doses of products 7, 255, 0 and 1' % s.algorithm)
+        case.new(s._replace(product=7), 41, 100)
+        for product in (None, 255, 0, 1):
+            if product is not None:
+                case.settings(s._replace(product=product))
+            case.say('L', 1)
+            case.run(tank(s, 600 * (s.algorithm > 1)), 0)
+            case.say('L', 0)
+            case.say('Q')
+        case.head('17 settings put it to 0, a refused set does not')
+        case.new(s._replace(product=7))
+        case.settings(s._replace(product=256))
+        case.new(s._replace(product=9, D=0))
+        case.say('L', 1)
+        case.run(tank(s, 600 * (s.algorithm > 1)), 0)
+        case.say('S', *s[:17])
+        case.run(tank(s, 600 * (s.algorithm > 1)), 0)
+        case.new(s._replace(product=3))
+        case.say('N', *s[:17], 7, 8)
+        case.say('L', 1)
+        case.run(tank(s, 600 * (s.algorithm > 1)), 0)
+        case.say('Q')
+    case.head('in the middle of a dose no set is taken')
+    case.new(AL1._replace(product=5))
+    case.tick(0, START)
+    case.ticks(4, 300)
+    case.settings(AL1._replace(product=6))
+    case.ticks(70, 480)
+    case.ticks(6, 0)
+    case.save('product.replay')
+
+
 def slave_cases():
     """What each read of `slave` brings, a line of hex each."""
     ask = modbus.closed(bytes.fromhex('01030000000B'))
@@ -1267,9 +1314,10 @@ def fields_case():
 def journal_case():
     case = Case(90)
     case.head('writers: values at their bounds, R10 before R8')
-    for values in ((0, 0, 0, 0), (9999999, 999999, 1800000, 1),
-                   (10000000, 0, 0, 0), (0, 1000000, 0, 0), (0, 0, 1800001, 0),
-                   (0, 0, 0, 2), (4294967295,) * 4, (10, 1, 500, 1)):
+    for values in ((0, 0, 0, 0, 0), (9999999, 999999, 1800000, 1, 255),
+                   (10000000, 0, 0, 0, 0), (0, 1000000, 0, 0, 0), (0, 0, 1800001, 0, 0),
+                   (0, 0, 0, 2, 0), (0, 0, 0, 0, 256), (4294967295,) * 5,
+                   (10, 1, 500, 1, 7)):
         length = 4 + sum(len(str(value)) + 1 for value in values) - 2
         for room in (length, length - 1, 0, 64):
             case.say('D', *values, min(room, 64))
@@ -1280,12 +1328,18 @@ def journal_case():
     case.head('reader of one line')
     for text in ('H\t0\n', 'H\t9999999\n', 'D\t0\t0\t0\t0\n',
                  'D\t9999999\t999999\t1800000\t1\n', '', '\n', 'H\t5',
-                 'H\t5\n\n', 'H\t5\nH\t6\n', '\nH\t5\n', 'H\t5\n ', 'D\n\t1\t2\t3\t1\n'):
+                 'H\t5\n\n', 'H\t5\nH\t6\n', '\nH\t5\n', 'H\t5\n ', 'D\n\t1\t2\t3\t1\n',
+                 'V\t2\n', 'V\t2', 'V\t2\n\n', 'V\t2\nH\t5\n', 'D\t0\t0\t0\t0\t0\n',
+                 'D\t9999999\t999999\t1800000\t1\t255\n', 'D\t1\t2\t3\t1\t256\n',
+                 'D\t1\t2\t3\t1\t7', 'D\t1\t2\t3\t1\t7\t7\n', 'D\t1\t2\t3\t1\t7\n'):
         case.say('l', text.encode())
-    for kind in sorted(journals.BAD_LINES):
-        for text in journals.BAD_LINES[kind]:
-            text = text % 200 if '%' in text else text
-            case.say('l', text.encode('latin-1'))
+        case.say('m', text.encode())
+    for lines in (journals.BAD_LINES, journals.BAD_NEW_LINES, {'': journals.NO_V_LINES}):
+        for kind in sorted(lines):
+            for text in lines[kind]:
+                text = text % 200 if '%' in text else text
+                case.say('l', text.encode('latin-1'))
+                case.say('m', text.encode('latin-1'))
     case.head('every malformed line in a journal: at its start, middle, end')
     for kind in sorted(journals.BAD_LINES):
         for text in journals.BAD_LINES[kind]:
@@ -1293,8 +1347,26 @@ def journal_case():
             case.say('j', bad, 4)
             case.say('j', journals.h(10) + bad + journals.h(30), 4)
             case.say('j', journals.h(10) + journals.h(11) + bad, 0)
+    case.head('journals of the new form, and of neither')
+    for data in new_journals().values():
+        case.say('j', data, 200)
+        for hour in (9, 10, 11, 12):
+            case.say('u', data, hour)
+    for kind in sorted(journals.BAD_NEW_LINES):
+        for text in journals.BAD_NEW_LINES[kind]:
+            bad = (text % 20 if '%' in text else text).encode()
+            case.say('j', V + bad, 4)
+            case.say('j', V + journals.h(10) + bad + journals.h(30), 4)
+            case.say('j', journals.h(10) + bad, 4)
+    for text in journals.NO_V_LINES:
+        bad = (text % 20 if '%' in text else text).encode()
+        case.say('j', bad, 4)
+        case.say('j', bad + journals.h(10), 4)
+        case.say('j', V + bad, 4)
+        case.say('j', V + journals.h(10) + bad, 4)
     case.head('a last line without LF')
-    for text in (b'H\t5', b'H\t5\nH\t6', b'H', b'\t', b'H\t5\nD\t6\t1\t2\t1'):
+    for text in (b'V\t2', b'V\t2\nH\t5', b'H\t5', b'H\t5\nH\t6', b'H', b'\t',
+                 b'H\t5\nD\t6\t1\t2\t1'):
         case.say('j', text, 2)
 
     example = read('mill.journal')
@@ -1368,7 +1440,8 @@ def malformed_case():
                  'Q\t', 'Q\t0', 'q', 'QC', 'L', 'L\t', 'L\t0\t0', 'l', 'u\t',
                  'u\t\t0\t0', 'j\t', 'X', 'X\t\t', 'K', 'K\t', 'B\t', 'W\t',
                  'G\t0\t0\t0', 'D\t0\t0\t0\t0', 'H\t0', 'h\t0\t9', 'U\t\t0',
-                 'J\t\t9', 'x\t', 'M', 'M\t', 'M\t\t0\t0', 'm\t\t0', 'Y', 'Y\t', 'Y\t1\t1', 'y\t1', 'A', 'O\t0', '?', 'T 0 0', 'T\t0 0'):
+                 'J\t\t9', 'x\t', 'M', 'M\t', 'M\t\t0\t0', 'm\t\t0', 'Y', 'Y\t',
+                 'Y\t1\t1', 'y\t1', 'A', 'O\t0', '?', 'T 0 0', 'T\t0 0'):
         case.raw(text.encode())
     case.head('numbers')
     for text in ('-0', '+1', '01', '-01', '00', '', '-', '--1', '1-', ' 1', '1 ',
@@ -1387,21 +1460,23 @@ def malformed_case():
         case.raw(b'G\t5\t0\t%s\t1' % text.encode())
     case.raw(b'G\t5\t0\t0\t256')
     case.head('settings and restarts')
-    for cells in (16, 18, 19):
+    for cells in (16, 17, 18, 19, 20):
         case.say('S', *[1] * cells)
-    for cells in (17, 18, 20):
+    for cells in (17, 18, 19, 20, 21, 22):
         case.say('N', *[1] * cells)
-    for row in range(19):
+    for row in range(20):
         cells = list(AL1) + [0, 0]
         cells[row] = 4294967296
         case.say('N', *cells)
+        case.say('N', *cells[:17], *cells[18:])
         cells[row] = -1
         case.say('N', *cells)
+        case.say('S', *cells[:18])
         case.say('S', *cells[:17])
     case.head('hex')
     for text in ('0', 'F', 'ff', 'fF', '0g', 'GG', '0 ', ' 00', '0x00', '000',
                  '00\r', '-1', '00 00'):
-        for form in ('B\t%s\t9', 'M\t%s\t9', 'W\t%s\t9', 'X\t%s', 'l\t%s', 'u\t%s\t0',
+        for form in ('B\t%s\t9', 'M\t%s\t9', 'W\t%s\t9', 'X\t%s', 'l\t%s', 'm\t%s', 'u\t%s\t0',
                      'j\t%s\t9'):
             case.raw((form % text).encode())
     for text in ('', '05', '0500', '050000', '0500009', '0500009100', '0500009g',
@@ -1416,15 +1491,17 @@ def malformed_case():
     for room in (0, 2000, 2001, -1):
         case.raw(b'j\t\t%d' % room)
     for room in (0, 64, 65, -1):
-        case.raw(b'D\t1\t2\t3\t1\t%d' % room)
+        case.raw(b'D\t1\t2\t3\t1\t7\t%d' % room)
         case.raw(b'H\t1\t%d' % room)
     for number in (4294967295, 4294967296, -1):
         case.raw(b'H\t%d\t9' % number)
         case.raw(b'u\t\t%d' % number)
-        for at in range(4):
-            cells = [1, 1, 1, 1]
+        for at in range(5):
+            cells = [1, 1, 1, 1, 1]
             cells[at] = number
             case.say('D', *cells, 20)
+    case.raw(b'D\t1\t2\t3\t1\t20')
+    case.raw(b'D\t1\t2\t3\t1\t7\t7\t20')
     case.head('a digit is 0..9 or A..F, the high one and the low')
     for byte in b'/:@Gf':
         case.raw(b'X\t%c0' % byte)
@@ -1436,8 +1513,8 @@ def malformed_case():
             case.raw(bytes([byte]) + b'\tFF\t8')
     case.head('each kind of line, with nothing and with something behind it')
     for text in ('T\t-5\t8', 'L\t1', 'C', 'Q', 'Y\t1', 'B\tFF01\t0', 'M\t0103\t0', 'W\t01C3\t600',
-                 'X\tFF0A', 'G\t-5\t1\t0\t7', 'K\t01020304', 'D\t1\t2\t3\t4\t64',
-                 'H\t13\t64', 'l\t480A', 'u\t480A\t4294967295', 'j\t480A\t2000',
+                 'X\tFF0A', 'G\t-5\t1\t0\t7', 'K\t01020304', 'D\t1\t2\t3\t4\t5\t64',
+                 'H\t13\t64', 'l\t480A', 'm\t480A', 'u\t480A\t4294967295', 'j\t480A\t2000',
                  'S\t' + '\t'.join(map(str, AL1)),
                  'N\t' + '\t'.join(map(str, list(AL1) + [7, 9]))):
         for behind in ('\t', '\t0', '0', ' ', '\r', '\0', ''):
@@ -1487,6 +1564,93 @@ def journals_cases():
     write('empty.journal', b'')
     for name, text in holes().items():
         write('hole-%s.journal' % name, text)
+
+
+def of_products(text):
+    """A journal of the new form by its hours: `10 1/7 2/0 H` is hour 10 with
+    dose 1 of product 7, dose 2 of product 0 and an H."""
+    made = V
+    for hour in text.split(','):
+        hour, *cells = hour.split()
+        for n, cell in enumerate(cells):
+            if cell == 'H':
+                made += journals.h(int(hour))
+            else:
+                count, product = map(int, cell.split('/'))
+                made += journals.d(int(hour), count, 100 + n)[:-1] + b'\t%d\n' % product
+    return made
+
+
+def new_journals():
+    """Journals of the new form, by what they show."""
+    made = {name: of_products(text) for name, text in {
+        'mill': '10 1/7 2/0 H, 11 H, 12 3/7, 13 H',
+        'two-products': '10 1/7 2/9 3/7 H, 11 4/9 H, 12 5/7 H, 13 H',
+        'one-product': '10 1/7 2/7 H, 11 3/7 H',
+        'another-before-and-after': '10 1/9 H, 11 2/7 H, 12 3/9 H',
+        'a-dose-of-another-without-an-h': '10 1/7 H, 11 2/9, 12 3/7 H',
+        'a-dose-without-an-h': '10 1/9 H, 11 2/7, 12 3/9 H',
+        'no-dose-after-the-last': '10 1/7 H, 11 2/9 H, 12 H',
+        'counts-of-two-follow': '10 1/7 H, 11 2/9 H, 12 3/7 H',
+        'a-hole-of-another': '10 1/9 H, 11 3/9 H, 12 4/7 H',
+        'a-hole-between-products': '10 1/7 H, 11 3/9 H, 12 4/7 H',
+        'a-hole-in-one-alone': '10 1/7 2/9 3/9 H, 11 4/7 H, 12 5/9 H',
+        'a-hole-over-idle-hours': '9 1/9 H, 10 H, 11 H, 12 4/9 H, 13 5/7 H',
+        'a-1-of-another': '10 5/7 H, 11 1/9 H, 12 2/7 H',
+        'the-wrap': '10 999999/7 H, 11 0/9 H, 12 1/7 H',
+        'products-at-their-ends': '10 1/0 2/255 H, 11 3/255 H, 12 4/0 H',
+    }.items()}
+    made['v-alone'] = V
+    made['h-alone'] = V + journals.h(10)
+    return made
+
+
+# Refused journals of the new form, and of neither.
+BAD_JOURNALS = {
+    'five-fields-after-v': b'V\t2\nD\t10\t1\t500\t1\nH\t10\n',
+    'six-fields-without-v': b'D\t10\t1\t500\t1\t0\nH\t10\n',
+    'v-later': b'H\t10\nV\t2\n', 'v-twice': b'V\t2\nV\t2\nH\t10\n',
+    'v-after-lines': b'V\t2\nH\t10\nV\t2\nH\t9\n', 'v-1': b'V\t1\nH\t10\n',
+    'v-3': b'V\t3\n', 'v-no-lf': b'V\t2', 'v-cr': b'V\t2\r\n', 'v-empty-line': b'\nV\t2\n',
+    'product-256': b'V\t2\nD\t10\t1\t500\t1\t255\nD\t10\t2\t5\t1\t256\n',
+    'order-after-v': b'V\t2\nH\t10\nH\t10\n', 'order-first': b'V\t2\nH\t0\nD\t0\t1\t2\t1\t7\n',
+    'span-after-v': b'V\t2\nH\t10\nH\t754\n', 'span-from-0': b'V\t2\nH\t1000\nH\t1743\n',
+    'last-line-no-lf': b'V\t2\nH\t10',
+}
+
+
+def product_cases():
+    """A product alone on a line, then a journal."""
+    for name, data in new_journals().items():
+        write('new-%s.journal' % name, data)
+        for product in (7, 9) if name != 'products-at-their-ends' else (0, 255, 1):
+            write('%s-%d.product' % (name, product), b'%d\n' % product + data)
+    for name, data in BAD_JOURNALS.items():
+        write('new-%s.journal' % name, data)
+        write('%s.product' % name, b'7\n' + data)
+        write('%s.week' % name, b'7\n' + data)
+    write('new-two-products.week', b'0\n' + new_journals()['two-products'])
+    mill, new = read('mill.journal'), new_journals()['mill']
+    write('old-0.product', b'0\n' + mill)
+    write('old-1.product', b'1\n' + mill)
+    write('old-hole-0.product', b'0\n' + read('hole-across-idle-hours.journal'))
+    write('old-hole-7.product', b'7\n' + read('hole-across-idle-hours.journal'))
+    write('empty-journal.product', b'7\n')
+    write('nothing.product', b'')
+    write('no-lf.product', b'7')
+    write('lf-alone.product', b'\n')
+    for name, first in (('256', b'256'), ('999', b'999'), ('leading-zero', b'07'),
+                        ('two-zeros', b'00'), ('minus', b'-7'), ('plus', b'+7'),
+                        ('space-before', b' 7'), ('space-after', b'7 '), ('tab', b'7\t'),
+                        ('cr', b'7\r'), ('nul', b'7\0'), ('letter', b'x'), ('empty', b''),
+                        ('v-line', b'V\t2'), ('wraps-8', b'263'), ('wraps-32', b'4294967303'),
+                        ('long', b'7' * 70000)):
+        write('first-%s.product' % name, first + b'\n' + new)
+    write('first-bad-order-after-v.product', b'256\n' + BAD_JOURNALS['order-after-v'])
+    write('first-bad-product-256.product', b'x\n' + BAD_JOURNALS['product-256'])
+    exact = journals.new_exact(random.Random(1))
+    write('largest.product', b'255\n' + exact)
+    write('one-byte-over.product', b'07\n' + exact + b'\n')
 
 
 def of_counts(text):
@@ -1650,7 +1814,7 @@ def largest_journal():
 
 # What `replay` gets in the gate; the last one has a last line without LF.
 IN_THE_GATE = ('settings', 'fields', 'frames', 'journal', 'line', 'modbus', 'al0', 'al1',
-               'al2', 'al3', 'wild', 'faults', 'why', 'malformed')
+               'al2', 'al3', 'wild', 'faults', 'why', 'product', 'malformed')
 
 
 def every_call():
@@ -1666,9 +1830,10 @@ def main():
     largest_journal()
     slave_cases()
     week_cases()
+    product_cases()
     for case in (settings_case, al0_case, al1_case, al2_case, al3_case,
-                 faults_case, line_case, frames_case, modbus_case, wild_case, why_case,
-                 fields_case,
+                 faults_case, line_case, frames_case, modbus_case, wild_case,
+                 why_case, product_case, fields_case,
                  journal_case, malformed_case, long_settle_case, mixed_case):
         case()
     every_call()

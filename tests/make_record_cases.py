@@ -72,11 +72,13 @@ class Samples(Case):
         self.modbus('0106000A0001')
         self.modbus('0006000A0000')
         for text in (b'W\t01C3\t9', b'X\tFF01C3E3FFFF', b'G\t-5\t1\t0\t1',
-                     b'K\t05000091', b'D\t10\t1\t500\t1\t20', b'H\t10\t9'):
+                     b'K\t05000091', b'D\t10\t1\t500\t1\t7\t20', b'H\t10\t9'):
             self.raw(text)
         line = journals.d(10, 1, 500)
         self.say('l', line)
         self.say('l', journals.h(10))
+        self.say('m', b'V\t2\n')
+        self.say('m', b'D\t10\t1\t500\t1\t7\n')
         self.say('u', line + journals.h(10), 10)
         self.say('j', line + journals.h(10), 90)
 
@@ -85,7 +87,7 @@ def doses_case():
     """Doses of every algorithm that counts, and what prints nothing."""
     case = Samples(4711)
     for p11 in (0, 1):
-        s = AL1._replace(p11=p11, o=p11, p8=10)
+        s = AL1._replace(p11=p11, o=p11, p8=10, product=7 * p11)
         case.new(s, 999998, 999999000)
         hopper = tank(s, 12)
         case.run(hopper)
@@ -94,7 +96,7 @@ def doses_case():
     case.new(AL1)
     case.run(tank(AL1, 0, 40))
     case.others()
-    for s in (AL2, AL3):
+    for s in (AL2._replace(product=255), AL3._replace(product=12)):
         case.new(s, 41, 1)
         case.say('L', 1)
         case.run(tank(s, 900))

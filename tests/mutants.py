@@ -35,6 +35,14 @@ MUTANTS = [
      'return (1, s.C', 'return (0, s.C'),
     ('M of AL2 not under D', 'settings.py',
      'else (s.D, s.C)', 'else (1, s.C)'),
+    ('a product of 256', 'settings.py', '(0, 255), ', '(0, 256), '),
+    ('a product of 255 refused', 'settings.py', '(0, 255), ', '(0, 254), '),
+    ('the product named as the point', 'settings.py', 'return row\n', 'return min(row, 17)\n'),
+    ('17 settings refused', 'replay.py', "in (b'S', b'N') and", 'in () and'),
+    ('17 settings keep the product', 'replay.py',
+     "given.insert(17, b'0')", "given.insert(17, b'%d' % self.box.s.product)"),
+    ('17 settings of a restart read one on', 'replay.py',
+     "given.insert(17, b'0')", "given.append(b'0')"),
     ('the last bad setting named', 'settings.py',
      'enumerate(zip(s, ranges(s)), 1)',
      'reversed(list(enumerate(zip(s, ranges(s)), 1)))'),
@@ -70,6 +78,13 @@ MUTANTS = [
      '(self.total + amount) % 1000000000', '(self.total + amount) % 1000000001'),
     ('an amount below 0 kept', 'box.py',
      'amount = max(amount, 0)', 'amount = amount'),
+
+    ('product 0 in every dose', 'box.py', 'settled, self.s.product', 'settled, 0'),
+    ('the product before settled', 'box.py',
+     'amount, settled, self.s.product', 'amount, self.s.product, settled'),
+    ('the product of the restart', 'box.py',
+     'settled, self.s.product', 'settled, self.first@        self.take(s)\n@'
+     '        self.first = s.product\n        self.take(s)\n'),
 
     # The tick.
     ('negative means rounded toward zero', 'box.py',
@@ -584,8 +599,102 @@ MUTANTS = [
      'return lines + [last] if last else lines',
      "return lines + [last + b'\\n'] if last else lines"),
     ('R8 before R10 on writing', 'journal.py',
-     '    if not good(kind, values):\n',
-     '    if room < 4: raise Refused(8)\n    if not good(kind, values):\n'),
+     '    if not good(NEW[kind], values):\n',
+     '    if room < 4: raise Refused(8)\n    if not good(NEW[kind], values):\n'),
+
+    # Products.
+    ('a product of 256 in a line', 'journal.py', '1800000, 1, 255', '1800000, 1, 256'),
+    ('a product of 255 in a line refused', 'journal.py', '1800000, 1, 255', '1800000, 1, 254'),
+    ('any product in a line read', 'journal.py',
+     '            or not good(form[kind], values):',
+     '            or not good(form[kind], values[:4] + [0] * len(values[4:])):'),
+    ('a D line written in the old form', 'journal.py',
+     "for value in values]) + '\\n'", "for value in values[:4]]) + '\\n'"),
+    ('V 1 taken', 'journal.py', "texts[:1] == [V]", "texts[:1] in ([V], [b'V\\t1\\n'])"),
+    ('V with a CR taken', 'journal.py', "texts[:1] == [V]",
+     "texts[:1] in ([V], [b'V\\t2\\r\\n'])"),
+    ('V without LF taken', 'journal.py', "texts[:1] == [V]", "texts[:1] in ([V], [V[:-1]])"),
+    ('V anywhere', 'journal.py', 'if form is NEW and at == 1:', 'if form is NEW and text == V:'),
+    ('V later turns the form', 'journal.py', 'if form is NEW and at == 1:',
+     'if text == V:\n            form = NEW'),
+    ('V twice', 'journal.py', 'if form is NEW and at == 1:',
+     'if form is NEW and at < 3 and text == V:'),
+    ('an empty line before V', 'journal.py', 'split(data), []', "split(data.lstrip(b'\\n')), []"),
+    ('V not counted as a line', 'journal.py',
+     '        line = read(text, at, form)\n',
+     '        at -= form is NEW\n        line = read(text, at, form)\n'),
+    ('a V line alone refused', 'journal.py',
+     '    form = NEW if', '    if data == V: raise Refused(10, 1)\n    form = NEW if'),
+    ('five fields after V', 'journal.py',
+     '        line = read(text, at, form)\n',
+     '        line = read(text, at, OLD if text.count(b"\\t") == 4 else form)\n'
+     "        if len(line) == 5: line += (0,)\n"),
+    ('six fields without V', 'journal.py',
+     '        line = read(text, at, form)\n',
+     '        line = read(text, at, NEW if text.count(b"\\t") == 5 else form)\n'
+     "        line = line[:6] if form is NEW else line[:5]\n"),
+    ('V at hour 0', 'journal.py',
+     'line[1] - lines[0][1] >= 744', 'line[1] - (0 if form is NEW else lines[0][1]) >= 744'),
+    ('a reader of old lines that takes V', 'replay.py',
+     'return journal.read(line)', "return ('V',) if line == journal.V else journal.read(line)"),
+    ('a reader of old lines that takes a product', 'replay.py',
+     'return journal.read(line)',
+     "return journal.read(line, 1, journal.NEW if line.count(b'\\t') == 5 else journal.OLD)"),
+    ('a reader of new lines that takes old ones', 'replay.py',
+     'return journal.read_new(line)',
+     "return journal.read(line) if line.count(b'\\t') == 4 else journal.read_new(line)"),
+    ('a reader of new lines without V', 'journal.py',
+     "return ('V',) if line == V else read", 'return read'),
+    ('every product for one', 'hours.py', 'product in (None, line[5])', 'True'),
+    ('product 0 for all', 'hours.py', 'product in (None, line[5])', 'line[5] == (product or 0)'),
+    ('product 0 is every product', 'hours.py',
+     'product in (None, line[5])', 'not product or product == line[5]'),
+    ('another product hides the hour', 'hours.py',
+     '        elif product in (None, line[5]):\n',
+     '        elif product not in (None, line[5]):\n            hours[line[1]][2] = True\n'
+     '        else:\n'),
+    ('the test of counts for each product', 'hours.py',
+     "doses = [line for line in lines if line[0] == 'D']",
+     "doses = [line for line in lines if line[0] == 'D']\n"
+     '    doses.sort(key=lambda line: line[5])'),
+    ('the test of counts in one product alone', 'hours.py',
+     'for first, last in holes(lines):',
+     'for first, last in holes([line for line in lines if len(line) < 6 or '
+     'product in (None, line[5])]):'),
+    ('a hole for the products at its ends', 'hours.py',
+     'for first, last in holes(lines):',
+     'for first, last in holes(lines) if product is None or product in '
+     '[line[5] for line in lines if len(line) > 5] else ():'),
+    ('the hours of one product from its first', 'hours.py',
+     '    if not lines:\n        return {}\n',
+     '    if not lines:\n        return {}\n'
+     '    while product is not None and lines and lines[0][5:6] not in ((), (product,)):\n'
+     '        lines = lines[1:]\n'),
+    ('a product above 255 asked for', 'product.py',
+     'product > journal.PRODUCT', 'product > journal.PRODUCT + 1'),
+    ('255 not asked for', 'product.py',
+     'product > journal.PRODUCT', 'product >= journal.PRODUCT'),
+    ('a product of a byte', 'product.py',
+     '    return product\n', '    return product\n@'
+     '    if product is None or product > journal.PRODUCT:\n@'
+     '    product = product and product & 255\n    if product is None:\n'),
+    ("R2 before the journal's own", 'product.py',
+     '    lines = journal.read_all(data)\n',
+     '    asked(line)\n    lines = journal.read_all(data)\n'),
+    ('R2 with line 1', 'product.py', 'Refused(2, 0)', 'Refused(2, 1)'),
+    ('R21 for R2', 'product.py', 'Refused(2, 0)', 'Refused(21, 0)'),
+    ('R2 only where the journal has lines', 'product.py',
+     '    lines = journal.read_all(data)\n',
+     "    lines = journal.read_all(data)\n    if not lines: return b''\n"),
+    ('leading zeros of a product taken', 'product.py',
+     'journal.number(line)', "journal.number(line.lstrip(b'0') or line)"),
+    ('blanks around a product taken', 'product.py',
+     'journal.number(line)', 'journal.number(line.strip())'),
+    ('no line is product 0', 'product.py',
+     'None if line is None else journal.number(line)', "journal.number(line or b'0')"),
+    ('the first line counted by product', 'product.py',
+     '(refused.number, refused.detail[0])',
+     '(refused.number, refused.detail[0] + (refused.number in (10, 11, 12)))'),
     ('missing printed idle', 'hours.py', "return 'X'", "return 'I'"),
     ('an hour with a D measured without its H', 'hours.py',
      'if in_hole or not has_h:', 'if in_hole or not has_h and not amounts:'),
@@ -724,7 +833,8 @@ MUTANTS = [
     ('no holiday', 'week.py', "kinds == ['I'] * HOURS", 'False'),
     ('unknown with a missing hour', 'week.py',
      '    if measured:\n', "    if measured and 'X' not in kinds:\n"),
-    ('worked only with a sum', 'week.py', '    if measured:\n', '    if sum(map(sum, measured)):\n'),
+    ('worked only with a sum', 'week.py',
+     '    if measured:\n', '    if sum(map(sum, measured)):\n'),
     ('worked wherever a dose is', 'week.py',
      '    if measured:\n', '    if any(hour[0] for hour in seen):\n'),
     ('idle hours covered', 'week.py', 'told, len(measured),',
@@ -754,6 +864,21 @@ MUTANTS = [
      "        yield None if long else line.rstrip(b'\\n')"),
 
     # From samples to a journal.
+    ('no V line', 'record.py', '                yield journal.V\n', ''),
+    ('V with the first line that it adds', 'record.py',
+     '                yield journal.V\n', '@                yield record.take(line)\n@'
+     '                text = record.take(line)\n'
+     "                if text and not hasattr(record, 'v'):\n"
+     '                    record.v, text = 1, journal.V + text\n'
+     '                yield text\n'),
+    ('V before a refused first line', 'record.py',
+     '    record = None\n    try:\n', '    record = None\n    try:\n        yield journal.V\n@'
+     '                yield journal.V\n@'),
+    ('V again after a restart', 'record.py',
+     '            self.known = True\n',
+     '            self.known = True\n            return journal.V\n'),
+    ('record without the product', 'record.py',
+     'dose = tuple(map(int, answer[2:]))', 'dose = tuple(map(int, answer[2:5])) + (0,)'),
     ("the dose's hour from the tick after", 'record.py',
      'return self.tick(answer',
      "text = self.tick(answer.split('\\t'))\n"
@@ -861,19 +986,19 @@ MUTANTS = [
      '            self.whole = self.known = False\n            self.gone += 1\n'),
     ('a line read back written as a dose', 'record.py',
      "elif line[:1] == b'T' and answer[0] != 'R':",
-     "elif line[:1] == b'l' and answer[0] == 'D':\n"
-     "            return journal.write('D', journal.read(\n"
+     "elif line[:1] == b'm' and answer[0] == 'D':\n"
+     "            return journal.write('D', journal.read_new(\n"
      "                bytes.fromhex(line[2:].decode()))[1:], ROOM)\n"
      "        elif line[:1] == b'T' and answer[0] != 'R':"),
     ('count and amount changed about', 'record.py',
      "dose = tuple(map(int, answer[2:]))",
-     "dose = tuple(int(answer[at]) for at in (3, 2, 4))"),
+     "dose = tuple(int(answer[at]) for at in (3, 2, 4, 5))"),
     ('the total for the amount', 'record.py',
      "dose = tuple(map(int, answer[2:]))",
-     "dose = (int(answer[2]), self.replay.box.total % 1000, int(answer[4]))"),
+     "dose = (int(answer[2]), self.replay.box.total % 1000, int(answer[4]), int(answer[5]))"),
     ('settled always', 'record.py',
      "dose = tuple(map(int, answer[2:]))",
-     "dose = (int(answer[2]), int(answer[3]), 1)"),
+     "dose = (int(answer[2]), int(answer[3]), 1, int(answer[5]))"),
     ('R10 on writing given with the last H', 'record.py',
      'self.hour, self.gone, self.whole = self.hour + 1, 0, True',
      "if self.hour == 9999999: text += b'R\\t10\\t0\\n'\n"
@@ -920,9 +1045,9 @@ FIRST = {
     'settings.py': ('settings.',), 'box.py': ('al', 'line.', 'faults.', 'wild.'),
     'frames.py': ('frames.',), 'fields.py': ('fields.',),
     'modbus.py': ('modbus.',), 'why.py': ('why.',), 'slave.py': ('.slave',),
-    'journal.py': ('.journal', 'journal.'), 'hours.py': ('.journal',),
+    'journal.py': ('.journal', 'journal.'), 'hours.py': ('.journal', '.product'),
     'replay.py': ('malformed.',), 'record.py': ('.record',),
-    'week.py': ('.week',),
+    'week.py': ('.week',), 'product.py': ('.product',),
 }
 
 
@@ -966,12 +1091,14 @@ def cases(first):
 def outputs(first=()):
     """Name and output of each case. An hour of the lines of `record` has 100
     ticks too, since no case has 450,000."""
-    from second import hours, journals, record, replay, slave, week
+    from second import hours, journals, product, record, replay, slave, week
     for name, data in cases(first):
         if name.endswith('.journal'):
             yield name, hours.printed(data)
         elif name.endswith('.week'):
             yield name, week.printed(io.BytesIO(data))
+        elif name.endswith('.product'):
+            yield name, product.printed(io.BytesIO(data))
         elif name.endswith('.slave'):
             yield name, slave.in_packets(data)
         elif name.endswith('.record'):

@@ -13,8 +13,8 @@ CASES = os.path.join(ROOT, 'tests', 'cases')
 sys.path.insert(0, ROOT)
 
 from second import (boundary, fields, frames, generate, hours,  # noqa: E402
-                    journal, journals, modbus, record, replay, settings, slave,
-                    week, weigher)
+                    journal, journals, modbus, product, record, replay, settings,
+                    slave, week, weigher)
 from second.box import Box, mean  # noqa: E402
 from second.refusal import Refused  # noqa: E402
 from second.settings import DEFAULT, Settings  # noqa: E402
@@ -63,6 +63,9 @@ def settings_checks():
     same('first', settings.first_bad_row(DEFAULT._replace(D=0, point=4)), 3)
     same('point', settings.first_bad_row(DEFAULT._replace(point=4)), 17)
     same('p8', settings.first_bad_row(DEFAULT._replace(p7=9, p8=8)), 8)
+    same('product', settings.first_bad_row(DEFAULT._replace(product=256)), 18)
+    same('product 255', settings.first_bad_row(DEFAULT._replace(product=255)), 0)
+    same('the default product', DEFAULT.product, 0)
     same('R15', refusal(Box, DEFAULT, 1000000, 0), (15,))
     same('R2, R15', refusal(Box, DEFAULT._replace(C=0), 1000000, 0), (2, 2))
 
@@ -196,7 +199,7 @@ def tick_checks():
               'w C+9\tno alarm', 'w C+10\talarm']
     same('boundary', program('boundary').decode().splitlines(), wanted)
     box = Box(DEFAULT, 999999, 999999999)
-    same('wrap', box.complete(1, 1), (0, 1, 1))
+    same('wrap', box.complete(1, 1), (0, 1, 1, 0))
     same('total', box.counters(), (0, 0))
     same('R1', refusal(box.tick, 0, 16), (1,))
     same('F21', box.tick(900001, 3), ('F', 21, 0))
@@ -221,7 +224,8 @@ def journal_checks():
     same('R10 on writing', refusal(journal.write, 'H', (10000000,), 0), (10, 0))
     same('R8 on writing', refusal(journal.write, 'H', (10,), 4), (8,))
     same('H', journal.write('H', (10,), 5), b'H\t10\n')
-    same('D', journal.write('D', (10, 1, 500, 1), 64), b'D\t10\t1\t500\t1\n')
+    same('D', journal.write('D', (10, 1, 500, 1, 7), 64), b'D\t10\t1\t500\t1\t7\n')
+    same('R10 product', refusal(journal.write, 'D', (10, 1, 500, 1, 256), 0), (10, 0))
     same('third', hours.bits(hours.mean([0, 0, 1])), '3FD5555555555555')
     same('outside', hours.one(example, 9), ('X',))
     hole_checks()
@@ -305,7 +309,78 @@ def week_checks():
         same(name, printed, wanted.replace(' ', '\t') + '\n')
 
 
+# The hours of product 7 and of product 9 in each stored journal of the new form.
+PRODUCTS = {
+    'mill': 'MIXI IIXI', 'two-products': 'MIMI MMII', 'one-product': 'MM II',
+    'another-before-and-after': 'IMI MIM', 'a-dose-of-another-without-an-h': 'MXM IXI',
+    'a-dose-without-an-h': 'IXI MXM', 'no-dose-after-the-last': 'MII IMI',
+    'counts-of-two-follow': 'MIM IMI', 'a-hole-of-another': 'XXM XXI',
+    'a-hole-between-products': 'XXM XXI', 'a-hole-in-one-alone': 'MMI MIM',
+    'a-hole-over-idle-hours': 'XXXXM XXXXI', 'a-1-of-another': 'MIM IMI',
+    'the-wrap': 'MIM IMI', 'v-alone': ' ', 'h-alone': 'I I',
+}
+BAD_JOURNALS = {
+    'five-fields-after-v': 'R 10 2', 'six-fields-without-v': 'R 10 1', 'v-later': 'R 10 2',
+    'v-twice': 'R 10 2', 'v-after-lines': 'R 10 3', 'v-1': 'R 10 1', 'v-3': 'R 10 1',
+    'v-no-lf': 'R 10 1', 'v-cr': 'R 10 1', 'v-empty-line': 'R 10 1', 'product-256': 'R 10 3',
+    'order-after-v': 'R 11 3', 'order-first': 'R 11 3', 'span-after-v': 'R 12 3',
+    'span-from-0': None, 'last-line-no-lf': 'R 10 2',
+}
+
+
+def product_checks():
+    """Document 02, W4, by hand."""
+    same('program', program('product', b'7\nV\t2\nD\t5\t1\t9\t1\t7\nH\t5\n'),
+         b'5\tM\t1\t9\t4022000000000000\n')
+    for name, wanted in PRODUCTS.items():
+        seen = []
+        for one in (7, 9):
+            printed = product.printed(io.BytesIO(case('%s-%d.product' % (name, one))))
+            seen.append(''.join(row.split('\t')[1] for row in printed.decode().splitlines()))
+        same('products of ' + name, ' '.join(seen), wanted)
+    for name, wanted in BAD_JOURNALS.items():
+        data = case('new-%s.journal' % name)
+        seen = hours.printed(data)
+        if wanted is None:
+            same(name, len(seen.splitlines()), 744)
+        else:
+            same(name, seen.decode(), wanted.replace(' ', '\t') + '\n')
+        for other, program_of in (('.product', product), ('.week', week)):
+            told = program_of.printed(io.BytesIO(case(name + other)))
+            same(name + other, told[:1] == b'R' and told or seen, seen)
+    for name in ('256', 'leading-zero', 'cr', 'v-line', 'wraps-8', 'long', 'empty'):
+        same('first ' + name, product.printed(io.BytesIO(case('first-%s.product' % name))),
+             b'R\t2\t0\n')
+    for name, wanted in (('nothing', b'R\t2\t0\n'), ('no-lf', b'R\t2\t0\n'),
+                         ('empty-journal', b''), ('one-byte-over', b'R\t13\t0\n'),
+                         ('first-bad-order-after-v', b'R\t11\t3\n'),
+                         ('first-bad-product-256', b'R\t10\t3\n')):
+        same(name, product.printed(io.BytesIO(case(name + '.product'))), wanted)
+    same('old, product 0', product.printed(io.BytesIO(case('old-0.product'))),
+         hours.printed(case('mill.journal')))
+    same('old, product 1', product.printed(io.BytesIO(case('old-1.product'))),
+         b'10\tI\n11\tI\n12\tX\n13\tI\n')
+
+
+# An example of the lines that the requests add, and their answers.
+EXAMPLE = (
+    ('M 010300040002 8', 'R 17 A5A5A5A5A5A5A5A5'),
+    ('M 01030004000285CA 9', 'P 9 01030400000000FA33'),
+    ('M 0106000A00022809 6', 'P 5 0186030261A5'),
+    ('D 10 2 498 1 7 16', 'P 15 44093130093209343938093109370AA5'),
+    ('D 10 2 498 1 256 4', 'R 10 0 A5A5A5A5'),
+    ('l 5609320A', 'R 10 1'),
+    ('m 5609320A', 'V'),
+    ('m 44093130093209343938093109370A', 'D 10 2 498 1 7'),
+    ('u 5609320A44093130093109353030093109300A44093130093209343938093109370A480931300A 10',
+     'M 408F300000000000 407F400000000000 407F300000000000'),
+    ('Y 1', 'Y phase Ready'), ('T 0 0', 'O 0'), ('Y 1', 'Y nostart'), ('Y 5', 'R 19'),
+)
+
+
 def replay_checks():
+    lines, answers = ('\n'.join(half).replace(' ', '\t') + '\n' for half in zip(*EXAMPLE))
+    same('example', replayed(lines), answers)
     same('not a call', replayed('Q\nZ\nQ\t\n\nT\t01\t0\nT\t-0\t0\nQ'),
          'Q\t0\t0\n?\n?\n?\n?\n?\n')
     same('room 0', replayed('W\t\t0\nW\t01C3\t0\nB\t\t2\n'),
@@ -321,9 +396,10 @@ def replay_checks():
          'R\t9\t2045\nQ\t0\t0\n')
 
 
-# A dose every two ticks once it is calm: AL2 with Wf 0, inputs at level 1.
+# A dose every two ticks once it is calm: AL2 with Wf 0, inputs at level 1. A line
+# of before: without the product.
 QUICK = Settings(2, 10, 1, 1, 1, 1, 4, 4, 1, 0, 0, 1, 1, 1, 1, 0, 0)
-NEW = 'N' + '\t%d' * 19 % (QUICK + (4, 50)) + '\n'
+NEW = 'N' + '\t%d' * 19 % (QUICK[:17] + (4, 50)) + '\n'
 REFUSED = NEW.replace('N\t2', 'N\t4') + NEW.replace('4\t50\n', '1000000\t50\n')
 SET = 'S' + NEW[1:-6] + '\n'
 QUIET, START = 'T\t5\t0\n', 'T\t5\t8\n'
@@ -333,17 +409,21 @@ NO_CALLS = ('x\n', '\n', 'T\t5\t256\n', 'T\t5\n', 'N\n', 'x' * 4096 + '\n')
 
 
 def recorded(text, ticks=4, first=b'7'):
-    """The journal's lines from a first line and the lines after it."""
+    """The journal's lines behind V from a first line and the lines after it."""
     stream = io.BytesIO(first + b'\n' + text.encode())
-    return b''.join(record.written(stream, ticks)).decode().splitlines()
+    v, *lines = b''.join(record.written(stream, ticks)).decode().splitlines()
+    return lines if v == 'V\t2' else [v] + lines
 
 
 def record_checks():
     same('ticks of an hour', record.TICKS, 450000)
     text = '7\n' + NEW + CALM + START + QUIET
-    same('program', program('record', text.encode()), b'D\t7\t5\t0\t1\n')
-    for data in (b'', b'7', b'x', b'7\n', b'7\nT\t0\t0', b'x' * 5000, b'0\n'):
-        same('no tick', program('record', data), b'')
+    same('program', program('record', text.encode()), b'V\t2\nD\t7\t5\t0\t1\t0\n')
+    for data in (b'', b'7', b'x', b'x' * 5000):
+        same('no line', program('record', data), b'')
+    for data in (b'7\n', b'7\nT\t0\t0', b'0\n'):
+        same('no tick', program('record', data), b'V\t2\n')
+    same('refused', program('record', b'x\n7\n'), b'R\t10\t1\n')
     for first in (b'', b'07', b'00', b'-0', b'-1', b'+7', b'10000000', b'7 ', b' 7',
                   b'7\t', b'7\r', b'7\0', b'x', b'7.0', b'T\t0\t0', b'H\t7',
                   b'9' * 4095, b'9' * 4096):
@@ -402,12 +482,14 @@ def dose_checks():
     """The first dose is on tick 67."""
     doses = NEW + CALM + START * 6
     same('doses', recorded(doses, 1000),
-         ['D\t7\t5\t0\t1', 'D\t7\t6\t0\t1', 'D\t7\t7\t0\t1'])
+         ['D\t7\t5\t0\t1\t0', 'D\t7\t6\t0\t1\t0', 'D\t7\t7\t0\t1\t0'])
+    same('a product', recorded(doses.replace('\t4\t50\n', '\t9\t4\t50\n'), 1000)[0],
+         'D\t7\t5\t0\t1\t9')
     same('on the last tick', recorded(doses, 67)[:3],
-         ['D\t7\t5\t0\t1', 'H\t7', 'D\t8\t6\t0\t1'])
-    same('on the first tick', recorded(doses, 66)[:2], ['H\t7', 'D\t8\t5\t0\t1'])
+         ['D\t7\t5\t0\t1\t0', 'H\t7', 'D\t8\t6\t0\t1\t0'])
+    same('on the first tick', recorded(doses, 66)[:2], ['H\t7', 'D\t8\t5\t0\t1\t0'])
     same('without an H', recorded('x\n' + doses, 67)[:2],
-         ['D\t7\t5\t0\t1', 'D\t8\t6\t0\t1'])
+         ['D\t7\t5\t0\t1\t0', 'D\t8\t6\t0\t1\t0'])
 
 
 def last_hour_checks():
@@ -451,7 +533,8 @@ def sample_checks():
         sample = file.read()
     same('sample', sample == b''.join(generate.minutes(12, 3)), True)
     made = program('record', sample)
-    same('its doses', [line[:8] for line in made.splitlines()], [b'D\t491646'] * 6)
+    same('its doses', [line[:8] for line in made.splitlines()],
+         [b'V\t2'] + [b'D\t491646'] * 6)
     same('its hours', hours.printed(made), b'491646\tX\n')
 
 
@@ -490,7 +573,7 @@ def stored_checks():
             same('R%d seen' % number, 'R %d' % number in seen, True)
     for wanted in ('F 14', 'F 21', 'dose 1 0', 'dose 1 1', 'dose 2 0', 'dose 2 1',
                    'dose 3 0', 'dose 3 1', 'O', 'P', 'A', 'Q', 'M', 'I', 'X',
-                   'D', 'H', '?'):
+                   'D', 'H', 'V', '?'):
         same(wanted + ' seen', wanted in seen, True)
     for algorithm, reasons in enumerate(REASONS):
         for reason in reasons.split(','):
@@ -509,6 +592,7 @@ def main():
     tick_checks()
     journal_checks()
     week_checks()
+    product_checks()
     replay_checks()
     record_checks()
     weigher_checks()

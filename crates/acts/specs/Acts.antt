@@ -44,7 +44,7 @@ askOf (calls.readFrame s) = nothing
 askOf (calls.writeField w) = nothing
 askOf (calls.readField f) = nothing
 askOf (calls.writeLine l room) = nothing
-askOf (calls.readLine s) = nothing
+askOf (calls.readLine f s) = nothing
 askOf (calls.hour s h) = nothing
 askOf (calls.hours s room) = nothing
 

@@ -5,7 +5,7 @@ use mathlib.Core.List.{[], _∷_}
 use Rattle.laws.specs.Decimal.{good, bad}
 use Rattle.controller.specs.State.{restarted}
 use Rattle.controller.specs.Calls.{freshOf, linkOf}
-use Rattle.series.specs.Events.{request, eventOf, run}
+use Rattle.series.specs.Events.{request, eventOf, run, modbus}
 use Rattle.calls.specs.Call as calls
 use Rattle.acts.specs.Acts.{event, blank, askOf, askBy, eventsIn, madeBy, aside, counted, saidTo, leftBy, lentTo, lent}
 
@@ -30,6 +30,7 @@ said = (refl, refl, refl)
 pub rooms :
     (lent 3 (askBy (good (calls.request [] 8) [])) ≡ event (request [] (165 ∷ 165 ∷ 165 ∷ [])))
     × (lent 64 (askBy (good (calls.request [] 2) [])) ≡ event (request [] (165 ∷ 165 ∷ [])))
+    × (lent 64 (askBy (good (calls.modbus [] 2) [])) ≡ event (modbus [] (165 ∷ 165 ∷ [])))
     × (leftBy freshOf (askBy (good (calls.writeFrame (1 ∷ []) 8) [])) (7 ∷ 8 ∷ []) ≡ 7 ∷ 8 ∷ [])
 unfolding lent lentTo askBy askOf blank leftBy
-rooms = (refl, refl, refl)
+rooms = (refl, refl, refl, refl)

@@ -10,14 +10,15 @@ use controller::TickAnswer;
 use counters::Record;
 use pieces::Words;
 
-// D, the outputs, count, amount, settled
+// D, the outputs, count, amount, settled, product
 fn dose(outputs: u8, record: Record) -> Words {
-    Words::four(
+    Words::five(
         b'D',
         outputs as u64,
         record.count as u64,
         record.amount as u64,
         record.settled as u64,
+        record.product as u64,
     )
 }
 

@@ -2,6 +2,7 @@
 use hourly::Asked;
 use hourly::Figures;
 use hourly::Hour;
+use hourly::Products;
 use journal::Refusal;
 use pieces::Words;
 use report::Printed;
@@ -33,9 +34,9 @@ fn refused(refusal: Refusal) -> Words {
     Words::two(b'R', named.number, named.line)
 }
 
-// u: one hour of a journal, or the journal's refusal.
+// u: one hour of a journal over all products, or the journal's refusal.
 pub(crate) fn ask(out: &mut [u8], bytes: &[u8], hour: u32) -> usize {
-    match hourly::hour_of(bytes, hour) {
+    match hourly::hour_of(bytes, Products::All, hour) {
         Asked::Hour(found) => {
             let Hour::Measured(f) = found else {
                 return pieces::line(out, Words::none(kind(found)));
@@ -46,9 +47,9 @@ pub(crate) fn ask(out: &mut [u8], bytes: &[u8], hour: u32) -> usize {
     }
 }
 
-// j: the text of a journal's hours made in a buffer.
+// j: the text of a journal's hours over all products made in a buffer.
 pub(crate) fn print(bytes: &[u8], buffer: &mut [u8]) -> Words {
-    match report::print(bytes, buffer) {
+    match report::print(bytes, Products::All, buffer) {
         Printed::Text(len) => Words::one(b'P', len as u64),
         Printed::Refused(refusal) => refused(refusal),
         Printed::R8 => Words::one(b'R', 8),

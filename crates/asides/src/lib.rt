@@ -9,6 +9,7 @@ use field::Weight;
 use field::Written;
 use frame::Found;
 use frame::Wrote as Framed;
+use journal::Form;
 use journal::Line;
 use journal::One;
 use pieces::Words;
@@ -22,9 +23,9 @@ fn write_frame(body: &[u8], buffer: &mut [u8]) -> Words {
     }
 }
 
-// D and H: a line written into a buffer.
+// D and H: a line of the new form written into a buffer.
 fn write_line(line: Line, buffer: &mut [u8]) -> Words {
-    match entry::write(line, buffer) {
+    match entry::write(Form::New, line, buffer) {
         Wrote::Line(len) => Words::one(b'P', len as u64),
         Wrote::R10 => Words::two(b'R', 10, 0),
         Wrote::R8 => Words::one(b'R', 8),
@@ -75,29 +76,46 @@ fn read_field(four: Field) -> Words {
     }
 }
 
-// D hour count amount settled, or H hour.
-fn line(found: Line) -> Words {
-    match found {
-        Line::Dose {
-            hour,
-            count,
-            amount,
-            settled,
-        } => Words::four(
+// D hour count amount settled, and in the new form the product.
+fn dose(form: Form, hour: u32, count: u32, amount: u32, settled: u32, product: u32) -> Words {
+    match form {
+        Form::Old => Words::four(
             b'D',
             hour as u64,
             count as u64,
             amount as u64,
             settled as u64,
         ),
+        Form::New => Words::five(
+            b'D',
+            hour as u64,
+            count as u64,
+            amount as u64,
+            settled as u64,
+            product as u64,
+        ),
+    }
+}
+
+// A dose, or H hour.
+fn line(form: Form, found: Line) -> Words {
+    match found {
+        Line::Dose {
+            hour,
+            count,
+            amount,
+            settled,
+            product,
+        } => dose(form, hour, count, amount, settled, product),
         Line::On { hour } => Words::one(b'H', hour as u64),
     }
 }
 
-// l: the line that bytes are, or R10.
-fn read_line(bytes: &[u8]) -> Words {
-    match journal::read_line(bytes) {
-        One::Line(found) => line(found),
+// l and m: the line of the old or of the new form that bytes are, V for the V line, or R10.
+fn read_line(form: Form, bytes: &[u8]) -> Words {
+    match journal::read_line(form, bytes) {
+        One::Version => Words::none(b'V'),
+        One::Line(found) => line(form, found),
         One::R10 => Words::two(b'R', 10, 1),
     }
 }
@@ -122,7 +140,7 @@ fn written(out: &mut [u8], call: Call, bytes: &[u8], buffer: &mut [u8]) -> usize
 fn read_words(call: Call, bytes: &[u8]) -> Words {
     match call {
         Call::ReadField(four) => read_field(four),
-        Call::ReadLine(_) => read_line(bytes),
+        Call::ReadLine(form, _) => read_line(form, bytes),
         _ => Words::none(b'?'),
     }
 }

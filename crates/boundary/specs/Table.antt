@@ -60,6 +60,7 @@ al1 =
       address = 1;
       serial = 0;
       point = 0;
+      product = 0;
     }
 
 -- ticks with start on, and the outputs of the last of them

@@ -35,6 +35,7 @@ fn al1() -> Settings
         address: 1,
         serial: 0,
         point: 0,
+        product: 0,
     }
 }
 

@@ -17,8 +17,7 @@ use Rattle.laws.specs.Decimal.{Parsed, good, bad, numberAt}
 use Rattle.text.specs.Scan.{TAB, onGood, fieldAt}
 use Rattle.text.specs.ScanLaws.{byte-inside, from-place, expect-hit}
 use Rattle.journal.specs.declared.Line.the-variants.{Dose}
-use Rattle.settings.specs.Cases.{setOf}
-use Rattle.calls.specs.Call.{greatest32, minus, plus, signedAt, signedField, numbersField}
+use Rattle.calls.specs.Call.{greatest32, minus, plus, signedAt, signedField, numbersField, setWith}
 use Rattle.calls.proofs.Steps.{on-good, on-bad, on-on, on-same, on-id, from-byte}
 
 -- ---- signs
@@ -119,9 +118,9 @@ left-none s at n values =
     ap (λ (m : ℕ). onGood (numbersField m (drop at s)) (λ vs rest. good vs rest)) z ∙ on-id (numbersField n (drop at s))
 
 -- the first of the numbers read
-pub dose-of : (vs : List ℕ) → Dose (getD (take 4 vs) 0 0) (getD (take 4 vs) 1 0) (getD (take 4 vs) 2 0) (getD (take 4 vs) 3 0) ≡ Dose (getD vs 0 0) (getD vs 1 0) (getD vs 2 0) (getD vs 3 0)
-dose-of vs = rw (getD-take 4 vs 0 0 (omega arith), getD-take 4 vs 1 0 (omega arith), getD-take 4 vs 2 0 (omega arith), getD-take 4 vs 3 0 (omega arith))
+pub dose-of : (vs : List ℕ) → Dose (getD (take 5 vs) 0 0) (getD (take 5 vs) 1 0) (getD (take 5 vs) 2 0) (getD (take 5 vs) 3 0) (getD (take 5 vs) 4 0) ≡ Dose (getD vs 0 0) (getD vs 1 0) (getD vs 2 0) (getD vs 3 0) (getD vs 4 0)
+dose-of vs = rw (getD-take 5 vs 0 0 (omega arith), getD-take 5 vs 1 0 (omega arith), getD-take 5 vs 2 0 (omega arith), getD-take 5 vs 3 0 (omega arith), getD-take 5 vs 4 0 (omega arith))
 
-pub set-first : (n : ℕ) (vs : List ℕ) → 17 ≤ n → setOf (take n vs) ≡ setOf vs
-unfolding setOf
-set-first n vs h = rw (getD-take n vs 0 0 (omega arith), getD-take n vs 1 0 (omega arith), getD-take n vs 2 0 (omega arith), getD-take n vs 3 0 (omega arith), getD-take n vs 4 0 (omega arith), getD-take n vs 5 0 (omega arith), getD-take n vs 6 0 (omega arith), getD-take n vs 7 0 (omega arith), getD-take n vs 8 0 (omega arith), getD-take n vs 9 0 (omega arith), getD-take n vs 10 0 (omega arith), getD-take n vs 11 0 (omega arith), getD-take n vs 12 0 (omega arith), getD-take n vs 13 0 (omega arith), getD-take n vs 14 0 (omega arith), getD-take n vs 15 0 (omega arith), getD-take n vs 16 0 (omega arith))
+pub set-first : (vs : List ℕ) (product : ℕ) → setWith (take 17 vs) product ≡ setWith vs product
+unfolding setWith
+set-first vs product = rw (getD-take 17 vs 0 0 (omega arith), getD-take 17 vs 1 0 (omega arith), getD-take 17 vs 2 0 (omega arith), getD-take 17 vs 3 0 (omega arith), getD-take 17 vs 4 0 (omega arith), getD-take 17 vs 5 0 (omega arith), getD-take 17 vs 6 0 (omega arith), getD-take 17 vs 7 0 (omega arith), getD-take 17 vs 8 0 (omega arith), getD-take 17 vs 9 0 (omega arith), getD-take 17 vs 10 0 (omega arith), getD-take 17 vs 11 0 (omega arith), getD-take 17 vs 12 0 (omega arith), getD-take 17 vs 13 0 (omega arith), getD-take 17 vs 14 0 (omega arith), getD-take 17 vs 15 0 (omega arith), getD-take 17 vs 16 0 (omega arith))

@@ -8,10 +8,11 @@ use lib.ListN.{length, getD}
 use Rattle.laws.specs.Pick.{pick}
 use Rattle.laws.specs.Decimal.{Parsed, good, bad, numberAt, isDigit}
 use Rattle.settings.specs.declared.Settings.{Settings}
-use Rattle.settings.specs.Cases.{setOf}
 use Rattle.field.specs.declared.Field.{Field}
 use Rattle.field.specs.declared.Weight.{Weight}
 use Rattle.field.specs.Field.{four, weight}
+use Rattle.journal.specs.declared.Form.{Form}
+use Rattle.journal.specs.declared.Form.the-variants.{Old, New}
 use Rattle.journal.specs.declared.Line.{Line}
 use Rattle.journal.specs.declared.Line.the-variants.{Dose, On}
 use Rattle.text.specs.Scan.{TAB, expect, onGood, fieldAt}
@@ -32,7 +33,7 @@ pub data Call : Type 0 where
   writeField : Weight → Call
   readField : Field → Call
   writeLine : Line → ℕ → Call
-  readLine : List ℕ → Call
+  readLine : Form → List ℕ → Call
   hour : List ℕ → ℕ → Call
   hours : List ℕ → ℕ → Call
 
@@ -105,19 +106,51 @@ linkAt l = onGood (flagField l) (λ on rest. good (link on) rest)
 unfoldable pub whyAt : List ℕ → Parsed Call
 whyAt l = onGood (fieldAt 255 l) (λ k rest. good (why k) rest)
 
--- S SET: the 17 settings in the order of document 01's table
-unfoldable pub settingsAt : List ℕ → Parsed Call
-settingsAt l = onGood (numbersField 17 l) (λ vs rest. good (settings (setOf vs)) rest)
+-- the first 17 of some numbers as settings, in the order of document 01's table, and the product code
+unfoldable pub setWith : List ℕ → ℕ → Settings
+setWith vs product =
+    record {
+      algorithm = getD vs 0 0;
+      capacity = getD vs 1 0;
+      dose = getD vs 2 0;
+      pc = getD vs 3 0;
+      pf = getD vs 4 0;
+      level = getD vs 5 0;
+      p7 = getD vs 6 0;
+      p8 = getD vs 7 0;
+      p9 = getD vs 8 0;
+      p11 = getD vs 9 0;
+      o = getD vs 10 0;
+      in1 = getD vs 11 0;
+      in2 = getD vs 12 0;
+      in3 = getD vs 13 0;
+      address = getD vs 14 0;
+      serial = getD vs 15 0;
+      point = getD vs 16 0;
+      product = product;
+    }
 
--- N SET count total, the count behind the 17 settings
+-- S SET: 17 settings and the product; a line that ends before the product has product 0
+unfoldable pub settingsFrom : List ℕ → List ℕ → Parsed Call
+settingsFrom vs [] = good (settings (setWith vs 0)) []
+settingsFrom vs (b ∷ bs) = onGood (fieldAt greatest32 (b ∷ bs)) (λ product rest. good (settings (setWith vs product)) rest)
+
+unfoldable pub settingsAt : List ℕ → Parsed Call
+settingsAt l = onGood (numbersField 17 l) settingsFrom
+
+-- N SET count total; a line of one number less has no product: 17 settings with product 0, count and total
+unfoldable pub restartFrom : List ℕ → List ℕ → Parsed Call
+restartFrom vs [] = good (restart (setWith vs 0) (getD vs 17 0) (getD vs 18 0)) []
+restartFrom vs (b ∷ bs) = onGood (fieldAt greatest32 (b ∷ bs)) (λ total rest. good (restart (setWith vs (getD vs 17 0)) (getD vs 18 0) total) rest)
+
 unfoldable pub restartAt : List ℕ → Parsed Call
-restartAt l = onGood (numbersField 19 l) (λ vs rest. good (restart (setOf vs) (getD vs 17 0) (getD vs 18 0)) rest)
+restartAt l = onGood (numbersField 19 l) restartFrom
 
 -- B, M, W and j: bytes, and the room of a buffer; u: bytes, and an hour
 unfoldable pub roomAt : ℕ → (List ℕ → ℕ → Call) → List ℕ → Parsed Call
 roomAt most call l = onGood (bytesField l) (λ bytes rest. onGood (fieldAt most rest) (λ n rest'. good (call bytes n) rest'))
 
--- X and l: bytes
+-- X, l and m: bytes
 unfoldable pub bytesCall : (List ℕ → Call) → List ℕ → Parsed Call
 bytesCall call l = onGood (bytesField l) (λ bytes rest. good (call bytes) rest)
 
@@ -133,11 +166,11 @@ writeFieldAt l =
 unfoldable pub readFieldAt : List ℕ → Parsed Call
 readFieldAt l = onGood (bytesField l) (λ bytes rest. fieldFrom bytes (λ f. good (readField f) rest))
 
--- D hour count amount settled room
+-- D hour count amount settled product room
 unfoldable pub doseAt : List ℕ → Parsed Call
 doseAt l =
-    onGood (numbersField 4 l) (λ vs rest.
-    onGood (fieldAt 64 rest) (λ room rest'. good (writeLine (Dose (getD vs 0 0) (getD vs 1 0) (getD vs 2 0) (getD vs 3 0)) room) rest'))
+    onGood (numbersField 5 l) (λ vs rest.
+    onGood (fieldAt 64 rest) (λ room rest'. good (writeLine (Dose (getD vs 0 0) (getD vs 1 0) (getD vs 2 0) (getD vs 3 0) (getD vs 4 0)) room) rest'))
 
 -- H hour room
 unfoldable pub onAt : List ℕ → Parsed Call
@@ -177,12 +210,14 @@ callBy letter l =
     -- H
     (pick (eqb letter 72) (onAt l)
     -- l
-    (pick (eqb letter 108) (bytesCall readLine l)
+    (pick (eqb letter 108) (bytesCall (readLine Old) l)
+    -- m
+    (pick (eqb letter 109) (bytesCall (readLine New) l)
     -- u
     (pick (eqb letter 117) (roomAt greatest32 hour l)
     -- j
     (pick (eqb letter 106) (roomAt 2000 hours l)
-    bad)))))))))))))))))
+    bad))))))))))))))))))
 
 -- nothing follows the last field
 unfoldable pub atEnd : Parsed Call → Parsed Call

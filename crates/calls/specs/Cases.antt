@@ -7,15 +7,15 @@ use lib.IntN.{negsuc}
 use Rattle.laws.specs.Pick.{pick}
 use Rattle.laws.specs.Decimal.{good, bad, numberAt, digitsFrom, isDigit}
 use Rattle.settings.specs.declared.Settings.{Settings}
-use Rattle.settings.specs.Cases.{setOf}
 use Rattle.field.specs.Field.{four, weight}
+use Rattle.journal.specs.declared.Form.the-variants.{Old, New}
 use Rattle.journal.specs.declared.Line.the-variants.{Dose}
 use Rattle.text.specs.Scan.{expect, onGood, fieldAt}
-use Rattle.calls.specs.Call.{tick, settings, restart, request, modbus, why, readFrame, writeField, readField, writeLine, hour, minus, plus, signedAt, signedField, isHex, hexValue, bytesAt, bytesField, flagField, numbersField, fieldFrom, tickAt, linkAt, whyAt, settingsAt, restartAt, roomAt, bytesCall, writeFieldAt, readFieldAt, doseAt, onAt, callBy, atEnd, callOf}
+use Rattle.calls.specs.Call.{tick, settings, restart, request, modbus, why, readFrame, writeField, readField, writeLine, readLine, hour, minus, plus, signedAt, signedField, isHex, hexValue, bytesAt, bytesField, flagField, numbersField, fieldFrom, tickAt, linkAt, whyAt, setWith, settingsFrom, settingsAt, restartFrom, restartAt, roomAt, bytesCall, writeFieldAt, readFieldAt, doseAt, onAt, callBy, atEnd, callOf}
 
 -- to unfold this is to unfold every rule of what a line asks
 unfoldable pub readings : Unit {0}
-unfolding callOf atEnd callBy tickAt linkAt whyAt settingsAt restartAt roomAt bytesCall writeFieldAt readFieldAt doseAt onAt fieldFrom setOf numbersField bytesField bytesAt hexValue isHex signedField signedAt plus minus flagField fieldAt expect onGood numberAt digitsFrom isDigit pick
+unfolding callOf atEnd callBy tickAt linkAt whyAt settingsAt settingsFrom restartAt restartFrom setWith roomAt bytesCall writeFieldAt readFieldAt doseAt onAt fieldFrom numbersField bytesField bytesAt hexValue isHex signedField signedAt plus minus flagField fieldAt expect onGood numberAt digitsFrom isDigit pick
 readings = tt
 
 -- a sample of -2,147,483,648..2,147,483,647 and inputs of 0..255; no leading zero, no -0, nothing behind the inputs
@@ -36,18 +36,32 @@ abbrev sixteen : List ℕ
 sixteen = 9 ∷ 49 ∷ 9 ∷ 50 ∷ 9 ∷ 51 ∷ 9 ∷ 52 ∷ 9 ∷ 53 ∷ 9 ∷ 54 ∷ 9 ∷ 55 ∷ 9 ∷ 56 ∷ 9 ∷ 57 ∷ 9 ∷ 49 ∷ 48 ∷ 9 ∷ 49 ∷ 49 ∷ 9 ∷ 49 ∷ 50 ∷ 9 ∷ 49 ∷ 51 ∷ 9 ∷ 49 ∷ 52 ∷ 9 ∷ 49 ∷ 53 ∷ 9 ∷ 49 ∷ 54 ∷ []
 
 -- each setting by its name
-abbrev inOrder : Settings
-inOrder = record { algorithm = 1; capacity = 2; dose = 3; pc = 4; pf = 5; level = 6; p7 = 7; p8 = 8; p9 = 9; p11 = 10; o = 11; in1 = 12; in2 = 13; in3 = 14; address = 15; serial = 16; point = 4294967295 }
+abbrev inOrder : ℕ → Settings
+inOrder product = record { algorithm = 1; capacity = 2; dose = 3; pc = 4; pf = 5; level = 6; p7 = 7; p8 = 8; p9 = 9; p11 = 10; o = 11; in1 = 12; in2 = 13; in3 = 14; address = 15; serial = 16; point = 4294967295; product = product }
 
--- the 17 settings in the order of the table; the stored count stands before the total
+-- the largest number as the seventeenth
+abbrev seventeen : List ℕ
+seventeen = sixteen ++ 9 ∷ 52 ∷ 50 ∷ 57 ∷ 52 ∷ 57 ∷ 54 ∷ 55 ∷ 50 ∷ 57 ∷ 53 ∷ []
+
+-- the 18 settings in the order of the table, and 17 with product 0; not 16, nor a tab alone behind them, nor 19
 pub sets :
-    (callOf (83 ∷ sixteen ++ 9 ∷ 52 ∷ 50 ∷ 57 ∷ 52 ∷ 57 ∷ 54 ∷ 55 ∷ 50 ∷ 57 ∷ 53 ∷ []) ≡ good (settings inOrder) [])
+    (callOf (83 ∷ seventeen ++ 9 ∷ 55 ∷ []) ≡ good (settings (inOrder 7)) [])
+    × (callOf (83 ∷ seventeen) ≡ good (settings (inOrder 0)) [])
+    × (callOf (83 ∷ seventeen ++ 9 ∷ []) ≡ bad)
+    × (callOf (83 ∷ seventeen ++ 9 ∷ 55 ∷ 9 ∷ 55 ∷ []) ≡ bad)
     × (callOf (83 ∷ sixteen) ≡ bad)
     × (callOf (83 ∷ sixteen ++ 9 ∷ 52 ∷ 50 ∷ 57 ∷ 52 ∷ 57 ∷ 54 ∷ 55 ∷ 50 ∷ 57 ∷ 54 ∷ []) ≡ bad)
-    × (callOf (78 ∷ sixteen ++ 9 ∷ 52 ∷ 50 ∷ 57 ∷ 52 ∷ 57 ∷ 54 ∷ 55 ∷ 50 ∷ 57 ∷ 53 ∷ 9 ∷ 56 ∷ 9 ∷ 57 ∷ []) ≡ good (restart inOrder 8 9) [])
-    × (callOf (78 ∷ sixteen ++ 9 ∷ 52 ∷ 50 ∷ 57 ∷ 52 ∷ 57 ∷ 54 ∷ 55 ∷ 50 ∷ 57 ∷ 53 ∷ 9 ∷ 56 ∷ []) ≡ bad)
 unfolding readings
-sets = (refl, refl, refl, refl, refl)
+sets = (refl, refl, refl, refl, refl, refl)
+
+-- the stored count stands before the total, both behind the product; without the product it is 0
+pub restarts :
+    (callOf (78 ∷ seventeen ++ 9 ∷ 55 ∷ 9 ∷ 56 ∷ 9 ∷ 57 ∷ []) ≡ good (restart (inOrder 7) 8 9) [])
+    × (callOf (78 ∷ seventeen ++ 9 ∷ 56 ∷ 9 ∷ 57 ∷ []) ≡ good (restart (inOrder 0) 8 9) [])
+    × (callOf (78 ∷ seventeen ++ 9 ∷ 56 ∷ []) ≡ bad)
+    × (callOf (78 ∷ seventeen ++ 9 ∷ 55 ∷ 9 ∷ 56 ∷ 9 ∷ 57 ∷ 9 ∷ 48 ∷ []) ≡ bad)
+unfolding readings
+restarts = (refl, refl, refl, refl)
 
 -- two digits a byte, in upper case; an empty field is no bytes
 pub hex :
@@ -71,7 +85,10 @@ pub fields :
     × (callOf (71 ∷ 9 ∷ 45 ∷ 53 ∷ 9 ∷ 49 ∷ 9 ∷ 48 ∷ 9 ∷ 50 ∷ 53 ∷ 53 ∷ []) ≡ good (writeField (weight (negsuc 4) true false 255)) [])
     × (callOf (75 ∷ 9 ∷ 48 ∷ 49 ∷ 48 ∷ 50 ∷ 48 ∷ 51 ∷ 48 ∷ 52 ∷ []) ≡ good (readField (four 1 2 3 4)) [])
     × (callOf (75 ∷ 9 ∷ 48 ∷ 49 ∷ 48 ∷ 50 ∷ 48 ∷ 51 ∷ []) ≡ bad)
-    × (callOf (68 ∷ 9 ∷ 49 ∷ 9 ∷ 50 ∷ 9 ∷ 51 ∷ 9 ∷ 52 ∷ 9 ∷ 54 ∷ 52 ∷ []) ≡ good (writeLine (Dose 1 2 3 4) 64) [])
+    × (callOf (68 ∷ 9 ∷ 49 ∷ 9 ∷ 50 ∷ 9 ∷ 51 ∷ 9 ∷ 52 ∷ 9 ∷ 53 ∷ 9 ∷ 54 ∷ 52 ∷ []) ≡ good (writeLine (Dose 1 2 3 4 5) 64) [])
+    × (callOf (68 ∷ 9 ∷ 49 ∷ 9 ∷ 50 ∷ 9 ∷ 51 ∷ 9 ∷ 52 ∷ 9 ∷ 54 ∷ 52 ∷ []) ≡ bad)
+    × (callOf (108 ∷ 9 ∷ 48 ∷ 65 ∷ []) ≡ good (readLine Old (10 ∷ [])) [])
+    × (callOf (109 ∷ 9 ∷ 48 ∷ 65 ∷ []) ≡ good (readLine New (10 ∷ [])) [])
     × (callOf (117 ∷ 9 ∷ 9 ∷ 55 ∷ []) ≡ good (hour [] 7) [])
 unfolding readings
-fields = (refl, refl, refl, refl, refl, refl, refl, refl, refl, refl, refl, refl)
+fields = (refl, refl, refl, refl, refl, refl, refl, refl, refl, refl, refl, refl, refl, refl, refl)

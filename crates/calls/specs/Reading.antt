@@ -8,6 +8,7 @@ use lib.IntN.{ℤ}
 use lib.ListN.{length, take, drop}
 use Rattle.laws.specs.Pick.{pick}
 use Rattle.laws.specs.Decimal.{Parsed, good, bad}
+use Rattle.journal.specs.declared.Form.the-variants.{Old, New}
 use Rattle.calls.specs.Call.{Call, request, modbus, writeFrame, readFrame, readLine, hour, hours, greatest32, isHex, hexValue, atEnd}
 use Rattle.calls.specs.Reads.{asCall, sizeOf, Within}
 use Rattle.calls.specs.declared.Call as declared
@@ -44,7 +45,7 @@ carried s = leadingBytes (drop 2 s)
 
 -- the call of a letter that takes bytes alone
 unfoldable pub aloneCall : ℕ → List ℕ → Call
-aloneCall letter bytes = pick (eqb letter 88) (readFrame bytes) (readLine bytes)
+aloneCall letter bytes = pick (eqb letter 88) (readFrame bytes) (pick (eqb letter 108) (readLine Old bytes) (readLine New bytes))
 
 -- the call of a letter that takes bytes and a number, and the greatest number that it takes
 unfoldable pub roomCall : ℕ → List ℕ → ℕ → Call

@@ -34,7 +34,7 @@ asCall bytes (C.ReadFrame n) = good (readFrame (take n bytes)) []
 asCall bytes (C.WriteField w) = good (writeField w) []
 asCall bytes (C.ReadField f) = good (readField f) []
 asCall bytes (C.WriteLine l room) = good (writeLine l room) []
-asCall bytes (C.ReadLine n) = good (readLine (take n bytes)) []
+asCall bytes (C.ReadLine f n) = good (readLine f (take n bytes)) []
 asCall bytes (C.Hour n h) = good (hour (take n bytes) h) []
 asCall bytes (C.Hours n room) = good (hours (take n bytes) room) []
 asCall bytes C.Unknown = bad
@@ -55,7 +55,7 @@ bytesIn (good (readFrame s) rest) = s
 bytesIn (good (writeField w) rest) = []
 bytesIn (good (readField f) rest) = []
 bytesIn (good (writeLine l room) rest) = []
-bytesIn (good (readLine s) rest) = s
+bytesIn (good (readLine f s) rest) = s
 bytesIn (good (hour s h) rest) = s
 bytesIn (good (hours s room) rest) = s
 bytesIn bad = []
@@ -76,7 +76,7 @@ sizeOf (C.ReadFrame n) = n
 sizeOf (C.WriteField w) = 0
 sizeOf (C.ReadField f) = 0
 sizeOf (C.WriteLine l room) = 0
-sizeOf (C.ReadLine n) = n
+sizeOf (C.ReadLine f n) = n
 sizeOf (C.Hour n h) = n
 sizeOf (C.Hours n room) = n
 sizeOf C.Unknown = 0
@@ -107,7 +107,7 @@ Within (C.ReadFrame n) = n ≤ 2048
 Within (C.WriteField w) = Unit {0}
 Within (C.ReadField f) = Unit {0}
 Within (C.WriteLine l room) = room ≤ 64
-Within (C.ReadLine n) = n ≤ 2048
+Within (C.ReadLine f n) = n ≤ 2048
 Within (C.Hour n h) = n ≤ 2048
 Within (C.Hours n room) = (n ≤ 2048) × (room ≤ 2000)
 Within C.Unknown = Unit {0}
@@ -136,7 +136,7 @@ answered (good (readFrame s) rest) = C.ReadFrame (length s)
 answered (good (writeField w) rest) = C.WriteField w
 answered (good (readField f) rest) = C.ReadField f
 answered (good (writeLine l room) rest) = C.WriteLine l room
-answered (good (readLine s) rest) = C.ReadLine (length s)
+answered (good (readLine f s) rest) = C.ReadLine f (length s)
 answered (good (hour s h) rest) = C.Hour (length s) h
 answered (good (hours s room) rest) = C.Hours (length s) room
 answered bad = C.Unknown
@@ -165,7 +165,7 @@ known (C.ReadFrame n) = record { bytes = λ b. refl; same = λ a b e. ap (λ (s 
 known (C.WriteField w) = record { bytes = λ b. refl; same = λ a b e. refl; few = λ w. omega arith; none = λ b e. refl; back = λ b i. refl }
 known (C.ReadField f) = record { bytes = λ b. refl; same = λ a b e. refl; few = λ w. omega arith; none = λ b e. refl; back = λ b i. refl }
 known (C.WriteLine l room) = record { bytes = λ b. refl; same = λ a b e. refl; few = λ w. omega arith; none = λ b e. refl; back = λ b i. refl }
-known (C.ReadLine n) = record { bytes = λ b. refl; same = λ a b e. ap (λ (s : List ℕ). good (readLine s) []) e; few = λ w. w; none = λ b e. bad-good (sym e); back = λ b i. ap (λ (m : ℕ). C.ReadLine m) (length-take-le n b i) }
+known (C.ReadLine f n) = record { bytes = λ b. refl; same = λ a b e. ap (λ (s : List ℕ). good (readLine f s) []) e; few = λ w. w; none = λ b e. bad-good (sym e); back = λ b i. ap (λ (m : ℕ). C.ReadLine f m) (length-take-le n b i) }
 known (C.Hour n h) = record { bytes = λ b. refl; same = λ a b e. ap (λ (s : List ℕ). good (hour s h) []) e; few = λ w. w; none = λ b e. bad-good (sym e); back = λ b i. ap (λ (m : ℕ). C.Hour m h) (length-take-le n b i) }
 known (C.Hours n room) = record { bytes = λ b. refl; same = λ a b e. ap (λ (s : List ℕ). good (hours s room) []) e; few = λ w. w .0; none = λ b e. bad-good (sym e); back = λ b i. ap (λ (m : ℕ). C.Hours m room) (length-take-le n b i) }
 known C.Unknown = record { bytes = λ b. refl; same = λ a b e. refl; few = λ w. omega arith; none = λ b e. refl; back = λ b i. refl }

@@ -5,6 +5,7 @@ use crate::Signed;
 use crate::fields;
 use field::Field;
 use field::Weight;
+use journal::Form;
 use journal::Line;
 use text::Num;
 ghost use mathlib.Core.Path.{_≡_};
@@ -59,7 +60,7 @@ pub(crate) fn why(line: &[u8]) -> Call
     ended(line, end, Call::Why(output as u8))
 }
 
-// S SET
+// S SET; without a product it is 0.
 pub(crate) fn set(line: &[u8]) -> Call
     ensures { λ r. ⌜ Asks (now (line .entry)) (settingsAt (drop 1 (now (line .entry)))) r ⌝ }
 {
@@ -68,10 +69,16 @@ pub(crate) fn set(line: &[u8]) -> Call
         return Call::Unknown;
     }
     let v = numbers.values;
-    ended(line, numbers.next, Call::Settings(fields::set_of(v)))
+    if line.len() <= numbers.next {
+        return Call::Settings(fields::set_of(v, 0));
+    }
+    let Num::Good(product, end) = text::field_at(line, numbers.next, GREATEST) else {
+        return Call::Unknown;
+    };
+    ended(line, end, Call::Settings(fields::set_of(v, product)))
 }
 
-// N SET count total
+// N SET count total; without a product it is 0.
 pub(crate) fn restart(line: &[u8]) -> Call
     ensures { λ r. ⌜ Asks (now (line .entry)) (restartAt (drop 1 (now (line .entry)))) r ⌝ }
 {
@@ -80,10 +87,16 @@ pub(crate) fn restart(line: &[u8]) -> Call
         return Call::Unknown;
     }
     let v = numbers.values;
+    if line.len() <= numbers.next {
+        return Call::Restart(fields::set_of(v, 0), v[17], v[18]);
+    }
+    let Num::Good(total, end) = text::field_at(line, numbers.next, GREATEST) else {
+        return Call::Unknown;
+    };
     ended(
         line,
-        numbers.next,
-        Call::Restart(fields::set_of(v), v[17], v[18]),
+        end,
+        Call::Restart(fields::set_of(v, v[17]), v[18], total),
     )
 }
 
@@ -117,7 +130,7 @@ pub(crate) fn room(line: &[u8], letter: u8, most: u32) -> Call
     ended(line, end, room_call(letter, n, number))
 }
 
-// X and l: bytes alone.
+// X, l and m: bytes alone.
 pub(crate) fn alone(line: &[u8], letter: u8) -> Call
     requires { ⌜ length (now line) ≤ 4095 ⌝ }
     ensures { λ r. ⌜ Asks (now (line .entry)) (bytesCall (aloneCall letter) (drop 1 (now (line .entry)))) r ⌝ }
@@ -129,7 +142,10 @@ pub(crate) fn alone(line: &[u8], letter: u8) -> Call
     if letter == b'X' {
         return ended(line, 2 + 2 * n, Call::ReadFrame(n));
     }
-    ended(line, 2 + 2 * n, Call::ReadLine(n))
+    if letter == b'l' {
+        return ended(line, 2 + 2 * n, Call::ReadLine(Form::Old, n));
+    }
+    ended(line, 2 + 2 * n, Call::ReadLine(Form::New, n))
 }
 
 // G weight stable over point
@@ -177,11 +193,11 @@ pub(crate) fn four(line: &[u8]) -> Call
     ended(line, 10, Call::ReadField(field))
 }
 
-// D hour count amount settled room
+// D hour count amount settled product room
 pub(crate) fn dose(line: &[u8]) -> Call
     ensures { λ r. ⌜ Asks (now (line .entry)) (doseAt (drop 1 (now (line .entry)))) r ⌝ }
 {
-    let numbers = fields::numbers_at(line, 1, 4);
+    let numbers = fields::numbers_at(line, 1, 5);
     if !numbers.good {
         return Call::Unknown;
     }
@@ -194,6 +210,7 @@ pub(crate) fn dose(line: &[u8]) -> Call
         count: v[1],
         amount: v[2],
         settled: v[3],
+        product: v[4],
     };
     ended(line, end, Call::WriteLine(dose, room as usize))
 }

@@ -9,8 +9,7 @@ ghost use mathlib.Core.Bool.{true};
 ghost use Prim.Native.Nat.{_≤_, _<_};
 ghost use lib.ListN.{length, take, drop, getD};
 ghost use lib.Seq.{sets};
-ghost use Rattle.settings.specs.Cases.{setOf};
-ghost use Rattle.calls.specs.Call.{signedField, isHex, hexValue, numbersField};
+ghost use Rattle.calls.specs.Call.{signedField, isHex, hexValue, numbersField, setWith};
 ghost use Rattle.calls.specs.Reading.{ScansSigned, Counts, carried};
 
 const TAB: u8 = 9;
@@ -128,9 +127,9 @@ pub(crate) fn numbers_at(s: &[u8], at: usize, n: usize) -> Numbers
     }
 }
 
-// The set of the first 17 values, in the table's order.
-pub(crate) fn set_of(v: [u32; 19]) -> Settings
-    ensures { λ r. ⌜ r ≡ setOf v ⌝ }
+// The set of the first 17 values, in the table's order, and a product code.
+pub(crate) fn set_of(v: [u32; 19], product: u32) -> Settings
+    ensures { λ r. ⌜ r ≡ setWith v product ⌝ }
 {
     Settings {
         algorithm: v[0],
@@ -150,5 +149,6 @@ pub(crate) fn set_of(v: [u32; 19]) -> Settings
         address: v[14],
         serial: v[15],
         point: v[16],
+        product,
     }
 }

@@ -4,6 +4,7 @@ mod fields;
 
 use field::Field;
 use field::Weight;
+use journal::Form;
 use journal::Line;
 use settings::Settings;
 ghost use mathlib.Core.Path.{_≡_};
@@ -49,10 +50,10 @@ pub enum Call {
     ReadFrame(usize),
     WriteField(Weight),
     ReadField(Field),
-    // The writer of a journal's line, and the room of its buffer.
+    // The writer of a journal's line of the new form, and the room of its buffer.
     WriteLine(Line, usize),
-    // The reader of one line of so many bytes.
-    ReadLine(usize),
+    // The reader of one line of a form, of so many bytes.
+    ReadLine(Form, usize),
     // One hour of a journal of so many bytes.
     Hour(usize, u32),
     // The hour program's text of a journal of so many bytes, and the room of its buffer.
@@ -93,6 +94,7 @@ fn call_of(line: &[u8]) -> Call
         b'D' => asks::dose(line),
         b'H' => asks::on(line),
         b'l' => asks::alone(line, letter),
+        b'm' => asks::alone(line, letter),
         b'u' => asks::room(line, letter, GREATEST),
         b'j' => asks::room(line, letter, 2000),
         _ => Call::Unknown,
@@ -108,7 +110,7 @@ pub fn size_of(call: Call) -> usize
         Call::Modbus(n, _) => n,
         Call::WriteFrame(n, _) => n,
         Call::ReadFrame(n) => n,
-        Call::ReadLine(n) => n,
+        Call::ReadLine(_, n) => n,
         Call::Hour(n, _) => n,
         Call::Hours(n, _) => n,
         _ => 0,

@@ -10,17 +10,18 @@ use denote.Enum.Declared.{tagOf}
 use lib.Dec.{eqb}
 use lib.ListN.{length, length-append}
 use lib.Seq.{sets}
-use borrow.Author.Tests.{le-ltb, lt-ltb, eq-eqb, ne-eqb}
+use borrow.Author.Tests.{le-leb, le-ltb, lt-ltb, eq-eqb, ne-eqb}
 use borrow.Rule.Slice.PartMut.{midOf, putMid}
 use Rattle.laws.specs.Pick.{pick, pick-t, pick-f}
-use Rattle.laws.specs.Over.{sets-append}
+use Rattle.laws.specs.Over.{sets-append, sets-over}
 use Rattle.laws.specs.Decimal.{numberAt, decimal, digitsOf, glyph}
 use Rattle.laws.specs.DecimalLaws.{decimal-small}
-use Rattle.paper.specs.Answer.{Answer, done, refused, told, leaves, Fills}
+use Rattle.paper.specs.Answer.{Answer, done, refused, told, inRoom, leaves, Fills}
 use Rattle.paper.specs.AnswerLaws.{refused-done}
-use Rattle.journal.specs.Line.{textOf, inRange, writeOf}
+use Rattle.journal.specs.Line.{versionText, textOf, inRange, writeOf, writeVersionOf}
 use Rattle.journal.specs.LineLaws.{text-most, write-fits}
-use Rattle.journal.specs.Journal.{journalText}
+use Rattle.journal.specs.Journal.{linesText}
+use Rattle.journal.specs.declared.Form.the-variants.{New}
 use Rattle.journal.specs.declared.Line.{Line}
 use Rattle.journal.specs.declared.Line.the-variants.{On}
 use Rattle.entry.specs.Says.{saysWrote}
@@ -38,20 +39,20 @@ use Rattle.clock.proofs.Heard.{the-type as heard-type}
 
 -- ---- a line in the part of a buffer from a place on
 
-module _ (old sub : List ℕ) (at : ℕ) (l : Line) (w : Wrote) (range : inRange l ≡ true) (room : at + 27 ≤ length old)
-    (f : Fills (saysWrote w) (writeOf l (length (midOf at (length old - at) old))) (midOf at (length old - at) old) sub) where
-  fits : writeOf l (length (midOf at (length old - at) old)) ≡ done (textOf l)
-  fits = write-fits l _ range (omega (arith, text-most l range, part-length old at))
+module _ (old sub : List ℕ) (at : ℕ) (l : Line) (w : Wrote) (range : inRange New l ≡ true) (room : at + 31 ≤ length old)
+    (f : Fills (saysWrote w) (writeOf New l (length (midOf at (length old - at) old))) (midOf at (length old - at) old) sub) where
+  fits : writeOf New l (length (midOf at (length old - at) old)) ≡ done (textOf New l)
+  fits = write-fits New l _ range (omega (arith, text-most New l range, part-length old at))
 
   -- a line in range is written
-  pub wrote-line : (n : ℕ) → w ≡ W.Line n → Prints 27 old at (textOf l) (putMid at (length old - at) old sub) (at + n)
+  pub wrote-line : (n : ℕ) → w ≡ W.Line n → Prints 31 old at (textOf New l) (putMid at (length old - at) old sub) (at + n)
   unfolding told leaves
   wrote-line n e =
-      let says : done n ≡ done (length (textOf l)) = sym (ap saysWrote e) ∙ f .says ∙ ap (told length) fits in
-      let same : n ≡ length (textOf l) = cc in
-      let most = text-most l range in
+      let says : done n ≡ done (length (textOf New l)) = sym (ap saysWrote e) ∙ f .says ∙ ap (told length) fits in
+      let same : n ≡ length (textOf New l) = cc in
+      let most = text-most New l range in
       record {
-        left = put-part old at (textOf l) sub (omega arith) (omega arith) (f .left ∙ ap (λ (a : Answer (List ℕ)). leaves a (midOf at (length old - at) old)) fits);
+        left = put-part old at (textOf New l) sub (omega arith) (omega arith) (f .left ∙ ap (λ (a : Answer (List ℕ)). leaves a (midOf at (length old - at) old)) fits);
         next = ap (λ (k : ℕ). at + k) same;
         short = most;
       }
@@ -60,6 +61,35 @@ module _ (old sub : List ℕ) (at : ℕ) (l : Line) (w : Wrote) (range : inRange
   pub wrote-always : {X : Type 0} (m : ℕ) (vs : List ℕ) → saysWrote w ≡ refused m vs → X
   unfolding told
   wrote-always m vs e = refused-done (sym e ∙ f .says ∙ ap (told length) fits)
+
+-- ---- the V line
+
+version-fits : (room : ℕ) → 64 ≤ room → writeVersionOf room ≡ done versionText
+unfolding writeVersionOf inRoom versionText
+version-fits room h = pick-t _ _ _ (le-leb 4 room (omega arith))
+
+module _ (old new : List ℕ) (w : Wrote) (room : 64 ≤ length old) (f : Fills (saysWrote w) (writeVersionOf (length old)) old new) where
+  -- it is written
+  pub wrote-version : (n : ℕ) → w ≡ W.Line n → Prints 4 old 0 versionText new n
+  unfolding told leaves versionText
+  wrote-version n e =
+      let fits = version-fits (length old) room in
+      let says : done n ≡ done 4 = sym (ap saysWrote e) ∙ f .says ∙ ap (told length) fits in
+      let same : n ≡ 4 = cc in
+      record {
+        left = f .left ∙ ap (λ (a : Answer (List ℕ)). leaves a old) fits ∙ sym (sets-over old (86 ∷ 9 ∷ 50 ∷ 10 ∷ []) (omega arith));
+        next = same;
+        short = omega arith;
+      }
+
+  -- and never refused
+  pub version-always : {X : Type 0} (m : ℕ) (vs : List ℕ) → saysWrote w ≡ refused m vs → X
+  unfolding told
+  version-always m vs e = refused-done (sym e ∙ f .says ∙ ap (told length) (version-fits (length old) room))
+
+-- the journal begins with it
+pub version-writes : {old new : List ℕ} {n : ℕ} {m : Note} {next : Clock} → 64 ≤ length old → note next versionText ≡ m → Prints 4 old 0 versionText new n → Writes m old new (record { next = next; len = n })
+version-writes room e p = let o = prints-over (omega arith) p in writes-as (sym e) (record { next = refl; left = o .0; len = o .1 })
 
 -- ---- a refusal
 
@@ -94,7 +124,7 @@ adds-none at old e =
       prints = record { left = ap (λ (m : Note). sets old at (m .text)) (sym e); next = sym (ap (λ (m : Note). at + length (m .text)) e ∙ add-zero at); short = omega (arith, ap (λ (m : Note). length (m .text)) e) };
     }
 
-pub adds-text : {next : Clock} {n : Note} {at r : ℕ} {old text new : List ℕ} → n ≡ note next text → Prints 27 old at text new r → Adds at n old new (record { next = next; len = r })
+pub adds-text : {next : Clock} {n : Note} {at r : ℕ} {old text new : List ℕ} → n ≡ note next text → Prints 31 old at text new r → Adds at n old new (record { next = next; len = r })
 adds-text {next} {n} {at} {r} {old} {text} {new} e p =
     record {
       next = sym (ap (λ (m : Note). m .next) e);
@@ -102,30 +132,30 @@ adds-text {next} {n} {at} {r} {old} {text} {new} e p =
     }
 
 pub more-same : (k : Clock) → (k .ticks + 1 ≡ ticksAnHour → ⊥) → oneMore k [] ≡ note (withTicks (k .ticks + 1) k) []
-unfolding oneMore journalText
+unfolding oneMore linesText
 more-same k h = pick-f _ _ _ (ne-eqb (k .ticks + 1) ticksAnHour h)
 
-more-next : (k : Clock) → k .ticks + 1 ≡ ticksAnHour → oneMore k [] ≡ note (nextHour k) (journalText (closing k))
+more-next : (k : Clock) → k .ticks + 1 ≡ ticksAnHour → oneMore k [] ≡ note (nextHour k) (linesText New (closing k))
 unfolding oneMore
 more-next k h = pick-t _ _ _ (eq-eqb (k .ticks + 1) ticksAnHour h)
 
 pub more-broken : (k : Clock) → k .ticks + 1 ≡ ticksAnHour → (k .whole && k .known) ≡ false → oneMore k [] ≡ note (nextHour k) []
-unfolding closing journalText
-more-broken k h e = more-next k h ∙ ap (λ (ls : List Line). note (nextHour k) (journalText ls)) (pick-f _ _ _ e)
+unfolding closing linesText
+more-broken k h e = more-next k h ∙ ap (λ (ls : List Line). note (nextHour k) (linesText New ls)) (pick-f _ _ _ e)
 
-pub more-closed : (k : Clock) → k .ticks + 1 ≡ ticksAnHour → (k .whole && k .known) ≡ true → oneMore k [] ≡ note (nextHour k) (textOf (On (k .hour)))
-unfolding closing journalText
-more-closed k h e = more-next k h ∙ ap (λ (ls : List Line). note (nextHour k) (journalText ls)) (pick-t _ _ _ e) ∙ ap (note (nextHour k)) (append-nil (textOf (On (k .hour))))
+pub more-closed : (k : Clock) → k .ticks + 1 ≡ ticksAnHour → (k .whole && k .known) ≡ true → oneMore k [] ≡ note (nextHour k) (textOf New (On (k .hour)))
+unfolding closing linesText
+more-closed k h e = more-next k h ∙ ap (λ (ls : List Line). note (nextHour k) (linesText New ls)) (pick-t _ _ _ e) ∙ ap (note (nextHour k)) (append-nil (textOf New (On (k .hour))))
 
 -- ---- a counted tick
 
 -- a dose stands before what the tick adds else
-more-dosed : (k : Clock) (d : Line) → oneMore k (d ∷ []) ≡ note (oneMore k [] .next) (textOf d ++ oneMore k [] .text)
-unfolding oneMore journalText pick
+more-dosed : (k : Clock) (d : Line) → oneMore k (d ∷ []) ≡ note (oneMore k [] .next) (textOf New d ++ oneMore k [] .text)
+unfolding oneMore linesText pick
 more-dosed k d = go (eqb (k .ticks + 1) ticksAnHour)
   where
-    go : (b : Bool) → pick b (note (nextHour k) (textOf d ++ journalText (closing k))) (note (withTicks (k .ticks + 1) k) (textOf d ++ []))
-        ≡ note (pick b (note (nextHour k) (journalText (closing k))) (note (withTicks (k .ticks + 1) k) []) .next) (textOf d ++ pick b (note (nextHour k) (journalText (closing k))) (note (withTicks (k .ticks + 1) k) []) .text)
+    go : (b : Bool) → pick b (note (nextHour k) (textOf New d ++ linesText New (closing k))) (note (withTicks (k .ticks + 1) k) (textOf New d ++ []))
+        ≡ note (pick b (note (nextHour k) (linesText New (closing k))) (note (withTicks (k .ticks + 1) k) []) .next) (textOf New d ++ pick b (note (nextHour k) (linesText New (closing k))) (note (withTicks (k .ticks + 1) k) []) .text)
     go true = refl
     go false = refl
 
@@ -143,14 +173,14 @@ ticked-writes k h room a =
     writes-as (counts-more k [] h) (record { next = a .next; left = o .0; len = o .1 })
 
 pub dosed-writes : {old mid new : List ℕ} {q : ℕ} {r : Marked} (k : Clock) (d : Line) → k .hour ≤ greatestHour → 64 ≤ length old
-    → Prints 27 old 0 (textOf d) mid q → Adds q (oneMore k []) mid new r → Writes (counts k (d ∷ [])) old new r
+    → Prints 31 old 0 (textOf New d) mid q → Adds q (oneMore k []) mid new r → Writes (counts k (d ∷ [])) old new r
 dosed-writes {old} {mid} {new} {q} {r} k d h room p a =
     let more = oneMore k [] .text in
-    let both : Prints 54 old 0 (textOf d ++ more) new (r .len) =
+    let both : Prints 62 old 0 (textOf New d ++ more) new (r .len) =
     record {
-      left = a .prints .left ∙ ap (λ (x : List ℕ). sets x q more) (p .left) ∙ ap (λ (n : ℕ). sets (sets old 0 (textOf d)) n more) (p .next) ∙ sym (sets-append old 0 (textOf d) more);
-      next = a .prints .next ∙ ap (λ (n : ℕ). n + length more) (p .next) ∙ add-assoc 0 (length (textOf d)) (length more) ∙ ap (λ (n : ℕ). 0 + n) (sym (length-append (textOf d) more));
-      short = omega (arith, length-append (textOf d) more, p .short, a .prints .short);
+      left = a .prints .left ∙ ap (λ (x : List ℕ). sets x q more) (p .left) ∙ ap (λ (n : ℕ). sets (sets old 0 (textOf New d)) n more) (p .next) ∙ sym (sets-append old 0 (textOf New d) more);
+      next = a .prints .next ∙ ap (λ (n : ℕ). n + length more) (p .next) ∙ add-assoc 0 (length (textOf New d)) (length more) ∙ ap (λ (n : ℕ). 0 + n) (sym (length-append (textOf New d) more));
+      short = omega (arith, length-append (textOf New d) more, p .short, a .prints .short);
     } in
     let o = prints-over (omega arith) both in
     writes-as (counts-more k (d ∷ []) h ∙ more-dosed k d) (record { next = a .next; left = o .0; len = o .1 })

@@ -5,8 +5,8 @@ use mathlib.Core.List.{List, [], _∷_}
 use Prim.Native.Nat.{ℕ}
 use Rattle.laws.specs.Pick.{pick}
 use Rattle.laws.specs.Decimal.{numberAt, digitsFrom, isDigit, decimal, digitsOf, glyph}
-use Rattle.journal.specs.Line.{textOf, fieldsText}
-use Rattle.journal.specs.Journal.{journalText}
+use Rattle.journal.specs.Line.{versionText, textOf, doseFields, fieldsText}
+use Rattle.journal.specs.Journal.{linesText}
 use Rattle.counters.specs.declared.Record.{Record}
 use Rattle.clock.specs.Clock.{greatestHour, Note, note, withStage, withHour, withTicks, withWhole, withKnown, refusalText, refuse, firstOf, doseIn, closing, nextHour, oneMore, counts, restartedBy, lostBy, heardBy, startOf}
 use Rattle.clock.specs.declared.Heard.the-variants.{Ticked, Dosed, Restarted, Lost}
@@ -15,7 +15,7 @@ use Rattle.clock.specs.declared.Clock.{Clock}
 
 -- to unfold this is to unfold every rule of a clock
 unfoldable clocks : Unit {0}
-unfolding startOf firstOf refuse refusalText heardBy counts oneMore nextHour closing doseIn restartedBy lostBy withStage withHour withTicks withWhole withKnown journalText textOf fieldsText decimal digitsOf glyph numberAt digitsFrom isDigit pick
+unfolding startOf firstOf refuse refusalText heardBy counts oneMore nextHour closing doseIn restartedBy lostBy withStage withHour withTicks withWhole withKnown versionText linesText textOf doseFields fieldsText decimal digitsOf glyph numberAt digitsFrom isDigit pick
 clocks = tt
 
 -- recording
@@ -29,10 +29,10 @@ first l = firstOf startOf (numberAt greatestHour l)
 abbrev notFirst : Note
 notFirst = note (record { stage = Over; hour = 0; ticks = 0; whole = true; known = true }) (82 ∷ 9 ∷ 49 ∷ 48 ∷ 9 ∷ 49 ∷ 10 ∷ [])
 
--- the first line: the hour of the first tick, alone on its line; none, a leading zero, something behind it and eight digits are not
+-- the first line: the hour of the first tick, alone on its line, begins the journal with V 2; none, a leading zero, something behind it and eight digits are not
 pub first-lines :
-    (first (48 ∷ []) ≡ note (at 0 0 true true) [])
-    × (first (57 ∷ 57 ∷ 57 ∷ 57 ∷ 57 ∷ 57 ∷ 57 ∷ []) ≡ note (at 9999999 0 true true) [])
+    (first (48 ∷ []) ≡ note (at 0 0 true true) (86 ∷ 9 ∷ 50 ∷ 10 ∷ []))
+    × (first (57 ∷ 57 ∷ 57 ∷ 57 ∷ 57 ∷ 57 ∷ 57 ∷ []) ≡ note (at 9999999 0 true true) (86 ∷ 9 ∷ 50 ∷ 10 ∷ []))
     × (first [] ≡ notFirst)
     × (first (48 ∷ 53 ∷ []) ≡ notFirst)
     × (first (53 ∷ 9 ∷ []) ≡ notFirst)
@@ -40,16 +40,16 @@ pub first-lines :
 unfolding clocks
 first-lines = (refl, refl, refl, refl, refl, refl)
 
--- dose 8 of 480, not settled
+-- dose 8 of 480, not settled, of product 7
 abbrev dose : Record
-dose = record { count = 8; amount = 480; settled = 0 }
+dose = record { count = 8; amount = 480; settled = 0; product = 7 }
 
 -- a dose is written with the hour of its tick; the last tick of an hour writes its H, after its D; then the next hour begins
 pub hours-closed :
-    (heardBy (at 5 1 true true) (Dosed dose) ≡ note (at 5 2 true true) (68 ∷ 9 ∷ 53 ∷ 9 ∷ 56 ∷ 9 ∷ 52 ∷ 56 ∷ 48 ∷ 9 ∷ 48 ∷ 10 ∷ []))
+    (heardBy (at 5 1 true true) (Dosed dose) ≡ note (at 5 2 true true) (68 ∷ 9 ∷ 53 ∷ 9 ∷ 56 ∷ 9 ∷ 52 ∷ 56 ∷ 48 ∷ 9 ∷ 48 ∷ 9 ∷ 55 ∷ 10 ∷ []))
     × (heardBy (at 5 449998 true true) Ticked ≡ note (at 5 449999 true true) [])
     × (heardBy (at 5 449999 true true) Ticked ≡ note (at 6 0 true true) (72 ∷ 9 ∷ 53 ∷ 10 ∷ []))
-    × (heardBy (at 5 449999 true true) (Dosed dose) ≡ note (at 6 0 true true) (68 ∷ 9 ∷ 53 ∷ 9 ∷ 56 ∷ 9 ∷ 52 ∷ 56 ∷ 48 ∷ 9 ∷ 48 ∷ 10 ∷ 72 ∷ 9 ∷ 53 ∷ 10 ∷ []))
+    × (heardBy (at 5 449999 true true) (Dosed dose) ≡ note (at 6 0 true true) (68 ∷ 9 ∷ 53 ∷ 9 ∷ 56 ∷ 9 ∷ 52 ∷ 56 ∷ 48 ∷ 9 ∷ 48 ∷ 9 ∷ 55 ∷ 10 ∷ 72 ∷ 9 ∷ 53 ∷ 10 ∷ []))
 unfolding clocks
 hours-closed = (refl, refl, refl, refl)
 

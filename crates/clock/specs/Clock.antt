@@ -7,9 +7,11 @@ use Rattle.laws.specs.Pick.{pick}
 use Rattle.laws.specs.Decimal.{Parsed, good, bad, decimal}
 use Rattle.paper.specs.Numbers.{R10}
 use Rattle.text.specs.Scan.{TAB, LF}
+use Rattle.journal.specs.declared.Form.the-variants.{New}
 use Rattle.journal.specs.declared.Line.{Line}
 use Rattle.journal.specs.declared.Line.the-variants.{Dose, On}
-use Rattle.journal.specs.Journal.{journalText}
+use Rattle.journal.specs.Line.{versionText}
+use Rattle.journal.specs.Journal.{linesText}
 use Rattle.counters.specs.declared.Record.{Record}
 use Rattle.clock.specs.declared.Heard.{Heard}
 use Rattle.clock.specs.declared.Heard.the-variants.{Ticked, Dosed, Restarted, Lost, Other}
@@ -62,15 +64,15 @@ refusalText line = 82 ∷ TAB ∷ (decimal R10 ++ TAB ∷ (decimal line ++ LF �
 unfoldable pub refuse : ℕ → Clock → Note
 refuse line k = note (withStage Over k) (refusalText line)
 
--- The first line is the hour of the first tick, alone on its line; any other first line is R10 with line 1
+-- The first line is the hour of the first tick, alone on its line: the journal begins with the V line, whatever follows; any other first line is R10 with line 1
 unfoldable pub firstOf : Clock → Parsed ℕ → Note
-firstOf k (good h []) = note (withStage Recording (withHour h k)) []
+firstOf k (good h []) = note (withStage Recording (withHour h k)) versionText
 firstOf k (good h (b ∷ bs)) = refuse 1 k
 firstOf k bad = refuse 1 k
 
--- A completed dose prints `D`, the tick's hour, count, amount, settled
+-- A completed dose prints `D`, the tick's hour, count, amount, settled, product
 unfoldable pub doseIn : ℕ → Record → Line
-doseIn h d = Dose h (d .count) (d .amount) (d .settled)
+doseIn h d = Dose h (d .count) (d .amount) (d .settled) (d .product)
 
 -- `H` and the hour are printed if nothing of the hour was missed and the box is known
 unfoldable pub closing : Clock → List Line
@@ -83,7 +85,7 @@ nextHour k = withWhole true (withTicks 0 (withHour (k .hour + 1) k))
 -- one tick more: 450,000 counted ticks are an hour, and it ends with its last one
 unfoldable pub oneMore : Clock → List Line → Note
 oneMore k doses =
-    pick (eqb (k .ticks + 1) ticksAnHour) (note (nextHour k) (journalText (doses ++ closing k))) (note (withTicks (k .ticks + 1) k) (journalText doses))
+    pick (eqb (k .ticks + 1) ticksAnHour) (note (nextHour k) (linesText New (doses ++ closing k))) (note (withTicks (k .ticks + 1) k) (linesText New doses))
 
 -- The first counted tick in an hour above 9,999,999 prints the one line `R`, 10, 0
 unfoldable pub counts : Clock → List Line → Note

@@ -10,8 +10,9 @@ use borrow.Author.Tests.{eqb-false, ltb-false, le-leb, lt-leb}
 use Rattle.laws.specs.Pick.{pick-t, pick-f, pick-if}
 use Rattle.laws.specs.Decimal.{Parsed, good, bad, numberAt}
 use Rattle.laws.specs.DecimalLaws.{number-only}
-use Rattle.journal.specs.Line.{inRange, within, mostOfD, mostOfH}
-use Rattle.journal.specs.LineLaws.{dose-range}
+use Rattle.journal.specs.Line.{inRange, productMost}
+use Rattle.journal.specs.LineLaws.{dose-range, dose-inside, hour-inside}
+use Rattle.journal.specs.declared.Form.the-variants.{New}
 use Rattle.journal.specs.declared.Line.{Line}
 use Rattle.journal.specs.declared.Line.the-variants.{On}
 use Rattle.counters.specs.declared.Record.{Record}
@@ -25,14 +26,13 @@ use Rattle.clock.specs.declared.Marked.{Marked}
 
 -- ---- lines in range
 
-pub on-in-range : (h : ℕ) → h ≤ greatestHour → inRange (On h) ≡ true
-unfolding inRange within mostOfH
-on-in-range h m = rw (le-leb h greatestHour m)
+pub on-in-range : (h : ℕ) → h ≤ greatestHour → inRange New (On h) ≡ true
+on-in-range h m = hour-inside New h m
 
-pub dose-in-range : (h : ℕ) (d : Record) → h ≤ greatestHour → Recordable d → inRange (doseIn h d) ≡ true
-unfolding inRange within mostOfD doseIn
+pub dose-in-range : (h : ℕ) (d : Record) → h ≤ greatestHour → Recordable d → inRange New (doseIn h d) ≡ true
+unfolding doseIn productMost
 dose-in-range h d m k =
-    rw (le-leb h greatestHour m, le-leb (d .count) 999999 (k .count), le-leb (d .amount) 1800000 (k .amount), le-leb (d .settled) 1 (k .settled))
+    dose-inside New h (d .count) (d .amount) (d .settled) (d .product) m (k .count) (k .amount) (k .settled) (k .product)
 
 -- a dose that can be written is within the ranges of a D line, and the other way about
 pub writable-fits : (h : Heard) → Writable h → fitsLine h ≡ true
@@ -44,9 +44,9 @@ writable-fits Lost w = refl
 writable-fits Other w = refl
 
 pub fits-writable : (h : Heard) → fitsLine h ≡ true → Writable h
-unfolding fitsLine doseIn
+unfolding fitsLine doseIn productMost
 fits-writable Ticked e = tt
-fits-writable (Dosed d) e = let r = dose-range 0 (d .count) (d .amount) (d .settled) e in record { count = r .1; amount = r .2; settled = r .3 }
+fits-writable (Dosed d) e = let r = dose-range New 0 (d .count) (d .amount) (d .settled) (d .product) e in record { count = r .1; amount = r .2; settled = r .3; product = r .4 }
 fits-writable Restarted e = tt
 fits-writable Lost e = tt
 fits-writable Other e = tt

@@ -12,6 +12,7 @@ use Rattle.laws.specs.Pick.{pick}
 use Rattle.laws.specs.Over.{over, sets-over}
 use Rattle.laws.specs.Decimal.{numberAt}
 use Rattle.paper.specs.Answer.{same}
+use Rattle.journal.specs.declared.Form.the-variants.{New}
 use Rattle.journal.specs.Line.{inRange}
 use Rattle.counters.specs.Laws.{Recordable}
 use Rattle.clock.specs.Clock.{greatestHour, startOf, Note, note, firstOf, doseIn, heardBy, Runs}
@@ -55,7 +56,7 @@ Writable Other = Unit {0}
 -- the next clock is the note's, and its text stands behind `at` bytes
 pub record Adds (at : ℕ) (n : Note) (old new : List ℕ) (r : Marked) : Type 0 where
   pub next : r .next ≡ n .next
-  pub prints : Prints 27 old at (n .text) new (r .len)
+  pub prints : Prints 31 old at (n .text) new (r .len)
 
 -- and at the buffer's start, the rest of which is as it was
 pub record Writes (n : Note) (old new : List ℕ) (r : Marked) : Type 0 where
@@ -80,7 +81,7 @@ roomed room k n = pick (leb 64 room) n (note k [])
 -- the record of a dose is within the ranges of a D line
 unfoldable pub fitsLine : Heard → Bool
 fitsLine Ticked = true
-fitsLine (Dosed d) = inRange (doseIn 0 d)
+fitsLine (Dosed d) = inRange New (doseIn 0 d)
 fitsLine Restarted = true
 fitsLine Lost = true
 fitsLine Other = true

@@ -1,6 +1,7 @@
 // The clock of a recording: the hour and its ticks, and what each line that is heard adds to the journal.
 use counters::Record;
 use entry::Wrote;
+use journal::Form;
 use journal::Line;
 use text::Num;
 ghost use mathlib.Core.Path.{_≡_};
@@ -9,7 +10,8 @@ ghost use mathlib.Core.List.{[], _∷_};
 ghost use Prim.Native.Nat.{_+_, _≤_, _<_};
 ghost use lib.ListN.{length};
 ghost use Rattle.laws.specs.Decimal.{numberAt};
-ghost use Rattle.journal.specs.Line.{textOf, inRange};
+ghost use Rattle.journal.specs.Line.{versionText, textOf, inRange};
+ghost use Rattle.journal.specs.declared.Form.the-variants.{New};
 ghost use Rattle.counters.specs.Laws.{Recordable};
 ghost use Rattle.clock.specs.Clock.{greatestHour, refusalText, refuse, firstOf, doseIn, oneMore, counts, restartedBy, heardBy, Runs};
 ghost use Rattle.clock.specs.Marking.{Starts, Prints, Adds, Writable, fitsLine, Writes, Opens, Marks};
@@ -84,6 +86,18 @@ fn refuse(k: Clock, line: u8, out: &mut [u8]) -> Marked
     }
 }
 
+// The V line, with which the journal begins.
+fn put_version(out: &mut [u8]) -> usize
+    requires { ⌜ 64 ≤ length (now out) ⌝ }
+    ensures { λ r. ⌜ Prints 4 (now (out .entry)) 0 versionText (now (out .exit)) r ⌝ }
+{
+    match entry::write_version(out) {
+        Wrote::Line(len) => len,
+        Wrote::R10 => 0,
+        Wrote::R8 => 0,
+    }
+}
+
 // The first hour alone on a line.
 fn first_hour(k: Clock, line: &[u8], out: &mut [u8]) -> Marked
     requires { ⌜ 64 ≤ length (now out) ⌝ }
@@ -95,22 +109,23 @@ fn first_hour(k: Clock, line: &[u8], out: &mut [u8]) -> Marked
     if end < line.len() {
         return refuse(k, 1, out);
     }
+    let len = put_version(out);
     Marked {
         next: Clock {
             stage: Stage::Recording,
             hour,
             ..k
         },
-        len: 0,
+        len,
     }
 }
 
 // A line of the journal at a place that has room for it.
 fn put_line(out: &mut [u8], at: usize, line: Line) -> usize
-    requires { ⌜ (inRange line ≡ true) × (at + 27 ≤ length (now out)) ⌝ }
-    ensures { λ r. ⌜ Prints 27 (now (out .entry)) at (textOf line) (now (out .exit)) r ⌝ }
+    requires { ⌜ (inRange New line ≡ true) × (at + 31 ≤ length (now out)) ⌝ }
+    ensures { λ r. ⌜ Prints 31 (now (out .entry)) at (textOf New line) (now (out .exit)) r ⌝ }
 {
-    match entry::write(line, &mut out[at..]) {
+    match entry::write(Form::New, line, &mut out[at..]) {
         Wrote::Line(len) => at + len,
         Wrote::R10 => at,
         Wrote::R8 => at,
@@ -119,7 +134,7 @@ fn put_line(out: &mut [u8], at: usize, line: Line) -> usize
 
 // One tick more, behind `at` bytes: the last of an hour of a known box of which nothing was missed writes its H.
 fn one_more(k: Clock, at: usize, out: &mut [u8]) -> Marked
-    requires { ⌜ Runs k × (k .hour ≤ greatestHour) × (at + 27 ≤ length (now out)) ⌝ }
+    requires { ⌜ Runs k × (k .hour ≤ greatestHour) × (at + 31 ≤ length (now out)) ⌝ }
     ensures { λ n. ⌜ Adds at (oneMore k []) (now (out .entry)) (now (out .exit)) n ⌝ }
 {
     if k.ticks + 1 != TICKS {
@@ -164,6 +179,7 @@ fn dose_line(hour: u32, dose: Record) -> Line
         count: dose.count,
         amount: dose.amount,
         settled: dose.settled,
+        product: dose.product,
     }
 }
 
@@ -229,7 +245,10 @@ fn fits(heard: Heard) -> bool
     if dose.amount > journal::AMOUNT_MOST {
         return false;
     }
-    dose.settled <= journal::SETTLED_MOST
+    if dose.settled > journal::SETTLED_MOST {
+        return false;
+    }
+    dose.product <= journal::PRODUCT_MOST
 }
 
 impl Clock {

@@ -53,7 +53,7 @@ pub steps-7-8 : (c : Controller) (start : Bool) {t : Seen} {alarm unstarted : Bo
     → s ≡ calmAfter (c .gates) (m .gates) (c .s)
     → n ≡ countersAfter (c .counters) (m .dose)
     → outputs ≡ outputsOf (m .gates) alarm
-    → saysTick answer ≡ done (record { outputs = outputs; doses = recordsOf n (m .dose) })
+    → saysTick answer ≡ done (record { outputs = outputs; doses = recordsOf (c .set .product) n (m .dose) })
     → Gives (step7 c start) (record { next = withUnstarted unstarted (withCounters n (withAlarm alarm (withS s (withGates (m .gates) (withZ (m .z) (withPhase (m .phase) c)))))); answer = answer })
 unfolding step7 step8 seenOf wOf
 steps-7-8 c start {m = m} et em eu ea es en eo e =

@@ -67,6 +67,7 @@ noSet =
       address = 0;
       serial = 0;
       point = 0;
+      product = 0;
     }
 
 unfoldable pub noController : Controller

@@ -71,6 +71,15 @@ zeroed-by-C0 = refl
 abbrev C0 : List ℕ
 C0 = 0xFF ∷ 0x01 ∷ 0xC0 ∷ 0x58 ∷ 0xFF ∷ 0xFF ∷ []
 
+-- three samples of 40 and a wild one of 900
+abbrev shaken : Controller
+shaken = ticked freshOf (replicate 3 (pos 40, 0) ++ (pos 900, 0) ∷ [])
+
+-- C0 is allowed and zeroes by the mean that leaves the wild sample out
+pub zeroed-shaken : (requestOf shaken C0 6 .answer ≡ reply 5 C0) × (requestOf shaken C0 6 .next .z ≡ units (pos 40))
+unfolding requests
+zeroed-shaken = (refl, refl)
+
 -- AL2 with D 500 and M 800
 abbrev al2 : Controller
 al2 = restarted (setOf (2 ∷ 1000 ∷ 500 ∷ 100 ∷ 20 ∷ 800 ∷ 4 ∷ 8 ∷ 1 ∷ 0 ∷ 0 ∷ 0 ∷ 0 ∷ 0 ∷ 1 ∷ 0 ∷ 0 ∷ [])) 0 0

@@ -15,9 +15,12 @@ use Rattle.modbus.specs.Replies.{wordBytes, registersBody, linkBody, topBit, ex
 use Rattle.scale.specs.Scale.{weightFrom, weightBy}
 use Rattle.controller.specs.Calls.{freshOf, linkOf}
 use Rattle.controller.specs.Modbus.{valuesOf, linkedBy, servedBy, servesTo, modbusOf}
-use Rattle.controller.specs.Cases.{rules}
+use Rattle.controller.specs.Cases.{rules, ticked}
 use Rattle.controller.specs.LineCases.{box}
 use Rattle.controller.specs.declared.Controller.{Controller}
+use lib.IntN.{pos}
+use Rattle.dosing.specs.Rules.{gates}
+use Rattle.controller.specs.State.{withGates, withAlarm}
 
 -- to unfold this is to unfold every rule of a MODBUS frame, and of the calls before it
 unfoldable frames : Unit {0}
@@ -63,3 +66,12 @@ pub turned-down :
     × (after freshOf (asked 1 6 9 1) 4 ≡ (refused R8 [], false))
 unfolding frames
 turned-down = (refl, refl, refl, refl, refl)
+
+-- outputs 1, 3 and 4 are 13; register 10 is the link start and not input 4; a read just fills its buffer, and a byte short of it is R8
+pub edges :
+    (modbusOf (withGates (gates true false true) (withAlarm true freshOf)) (asked 1 3 5 1) 64 .answer ≡ done (sealed (1 ∷ 3 ∷ 2 ∷ 0 ∷ 13 ∷ [])))
+    × (modbusOf (ticked freshOf ((pos 0, 8) ∷ [])) (asked 1 3 10 1) 64 .answer ≡ done (sealed (1 ∷ 3 ∷ 2 ∷ 0 ∷ 0 ∷ [])))
+    × (modbusOf freshOf (asked 1 3 4 2) 9 .answer ≡ done (sealed (1 ∷ 3 ∷ 4 ∷ 0 ∷ 0 ∷ 0 ∷ 0 ∷ [])))
+    × (modbusOf freshOf (asked 1 3 4 2) 8 .answer ≡ refused R8 [])
+unfolding frames
+edges = (refl, refl, refl, refl)

@@ -187,8 +187,8 @@ step-matches set (DoseSettle wH n) m t e b a =
 
 -- ---- a tick
 
-tells-of : (n k : Counters) (d : Dose) (amounts : List ℕ) → k ≡ n → amounts ≡ amountsIn d → Tells n amounts (recordsOf (countersAfter k d) d)
-tells-of n k d amounts e h = rw (e, h) (tells-one n d)
+tells-of : (product : ℕ) (n k : Counters) (d : Dose) (amounts : List ℕ) → k ≡ n → amounts ≡ amountsIn d → Tells n amounts (recordsOf product (countersAfter k d) d)
+tells-of product n k d amounts e h = rw (e, h) (tells-one product n d)
 
 -- F of the tick, worked out from the samples
 abbrev mean : Controller → ℤ → ℤ
@@ -260,7 +260,7 @@ module _ (c : Controller) (x : ℤ) (i : ℕ) (m : Noted) where
       record {
         agrees = rw (← f, g) (h .agrees);
         counters = ap (λ (k : Counters). countersAfter k (to .dose)) n ∙ counts-in (c .counters) (to .dose) ∙ sym (ap (countedIn (c .counters)) e);
-        records = tells-of (c .counters) (d .counters) (to .dose) _ n e;
+        records = tells-of (d .set .product) (c .counters) (d .counters) (to .dose) _ n e;
         set = set;
         weight = λ h' k'. ap (λ (f' : ℤ). f' -ℤ to .z .v) (sym f);
       }

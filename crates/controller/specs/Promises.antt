@@ -1,5 +1,5 @@
 -- What every sound controller promises beside the calls: doses and weights that can always be written, shut gates, refusals that change nothing, and counters that a tick, a reset and a restart alone change. Assumes nothing.
-use mathlib.Core.Path.{_≡_, refl, sym, ap, _∙_}
+use mathlib.Core.Path.{_≡_, refl, sym, ap, subst, _∙_}
 use mathlib.Core.Bool.{Bool, true, false, _&&_}
 use mathlib.Core.List.{List, []}
 use Prim.Native.Nat.{ℕ, _≤_, _<_}
@@ -22,7 +22,7 @@ use Rattle.dosing.specs.Laws.{ready-shut, shut-fills, never-both, over-unfilled
 use Rattle.dosing.specs.declared.Units.{Units}
 use Rattle.dosing.specs.declared.Phase.the-variants.{Ready}
 use Rattle.counters.specs.Counters.{counters, countersAfter, recordsOf}
-use Rattle.counters.specs.Laws.{AllRecordable, after-storable, records-recordable}
+use Rattle.counters.specs.Laws.{AllRecordable, after-storable, records-recordable, AllOf, of-product}
 use Rattle.scale.specs.Scale.{overCapacity}
 use Rattle.scale.specs.Laws as scale
 use Rattle.asking.specs.Asking.{Asked}
@@ -54,9 +54,9 @@ unfolding step7 step8 seenOf wOf
 step7-recordable c start t s e =
     let m = stepOf (c .set) (c .phase) (seenOf c start) in
     let after = countersAfter (c .counters) (m .dose) in
-    let same : recordsOf after (m .dose) ≡ t .doses = cc in
+    let same : recordsOf (c .set .product) after (m .dose) ≡ t .doses = cc in
     rw (sym same)
-    (records-recordable after (m .dose) (after-storable (c .counters) (m .dose) (record { count = s .count; total = s .total }) .count)
+    (records-recordable (c .set .product) after (m .dose) (good-ranges (c .set) (s .set) .product) (after-storable (c .counters) (m .dose) (record { count = s .count; total = s .total }) .count)
     (step-amount (c .set) (c .phase) (seenOf c start) (good-ranges (c .set) (s .set)) (s .previous) refl (s .kept)))
 
 fault-undone : {X Q : Type 0} (why : Fault) (x : X) → saysFault why ≡ done x → Q
@@ -73,6 +73,25 @@ tick-recordable c x i t s =
     (λ a e. refused-done e)
     (λ why e' e. fault-undone why t e)
     (λ d start r e. step7-recordable d start t (r .sound) e)
+
+-- it is of the product of the settings
+step7-product : (c : Controller) (start : Bool) (t : Told) → step7 c start .answer ≡ done t → AllOf (c .set .product) (t .doses)
+unfolding step7 step8
+step7-product c start t e =
+    let m = stepOf (c .set) (c .phase) (seenOf c start) in
+    let after = countersAfter (c .counters) (m .dose) in
+    let same : recordsOf (c .set .product) after (m .dose) ≡ t .doses = cc in
+    rw (sym same) (of-product (c .set .product) after (m .dose))
+
+pub tick-product : (c : Controller) (x : ℤ) (i : ℕ) (t : Told) → Sound c → tickOf c x i .answer ≡ done t → AllOf (c .set .product) (t .doses)
+unfolding faulted
+tick-product c x i t s =
+    tick-ways (λ (r : Result Told). r .answer ≡ done t → AllOf (c .set .product) (t .doses))
+    (λ why d sound e. fault-undone why t e)
+    c x i s
+    (λ a e. refused-done e)
+    (λ why e' e. fault-undone why t e)
+    (λ d start r e. subst (λ (k : Settings). AllOf (k .product) (t .doses)) (r .set) (step7-product d start t e))
 
 -- ---- weights
 

@@ -76,7 +76,7 @@ step8 c m =
     let after = countersAfter (c .counters) (m .dose) in
     record {
       next = withCounters after (withAlarm four (withS (calmAfter (c .gates) (m .gates) (c .s)) (withGates (m .gates) (withZ (m .z) (withPhase (m .phase) c)))));
-      answer = done (record { outputs = outputsOf (m .gates) four; doses = recordsOf after (m .dose) });
+      answer = done (record { outputs = outputsOf (m .gates) four; doses = recordsOf (c .set .product) after (m .dose) });
     }
 
 -- ---- step 7: the phase rule

@@ -193,6 +193,7 @@ fn no_controller() -> Controller
         address: 0,
         serial: 0,
         point: 0,
+        product: 0,
     };
     restarted(set, 0, 0)
 }

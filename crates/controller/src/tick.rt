@@ -72,13 +72,13 @@ fn faulted(why: Fault, c: Controller) -> Ticked
 }
 
 // The outputs, with the dose record if one completed.
-fn answer_of(outputs: u8, after: Counters, dose: Dose) -> TickAnswer
-    ensures { λ r. ⌜ saysTick r ≡ done (record { outputs = outputs; doses = recordsOf after dose }) ⌝ }
+fn answer_of(outputs: u8, product: u32, after: Counters, dose: Dose) -> TickAnswer
+    ensures { λ r. ⌜ saysTick r ≡ done (record { outputs = outputs; doses = recordsOf product after dose }) ⌝ }
 {
     match dose {
         Dose::Nothing => TickAnswer::Outputs(outputs),
         Dose::Complete { amount, settled } => {
-            let record = counters::record_of(after, amount, settled);
+            let record = counters::record_of(product, after, amount, settled);
             TickAnswer::Dose { outputs, record }
         }
     }
@@ -116,7 +116,12 @@ fn steps7and8(c: Controller, start: bool) -> Ticked
     let alarm = scale::over_capacity(c.set, c.f, z);
     let s = scale::calm_after(c.gates, gates, c.s);
     let counters = counters::counters_after(c.counters, dose);
-    let answer = answer_of(channels::outputs_of(gates, alarm), counters, dose);
+    let answer = answer_of(
+        channels::outputs_of(gates, alarm),
+        c.set.product,
+        counters,
+        dose,
+    );
     let next = Controller {
         z,
         s,

@@ -17,10 +17,10 @@ pub counted :
 unfolding countersAfter countedOf
 counted = (refl, refl, refl, refl, refl, refl)
 
--- the dose record says how Settle ended
+-- the dose record says how Settle ended, and of which product it was
 pub recorded :
-    (recordsOf (counters 5 9) Nothing ≡ [])
-    × (recordsOf (counters 5 9) (Complete 3 false) ≡ record { count = 5; amount = 3; settled = 0 } ∷ [])
-    × (recordsOf (counters 5 9) (Complete 3 true) ≡ record { count = 5; amount = 3; settled = 1 } ∷ [])
+    (recordsOf 7 (counters 5 9) Nothing ≡ [])
+    × (recordsOf 7 (counters 5 9) (Complete 3 false) ≡ record { count = 5; amount = 3; settled = 0; product = 7 } ∷ [])
+    × (recordsOf 255 (counters 5 9) (Complete 3 true) ≡ record { count = 5; amount = 3; settled = 1; product = 255 } ∷ [])
 unfolding recordsOf recordOf pick
 recorded = (refl, refl, refl)

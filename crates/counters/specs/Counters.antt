@@ -1,4 +1,4 @@
--- The counters and the dose record (document 01, "One tick"). Assumes nothing.
+-- The counters and the dose record (document 01, "One tick"; document 02, W4). Assumes nothing.
 use mathlib.Core.Bool.{Bool}
 use mathlib.Core.List.{List, [], _∷_}
 use Prim.Native.Nat.{ℕ, _+_, _%_}
@@ -19,11 +19,11 @@ unfoldable pub countersAfter : Counters → Dose → Counters
 countersAfter n Nothing = n
 countersAfter n (Complete amount settled) = countedOf n amount
 
--- the dose record (count after it, amount, 1 if Settle ended stable else 0)
-unfoldable pub recordOf : Counters → ℕ → Bool → Record
-recordOf after amount settled = record { count = after .count; amount = amount; settled = pick settled 1 0 }
+-- the dose record (count after it, amount, 1 if Settle ended stable else 0), and the product code as its last field
+unfoldable pub recordOf : ℕ → Counters → ℕ → Bool → Record
+recordOf product after amount settled = record { count = after .count; amount = amount; settled = pick settled 1 0; product = product }
 
 -- the dose record if one completed
-unfoldable pub recordsOf : Counters → Dose → List Record
-recordsOf after Nothing = []
-recordsOf after (Complete amount settled) = recordOf after amount settled ∷ []
+unfoldable pub recordsOf : ℕ → Counters → Dose → List Record
+recordsOf product after Nothing = []
+recordsOf product after (Complete amount settled) = recordOf product after amount settled ∷ []

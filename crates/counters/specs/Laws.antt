@@ -25,25 +25,26 @@ unfolding countersAfter
 after-storable n Nothing s = s
 after-storable n (Complete amount settled) s = counted-storable n amount
 
--- count 0..999,999, amount 0..1,800,000, settled 0 or 1: the ranges of a D line
+-- count 0..999,999, amount 0..1,800,000, settled 0 or 1, product 0..255: the ranges of a D line
 pub record Recordable (r : Record) : Type 0 where
   pub count : r .count ≤ 999999
   pub amount : r .amount ≤ 1800000
   pub settled : r .settled ≤ 1
+  pub product : r .product ≤ 255
 
 abbrev pub AllRecordable : List Record → Type 0
 AllRecordable [] = Unit {0}
 AllRecordable (r ∷ rs) = Recordable r × AllRecordable rs
 
-record-recordable : (n : Counters) (amount : ℕ) (settled : Bool) → n .count ≤ 999999 → amount ≤ 1800000 → Recordable (recordOf n amount settled)
+record-recordable : (product : ℕ) (n : Counters) (amount : ℕ) (settled : Bool) → product ≤ 255 → n .count ≤ 999999 → amount ≤ 1800000 → Recordable (recordOf product n amount settled)
 unfolding recordOf
-record-recordable n amount settled h most =
-    record { count = h; amount = most; settled = pick-all (λ (k : ℕ). k ≤ 1) settled (omega arith) (omega arith) }
+record-recordable product n amount settled code h most =
+    record { count = h; amount = most; settled = pick-all (λ (k : ℕ). k ≤ 1) settled (omega arith) (omega arith); product = code }
 
-pub records-recordable : (n : Counters) (d : Dose) → n .count ≤ 999999 → ((a : ℕ) (settled : Bool) → d ≡ Complete a settled → a ≤ 1800000) → AllRecordable (recordsOf n d)
+pub records-recordable : (product : ℕ) (n : Counters) (d : Dose) → product ≤ 255 → n .count ≤ 999999 → ((a : ℕ) (settled : Bool) → d ≡ Complete a settled → a ≤ 1800000) → AllRecordable (recordsOf product n d)
 unfolding recordsOf
-records-recordable n Nothing h most = tt
-records-recordable n (Complete a settled) h most = (record-recordable n a settled h (most a settled refl), tt)
+records-recordable product n Nothing code h most = tt
+records-recordable product n (Complete a settled) code h most = (record-recordable product n a settled code h (most a settled refl), tt)
 
 -- ---- doses counted in and told of
 
@@ -71,7 +72,18 @@ counts-in n Nothing = refl
 counts-in n (Complete amount settled) = refl
 
 -- and its record tells of it
-pub tells-one : (n : Counters) (d : Dose) → Tells n (amountsIn d) (recordsOf (countersAfter n d) d)
+pub tells-one : (product : ℕ) (n : Counters) (d : Dose) → Tells n (amountsIn d) (recordsOf product (countersAfter n d) d)
 unfolding countersAfter recordsOf recordOf amountsIn Tells
-tells-one n Nothing = tt
-tells-one n (Complete amount settled) = (refl, refl, tt)
+tells-one product n Nothing = tt
+tells-one product n (Complete amount settled) = (refl, refl, tt)
+
+-- all records are of a product
+unfoldable pub AllOf : ℕ → List Record → Type 0
+AllOf product [] = Unit {0}
+AllOf product (r ∷ rs) = (r .product ≡ product) × AllOf product rs
+
+-- what a dose is told of as is of the product that it was completed for
+pub of-product : (product : ℕ) (n : Counters) (d : Dose) → AllOf product (recordsOf product n d)
+unfolding recordsOf recordOf AllOf
+of-product product n Nothing = tt
+of-product product n (Complete amount settled) = (refl, tt)

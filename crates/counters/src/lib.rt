@@ -10,11 +10,12 @@ pub struct Counters {
     pub total: u32,
 }
 
-// The record of a completed dose: the count after it, the amount, 1 if Settle ended stable else 0.
+// The record of a completed dose: the count after it, the amount, 1 if Settle ended stable else 0, and the product.
 pub struct Record {
     pub count: u32,
     pub amount: u32,
     pub settled: u32,
+    pub product: u32,
 }
 
 impl Counters {
@@ -47,9 +48,9 @@ pub fn counters_after(n: Counters, dose: Dose) -> Counters
     }
 }
 
-// The record of a dose, with the counters after it.
-pub fn record_of(after: Counters, amount: u32, settled: bool) -> Record
-    ensures { λ r. ⌜ Records after amount settled r ⌝ }
+// The record of a dose of a product, with the counters after it.
+pub fn record_of(product: u32, after: Counters, amount: u32, settled: bool) -> Record
+    ensures { λ r. ⌜ Records product after amount settled r ⌝ }
 {
     let count = after.count;
     if settled {
@@ -57,11 +58,13 @@ pub fn record_of(after: Counters, amount: u32, settled: bool) -> Record
             count,
             amount,
             settled: 1,
+            product,
         };
     }
     Record {
         count,
         amount,
         settled: 0,
+        product,
     }
 }

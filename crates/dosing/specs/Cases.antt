@@ -34,6 +34,7 @@ box algorithm level p11 =
       address = 1;
       serial = 0;
       point = 0;
+      product = 0;
     }
 
 abbrev al0 : Settings

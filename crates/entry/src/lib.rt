@@ -1,4 +1,5 @@
-// An entry of the journal: the text of a D or an H line, written into a lent buffer.
+// An entry of the journal: the text of a D or an H line of either form, or of the V line, written into a lent buffer.
+use journal::Form;
 use journal::Line;
 ghost use mathlib.Core.Path.{_≡_};
 ghost use mathlib.Core.List.{[], _∷_};
@@ -6,10 +7,12 @@ ghost use Prim.Native.Nat.{_+_, _≤_};
 ghost use lib.ListN.{length};
 ghost use Rattle.laws.specs.Decimal.{decimal};
 ghost use Rattle.text.specs.Scan.{TAB};
-ghost use Rattle.journal.specs.Line.{textOf, inRange};
+ghost use Rattle.journal.specs.Line.{versionText, textOf, productMost, inRange};
+ghost use Rattle.journal.specs.LineLaws.{productText};
+ghost use Rattle.journal.specs.declared.Form.the-variants.{Old};
 ghost use Rattle.journal.specs.declared.Line.the-variants.{Dose, On};
-ghost use Rattle.entry.specs.Says.{WritesLine};
-ghost use Rattle.entry.specs.Store.{FieldLength, Stores};
+ghost use Rattle.entry.specs.Says.{WritesLine, WritesVersion};
+ghost use Rattle.entry.specs.Store.{FieldLength, ProductLength, Stores};
 
 // What the writer of a line answers: its length, or a refusal.
 pub enum Wrote {
@@ -26,9 +29,24 @@ const D: u8 = 68;
 
 const H: u8 = 72;
 
+const V: u8 = 86;
+
+// The number of the new form, as the V line has it.
+const TWO: u8 = 50;
+
+// The greatest product of a line: an old one has none but 0.
+fn product_most(form: Form) -> u32
+    ensures { λ r. ⌜ r ≡ productMost form ⌝ }
+{
+    match form {
+        Form::Old => 0,
+        Form::New => journal::PRODUCT_MOST,
+    }
+}
+
 // Each value is at most its field's greatest.
-fn in_range(line: Line) -> bool
-    ensures { λ r. ⌜ r ≡ inRange line ⌝ }
+fn in_range(form: Form, line: Line) -> bool
+    ensures { λ r. ⌜ r ≡ inRange form line ⌝ }
 {
     match line {
         Line::Dose {
@@ -36,6 +54,7 @@ fn in_range(line: Line) -> bool
             count,
             amount,
             settled,
+            product,
         } => {
             if hour > journal::HOUR_MOST {
                 return false;
@@ -46,7 +65,10 @@ fn in_range(line: Line) -> bool
             if amount > journal::AMOUNT_MOST {
                 return false;
             }
-            settled <= journal::SETTLED_MOST
+            if settled > journal::SETTLED_MOST {
+                return false;
+            }
+            product <= product_most(form)
         }
         Line::On { hour } => hour <= journal::HOUR_MOST,
     }
@@ -59,9 +81,19 @@ fn field_len(v: u32) -> usize
     1 + text::decimal_len(v as u64)
 }
 
+// How many bytes the product's field takes: none in an old line.
+fn product_len(form: Form, product: u32) -> usize
+    ensures { λ r. ⌜ ProductLength form product r ⌝ }
+{
+    match form {
+        Form::Old => 0,
+        Form::New => field_len(product),
+    }
+}
+
 // How many bytes a line takes: its letter, its fields and its LF.
-fn text_len(line: Line) -> usize
-    ensures { λ r. ⌜ r ≡ length (textOf line) ⌝ }
+fn text_len(form: Form, line: Line) -> usize
+    ensures { λ r. ⌜ r ≡ length (textOf form line) ⌝ }
 {
     match line {
         Line::Dose {
@@ -69,7 +101,15 @@ fn text_len(line: Line) -> usize
             count,
             amount,
             settled,
-        } => 2 + field_len(hour) + field_len(count) + field_len(amount) + field_len(settled),
+            product,
+        } => {
+            2
+                + field_len(hour)
+                + field_len(count)
+                + field_len(amount)
+                + field_len(settled)
+                + product_len(form, product)
+        }
         Line::On { hour } => 2 + field_len(hour),
     }
 }
@@ -91,23 +131,43 @@ fn store_field(out: &mut [u8], at: usize, v: u32) -> usize
     text::put_decimal(out, after_tab, v as u64)
 }
 
+// The product's field stored at a place that has room for it: nothing in an old line.
+fn store_product(out: &mut [u8], at: usize, form: Form, product: u32) -> usize
+    requires { ⌜ at + length (productText form product) ≤ length (now out) ⌝ }
+    ensures { λ r. ⌜ Stores (now (out .entry)) at (productText form product) (now (out .exit)) r ⌝ }
+{
+    match form {
+        Form::Old => at,
+        Form::New => store_field(out, at, product),
+    }
+}
+
 // A D line stored from the start.
-fn store_dose(out: &mut [u8], hour: u32, count: u32, amount: u32, settled: u32) -> usize
-    requires { ⌜ length (textOf (Dose hour count amount settled)) ≤ length (now out) ⌝ }
-    ensures { λ r. ⌜ Stores (now (out .entry)) 0 (textOf (Dose hour count amount settled)) (now (out .exit)) r ⌝ }
+fn store_dose(
+    out: &mut [u8],
+    form: Form,
+    hour: u32,
+    count: u32,
+    amount: u32,
+    settled: u32,
+    product: u32,
+) -> usize
+    requires { ⌜ length (textOf form (Dose hour count amount settled product)) ≤ length (now out) ⌝ }
+    ensures { λ r. ⌜ Stores (now (out .entry)) 0 (textOf form (Dose hour count amount settled product)) (now (out .exit)) r ⌝ }
 {
     let after_letter = store_byte(out, 0, D);
     let after_hour = store_field(out, after_letter, hour);
     let after_count = store_field(out, after_hour, count);
     let after_amount = store_field(out, after_count, amount);
     let after_settled = store_field(out, after_amount, settled);
-    store_byte(out, after_settled, LF)
+    let after_product = store_product(out, after_settled, form, product);
+    store_byte(out, after_product, LF)
 }
 
-// An H line stored from the start.
+// An H line stored from the start; it is the same in both forms.
 fn store_on(out: &mut [u8], hour: u32) -> usize
-    requires { ⌜ length (textOf (On hour)) ≤ length (now out) ⌝ }
-    ensures { λ r. ⌜ Stores (now (out .entry)) 0 (textOf (On hour)) (now (out .exit)) r ⌝ }
+    requires { ⌜ length (textOf Old (On hour)) ≤ length (now out) ⌝ }
+    ensures { λ r. ⌜ Stores (now (out .entry)) 0 (textOf Old (On hour)) (now (out .exit)) r ⌝ }
 {
     let after_letter = store_byte(out, 0, H);
     let after_hour = store_field(out, after_letter, hour);
@@ -115,9 +175,9 @@ fn store_on(out: &mut [u8], hour: u32) -> usize
 }
 
 // A line stored from the start of a buffer that has room for it; the place after it is its length.
-fn store_line(out: &mut [u8], line: Line) -> usize
-    requires { ⌜ length (textOf line) ≤ length (now out) ⌝ }
-    ensures { λ r. ⌜ Stores (now (out .entry)) 0 (textOf line) (now (out .exit)) r ⌝ }
+fn store_line(out: &mut [u8], form: Form, line: Line) -> usize
+    requires { ⌜ length (textOf form line) ≤ length (now out) ⌝ }
+    ensures { λ r. ⌜ Stores (now (out .entry)) 0 (textOf form line) (now (out .exit)) r ⌝ }
 {
     match line {
         Line::Dose {
@@ -125,21 +185,44 @@ fn store_line(out: &mut [u8], line: Line) -> usize
             count,
             amount,
             settled,
-        } => store_dose(out, hour, count, amount, settled),
+            product,
+        } => store_dose(out, form, hour, count, amount, settled, product),
         Line::On { hour } => store_on(out, hour),
     }
 }
 
-// A line written into a lent buffer: R10, then R8.
-pub fn write(line: Line, out: &mut [u8]) -> Wrote
-    ensures { λ r. ⌜ WritesLine line r (now (out .entry)) (now (out .exit)) ⌝ }
+// A line of a form written into a lent buffer: R10, then R8.
+pub fn write(form: Form, line: Line, out: &mut [u8]) -> Wrote
+    ensures { λ r. ⌜ WritesLine form line r (now (out .entry)) (now (out .exit)) ⌝ }
 {
-    if !in_range(line) {
+    if !in_range(form, line) {
         return Wrote::R10;
     }
-    if out.len() < text_len(line) {
+    if out.len() < text_len(form, line) {
         return Wrote::R8;
     }
-    let written = store_line(out, line);
+    let written = store_line(out, form, line);
+    Wrote::Line(written)
+}
+
+// The V line stored from the start.
+fn store_version(out: &mut [u8]) -> usize
+    requires { ⌜ 4 ≤ length (now out) ⌝ }
+    ensures { λ r. ⌜ Stores (now (out .entry)) 0 versionText (now (out .exit)) r ⌝ }
+{
+    let after_letter = store_byte(out, 0, V);
+    let after_tab = store_byte(out, after_letter, TAB);
+    let after_number = store_byte(out, after_tab, TWO);
+    store_byte(out, after_number, LF)
+}
+
+// The V line written into a lent buffer: R8 where it has no room.
+pub fn write_version(out: &mut [u8]) -> Wrote
+    ensures { λ r. ⌜ WritesVersion r (now (out .entry)) (now (out .exit)) ⌝ }
+{
+    if out.len() < journal::VERSION_LEN {
+        return Wrote::R8;
+    }
+    let written = store_version(out);
     Wrote::Line(written)
 }

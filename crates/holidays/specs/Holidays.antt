@@ -1,4 +1,4 @@
--- The days of a recording: a day that was seen in full and in which no dose completed is a holiday, and no other day is. Assumes nothing.
+-- The days of a recording: a day is a holiday exactly if it was seen in full, no dose completed in it, and no hole of the dose numbers covers any of its hours. Assumes nothing.
 use mathlib.Core.Path.{_≡_, refl, sym, ap, _∙_}
 use mathlib.Core.Bool.{Bool, true, false, true≢false}
 use mathlib.Core.List.{List, [], _∷_, _++_}
@@ -8,13 +8,15 @@ use Rattle.laws.specs.Pick.{pick}
 use Rattle.paper.specs.Answer.{done}
 use Rattle.journal.specs.Journal.{journalOf}
 use Rattle.journal.specs.declared.Line.{Line}
-use Rattle.hourly.specs.Holes.{inHole}
+use Rattle.holes.specs.Holes.{inHole}
+use Rattle.hourly.specs.declared.Products.the-variants.{All}
 use Rattle.hourly.specs.Hours.{measuredOrIdle, hourOf}
-use Rattle.hourly.specs.Kinds.{Exactly}
+use Rattle.holes.specs.HoleLaws.{Exactly}
 use Rattle.counters.specs.declared.Record.{Record}
 use Rattle.controller.specs.Calls.{freshOf}
 use Rattle.series.specs.Events.{Event, run, handsBack, records}
 use Rattle.series.specs.Lines.{hourWith}
+use Rattle.series.specs.Products.{asked-all}
 use Rattle.weekly.specs.Week.{dayBy}
 use Rattle.weekly.specs.Day.{isIdle, isHoliday, dayOf}
 use Rattle.weekly.specs.Kinds.{holiday-exactly, all-exactly}
@@ -46,9 +48,10 @@ module _ (input : List ℕ) (s : Script input) (ls : List Line) (accepted : jour
   abbrev pub QuietAt : ℕ → Type 0
   QuietAt n = Quiet (inHole (s .first + n) ls) (seenInFull n (heardIn s)) (dosesIn (hourLines n (heardIn s)))
 
-  hour-quiet : (n : ℕ) → Exactly (isIdle (hourOf ls (s .first + n)) ≡ true) (QuietAt n)
+  hour-quiet : (n : ℕ) → Exactly (isIdle (hourOf All ls (s .first + n)) ≡ true) (QuietAt n)
   hour-quiet n =
-      let e = ap isIdle (consumption input s ls accepted n) in
+      let all = ap (hourWith (inHole (s .first + n) ls) (seenInFull n (heardIn s))) (asked-all (dosesIn (hourLines n (heardIn s)))) in
+      let e = ap isIdle (consumption input s ls accepted All n ∙ all) in
       let q = quiet-exactly (inHole (s .first + n) ls) (seenInFull n (heardIn s)) (dosesIn (hourLines n (heardIn s))) in
       (λ h. q .0 (sym e ∙ h), λ h. e ∙ q .1 h)
 
@@ -56,10 +59,10 @@ module _ (input : List ℕ) (s : Script input) (ls : List Line) (accepted : jour
   pub holiday : (n : ℕ) → Exactly (dayOf ls (s .first + n) .kind ≡ Holiday) ((k : ℕ) → k < 24 → QuietAt (n + k))
   unfolding dayOf dayBy isHoliday
   holiday n =
-      let day = holiday-exactly (dayBy (hourOf ls) (s .first + n)) in
-      let hours = all-exactly isIdle (λ (k : ℕ). hourOf ls (s .first + n + k)) 24 in (
-        λ e k h. hour-quiet (n + k) .0 (ap (λ (i : ℕ). isIdle (hourOf ls i)) (place n k) ∙ hours .0 (day .0 e) k h),
-        λ e. day .1 (hours .1 (λ k h. ap (λ (i : ℕ). isIdle (hourOf ls i)) (sym (place n k)) ∙ hour-quiet (n + k) .1 (e k h))),
+      let day = holiday-exactly (dayBy (hourOf All ls) (s .first + n)) in
+      let hours = all-exactly isIdle (λ (k : ℕ). hourOf All ls (s .first + n + k)) 24 in (
+        λ e k h. hour-quiet (n + k) .0 (ap (λ (i : ℕ). isIdle (hourOf All ls i)) (place n k) ∙ hours .0 (day .0 e) k h),
+        λ e. day .1 (hours .1 (λ k h. ap (λ (i : ℕ). isIdle (hourOf All ls i)) (sym (place n k)) ∙ hour-quiet (n + k) .1 (e k h))),
       )
     where
       place : (n k : ℕ) → s .first + (n + k) ≡ s .first + n + k

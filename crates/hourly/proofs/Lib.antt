@@ -1,3 +1,3 @@
 pub mod Tallying
-pub mod Marking
+pub mod Settling
 pub mod Passing

@@ -1,6 +1,6 @@
 -- Hours outside a journal's are missing, what an hour's lines come to is bounded, and 33,480 bytes hold the text of every journal. Assumes nothing.
 use mathlib.Core.Path.{_≡_, refl}
-use mathlib.Core.Bool.{Bool, true, false}
+use mathlib.Core.Bool.{Bool, true, false, _&&_}
 use mathlib.Core.List.{List, [], _∷_, _++_, map}
 use mathlib.Core.Logic.{_⊎_, inl, inr}
 use Prim.Native.Nat.{ℕ, zero, suc, _+_, _-_, _*_, _≤_, _<_}
@@ -18,10 +18,12 @@ use Rattle.journal.specs.Journal.{hourIn, journalOf, firstHour, lastHour}
 use Rattle.journal.specs.LineLaws.{dose-range}
 use Rattle.journal.specs.JournalLaws.{Each, hour-range}
 use Rattle.journal.specs.Order.{Within}
+use Rattle.journal.specs.declared.Form.the-variants.{New}
 use Rattle.journal.specs.declared.Line.{Line}
 use Rattle.journal.specs.declared.Line.the-variants.{Dose, On}
-use Rattle.hourly.specs.Holes.{inHole, holeFrom}
-use Rattle.hourly.specs.Hours.{HourAnswer, missing, doseAt, amountsAt, isOn, hasOn, total, greatest, measuredOrIdle, hourOf}
+use Rattle.holes.specs.Holes.{inHole, holeFrom}
+use Rattle.hourly.specs.declared.Products.{Products}
+use Rattle.hourly.specs.Hours.{HourAnswer, missing, asksFor, doseAt, amountsAt, isOn, hasOn, total, greatest, measuredOrIdle, hourOf}
 use Rattle.hourly.specs.Text.{Row, rowM, rowI, rowX, letterM, letterI, letterX, rowFrom, rowOf, rowText, rowsOf, rowsText, hoursFrom, spanOf, hoursText, printOf}
 use Rattle.hourly.specs.Accepted.{Ranged, Accepted, accepted}
 
@@ -35,18 +37,18 @@ apart lo hi h x (inr l) a b e = omega arith
 outside-off : (whole ls : List Line) (h : ℕ) → (h < firstHour whole) ⊎ (lastHour whole < h) → Each (Within whole) ls → hasOn h ls ≡ false
 unfolding hasOn isOn hourIn
 outside-off whole [] h o w = refl
-outside-off whole (Dose x c a s ∷ ls) h o w = outside-off whole ls h o (w .1)
+outside-off whole (Dose x c a s p ∷ ls) h o w = outside-off whole ls h o (w .1)
 outside-off whole (On x ∷ ls) h o w = rw (ne-eqb x h (apart (firstHour whole) (lastHour whole) h x o (w .0 .from) (w .0 .to))) (outside-off whole ls h o (w .1))
 
 -- an hour before the first line's or after the last line's is missing
-pub outside-missing : {s : List ℕ} (ls : List Line) (h : ℕ) → Accepted s ls → (h < firstHour ls) ⊎ (lastHour ls < h) → hourOf ls h ≡ missing
+pub outside-missing : (w : Products) {s : List ℕ} (ls : List Line) (h : ℕ) → Accepted s ls → (h < firstHour ls) ⊎ (lastHour ls < h) → hourOf w ls h ≡ missing
 unfolding hourOf
-outside-missing ls h a o = rw (outside-off ls ls h o (a .within), pick-false (measuredOrIdle (amountsAt h ls)) missing) (pick-same (inHole h ls) missing)
+outside-missing w ls h a o = rw (outside-off ls ls h o (a .within), pick-false (measuredOrIdle (amountsAt w h ls)) missing) (pick-same (inHole h ls) missing)
 
 -- of an empty journal every hour is missing
-pub empty-missing : (h : ℕ) → hourOf [] h ≡ missing
+pub empty-missing : (w : Products) (h : ℕ) → hourOf w [] h ≡ missing
 unfolding hourOf inHole holeFrom hasOn pick
-empty-missing h = refl
+empty-missing w h = refl
 
 -- ---- what an hour's lines come to
 
@@ -56,13 +58,13 @@ pub record Modest (n : ℕ) (amounts : List ℕ) : Type 0 where
   pub sum : total amounts ≤ 1800000 * n
   pub most : greatest amounts ≤ 1800000
 
-pub modest : (h : ℕ) (ls : List Line) → Ranged ls → Modest (length ls) (amountsAt h ls)
+pub modest : (w : Products) (h : ℕ) (ls : List Line) → Ranged ls → Modest (length ls) (amountsAt w h ls)
 unfolding amountsAt doseAt total greatest pick
-modest h [] r = record { few = omega arith; sum = omega arith; most = omega arith }
-modest h (On x ∷ ls) r = let m = modest h ls (r .1) in record { few = omega (arith, m .few); sum = omega (arith, m .sum); most = m .most }
-modest h (Dose x c a s ∷ ls) r = go (eqb x h) (modest h ls (r .1)) (dose-range x c a s (r .0) .2)
+modest w h [] r = record { few = omega arith; sum = omega arith; most = omega arith }
+modest w h (On x ∷ ls) r = let m = modest w h ls (r .1) in record { few = omega (arith, m .few); sum = omega (arith, m .sum); most = m .most }
+modest w h (Dose x c a s p ∷ ls) r = go (asksFor w p && eqb x h) (modest w h ls (r .1)) (dose-range New x c a s p (r .0) .2)
   where
-    go : (b : Bool) → Modest (length ls) (amountsAt h ls) → a ≤ 1800000 → Modest (suc (length ls)) (pick b (a ∷ []) [] ++ amountsAt h ls)
+    go : (b : Bool) → Modest (length ls) (amountsAt w h ls) → a ≤ 1800000 → Modest (suc (length ls)) (pick b (a ∷ []) [] ++ amountsAt w h ls)
     go true m k = record { few = omega (arith, m .few); sum = omega (arith, m .sum); most = omega (arith, m .most) }
     go false m k = record { few = omega (arith, m .few); sum = omega (arith, m .sum); most = m .most }
 
@@ -104,49 +106,49 @@ row-short h rowX a b = omega (arith, decimal-length 7 h a (omega arith), missing
 abbrev ShortOf : List ℕ → HourAnswer → Type 0
 ShortOf amounts x = RowShort (rowFrom x amounts)
 
-row-of-short : (h : ℕ) (ls : List Line) → length (amountsAt h ls) < 100000 → total (amountsAt h ls) < 100000000000 → RowShort (rowOf ls h)
+row-of-short : (w : Products) (h : ℕ) (ls : List Line) → length (amountsAt w h ls) < 100000 → total (amountsAt w h ls) < 100000000000 → RowShort (rowOf w ls h)
 unfolding rowOf hourOf rowFrom measuredOrIdle
-row-of-short h ls d t = pick-all (ShortOf (amountsAt h ls)) (inHole h ls) tt (pick-all (ShortOf (amountsAt h ls)) (hasOn h ls) (either (amountsAt h ls) d t) tt)
+row-of-short w h ls d t = pick-all (ShortOf (amountsAt w h ls)) (inHole h ls) tt (pick-all (ShortOf (amountsAt w h ls)) (hasOn h ls) (either (amountsAt w h ls) d t) tt)
   where
     either : (amounts : List ℕ) → length amounts < 100000 → total amounts < 100000000000 → RowShort (rowFrom (measuredOrIdle amounts) amounts)
     either [] d t = tt
     either (a ∷ as') d t = (d, t)
 
-rows-short : (ls : List Line) (h n : ℕ) → ((k : ℕ) → k < h + n → length (rowText k (rowOf ls k)) ≤ 45) → length (rowsText (map (λ k. record { hour = k; row = rowOf ls k }) (hoursFrom h n))) ≤ 45 * n
+rows-short : (w : Products) (ls : List Line) (h n : ℕ) → ((k : ℕ) → k < h + n → length (rowText k (rowOf w ls k)) ≤ 45) → length (rowsText (map (λ k. record { hour = k; row = rowOf w ls k }) (hoursFrom h n))) ≤ 45 * n
 unfolding rowsText hoursFrom
-rows-short ls h zero f = omega arith
-rows-short ls h (suc n) f =
+rows-short w ls h zero f = omega arith
+rows-short w ls h (suc n) f =
     omega (
       arith,
       f h (omega arith),
-      rows-short ls (suc h) n (λ k l. f k (omega arith)),
-      length-append (rowText h (rowOf ls h)) (rowsText (map (λ k. record { hour = k; row = rowOf ls k }) (hoursFrom (suc h) n))),
+      rows-short w ls (suc h) n (λ k l. f k (omega arith)),
+      length-append (rowText h (rowOf w ls h)) (rowsText (map (λ k. record { hour = k; row = rowOf w ls k }) (hoursFrom (suc h) n))),
     )
 
 last-most : (ls : List Line) → Ranged ls → lastHour ls ≤ 9999999
 unfolding lastHour
 last-most [] r = omega arith
-last-most (l ∷ []) r = hour-range l (r .0)
+last-most (l ∷ []) r = hour-range New l (r .0)
 last-most (l ∷ m ∷ ls) r = last-most (m ∷ ls) (r .1)
 
 -- the text of an accepted journal is at most 744 rows of 45 bytes
-pub text-short : {s : List ℕ} (ls : List Line) → Accepted s ls → length (hoursText ls) ≤ 33480
+pub text-short : (w : Products) {s : List ℕ} (ls : List Line) → Accepted s ls → length (hoursText w ls) ≤ 33480
 unfolding hoursText rowsOf spanOf rowsText
-text-short [] a = omega arith
-text-short (l ∷ ls) a =
+text-short w [] a = omega arith
+text-short w (l ∷ ls) a =
     let lines = a .few in
     let last = last-most (l ∷ ls) (a .ranged) in
     let order = a .order in
     let span = a .span in
     omega (
       arith,
-      rows-short (l ∷ ls) (firstHour (l ∷ ls)) (suc (lastHour (l ∷ ls) - firstHour (l ∷ ls))) (λ k h. row k (omega arith) lines (modest k (l ∷ ls) (a .ranged))),
+      rows-short w (l ∷ ls) (firstHour (l ∷ ls)) (suc (lastHour (l ∷ ls) - firstHour (l ∷ ls))) (λ k h. row k (omega arith) lines (modest w k (l ∷ ls) (a .ranged))),
     )
   where
-    row : (k : ℕ) → k < 10000000 → length (l ∷ ls) ≤ 16384 → Modest (length (l ∷ ls)) (amountsAt k (l ∷ ls)) → length (rowText k (rowOf (l ∷ ls) k)) ≤ 45
-    row k h n m = row-short k (rowOf (l ∷ ls) k) h (row-of-short k (l ∷ ls) (omega (arith, m .few)) (omega (arith, m .sum)))
+    row : (k : ℕ) → k < 10000000 → length (l ∷ ls) ≤ 16384 → Modest (length (l ∷ ls)) (amountsAt w k (l ∷ ls)) → length (rowText k (rowOf w (l ∷ ls) k)) ≤ 45
+    row k h n m = row-short k (rowOf w (l ∷ ls) k) h (row-of-short w k (l ∷ ls) (omega (arith, m .few)) (omega (arith, m .sum)))
 
 -- so with that room the text is never refused with R8
-pub room-enough : (s : List ℕ) (ls : List Line) (room : ℕ) → journalOf s ≡ done ls → 33480 ≤ room → printOf s room ≡ done (hoursText ls)
+pub room-enough : (w : Products) (s : List ℕ) (ls : List Line) (room : ℕ) → journalOf s ≡ done ls → 33480 ≤ room → printOf w s room ≡ done (hoursText w ls)
 unfolding printOf onDone inRoom
-room-enough s ls room e h = rw e (pick-t (leb (length (hoursText ls)) room) (done (hoursText ls)) (refused R8 []) (le-leb (length (hoursText ls)) room (omega (arith, text-short ls (accepted s ls e)))))
+room-enough w s ls room e h = rw e (pick-t (leb (length (hoursText w ls)) room) (done (hoursText w ls)) (refused R8 []) (le-leb (length (hoursText w ls)) room (omega (arith, text-short w ls (accepted s ls e)))))

@@ -13,7 +13,8 @@ use Rattle.laws.specs.Pick.{pick}
 use Rattle.paper.specs.Answer.{Answer, done, refused, fault, told}
 use Rattle.journal.specs.Journal.{journalOf}
 use Rattle.journal.specs.declared.Line.{Line}
-use Rattle.hourly.specs.Holes.{inHole}
+use Rattle.holes.specs.Holes.{inHole}
+use Rattle.hourly.specs.declared.Products.{Products}
 use Rattle.hourly.specs.Hours.{HourAnswer, measured, idle, missing, amountsAt, hasOn, total, greatest, asF64, sumOf, largestOf, meanOf, measuredOrIdle, hourOf, askOf}
 use Rattle.hourly.specs.Accepted.{Accepted, accepted}
 use Rattle.hourly.specs.Bounds.{modest}
@@ -36,9 +37,9 @@ record Figured (amounts : List ℕ) (s l m : Float) : Type 0 where
   mean : m ≡ meanOf amounts
   some : 0 < length amounts
 
-measured-figures : (ls : List Line) (h : ℕ) (s l m : Float) → hourOf ls h ≡ measured s l m → Figured (amountsAt h ls) s l m
+measured-figures : (w : Products) (ls : List Line) (h : ℕ) (s l m : Float) → hourOf w ls h ≡ measured s l m → Figured (amountsAt w h ls) s l m
 unfolding hourOf measuredOrIdle pick
-measured-figures ls h s l m = go (inHole h ls) (hasOn h ls) (amountsAt h ls)
+measured-figures w ls h s l m = go (inHole h ls) (hasOn h ls) (amountsAt w h ls)
   where
     go : (hole on : Bool) (amounts : List ℕ) → pick hole missing (pick on (measuredOrIdle amounts) missing) ≡ measured s l m → Figured amounts s l m
     go true on amounts e = let z : _≡_ {A = ℕ} 0 1 = cc in absurd (omega arith)
@@ -47,16 +48,16 @@ measured-figures ls h s l m = go (inHole h ls) (hasOn h ls) (amountsAt h ls)
     go false false amounts e = let z : _≡_ {A = ℕ} 0 1 = cc in absurd (omega arith)
 
 -- so it is of every measured hour of an accepted journal
-pub figures-exact : {b : List ℕ} (ls : List Line) (h : ℕ) (s l m : Float) → Accepted b ls → hourOf ls h ≡ measured s l m → Exact (amountsAt h ls) s l m
+pub figures-exact : (w : Products) {b : List ℕ} (ls : List Line) (h : ℕ) (s l m : Float) → Accepted b ls → hourOf w ls h ≡ measured s l m → Exact (amountsAt w h ls) s l m
 unfolding sumOf largestOf meanOf
-figures-exact ls h s l m a e =
-    let b = modest h ls (a .ranged) in
+figures-exact w ls h s l m a e =
+    let b = modest w h ls (a .ranged) in
     let lines = a .few in
-    let f = measured-figures ls h s l m e in
+    let f = measured-figures w ls h s l m e in
     rw (f .sum, f .largest, f .mean)
     (record {
-      sum = whole-exact (total (amountsAt h ls)) (omega (arith, b .sum));
-      largest = whole-exact (greatest (amountsAt h ls)) (omega (arith, b .most));
+      sum = whole-exact (total (amountsAt w h ls)) (omega (arith, b .sum));
+      largest = whole-exact (greatest (amountsAt w h ls)) (omega (arith, b .most));
       mean = refl;
     })
 
@@ -67,17 +68,17 @@ pub record Numbers (s l m : Float) : Type 0 where
   pub mean : T (not (isNan m))
 
 -- so it is of every measured hour of an accepted journal
-pub figures-numbers : {b : List ℕ} (ls : List Line) (h : ℕ) (s l m : Float) → Accepted b ls → hourOf ls h ≡ measured s l m → Numbers s l m
+pub figures-numbers : (w : Products) {b : List ℕ} (ls : List Line) (h : ℕ) (s l m : Float) → Accepted b ls → hourOf w ls h ≡ measured s l m → Numbers s l m
 unfolding sumOf largestOf meanOf
-figures-numbers ls h s l m a e =
-    let b = modest h ls (a .ranged) in
+figures-numbers w ls h s l m a e =
+    let b = modest w h ls (a .ranged) in
     let lines = a .few in
-    let f = measured-figures ls h s l m e in
+    let f = measured-figures w ls h s l m e in
     rw (f .sum, f .largest, f .mean)
     (record {
-      sum = whole-no-nan (total (amountsAt h ls));
-      largest = whole-no-nan (greatest (amountsAt h ls));
-      mean = mean-no-nan (total (amountsAt h ls)) (length (amountsAt h ls)) (omega (arith, b .sum)) (omega (arith, b .few)) (f .some);
+      sum = whole-no-nan (total (amountsAt w h ls));
+      largest = whole-no-nan (greatest (amountsAt w h ls));
+      mean = mean-no-nan (total (amountsAt w h ls)) (length (amountsAt w h ls)) (omega (arith, b .sum)) (omega (arith, b .few)) (f .some);
     })
 
 -- an hour that is answered with figures is answered with numbers
@@ -88,16 +89,16 @@ Numbered (done missing) = Unit {0}
 Numbered (refused n vs) = Unit {0}
 Numbered (fault n vs) = Unit {0}
 
-pub ask-numbered : (b : List ℕ) (h : ℕ) → Numbered (askOf b h)
+pub ask-numbered : (w : Products) (b : List ℕ) (h : ℕ) → Numbered (askOf w b h)
 unfolding askOf told
-ask-numbered b h = go (journalOf b) refl
+ask-numbered w b h = go (journalOf b) refl
   where
-    kind : (ls : List Line) (x : HourAnswer) → journalOf b ≡ done ls → hourOf ls h ≡ x → Numbered (done x)
-    kind ls (measured s l m) a e = figures-numbers ls h s l m (accepted b ls a) e
+    kind : (ls : List Line) (x : HourAnswer) → journalOf b ≡ done ls → hourOf w ls h ≡ x → Numbered (done x)
+    kind ls (measured s l m) a e = figures-numbers w ls h s l m (accepted b ls a) e
     kind ls idle a e = tt
     kind ls missing a e = tt
 
-    go : (a : Answer (List Line)) → journalOf b ≡ a → Numbered (told (λ (ls : List Line). hourOf ls h) a)
-    go (done ls) e = kind ls (hourOf ls h) e refl
+    go : (a : Answer (List Line)) → journalOf b ≡ a → Numbered (told (λ (ls : List Line). hourOf w ls h) a)
+    go (done ls) e = kind ls (hourOf w ls h) e refl
     go (refused n vs) e = tt
     go (fault n vs) e = tt

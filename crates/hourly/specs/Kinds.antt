@@ -1,6 +1,6 @@
 -- When an hour is printed M, I or X, and what its lines then are. Assumes nothing.
 use mathlib.Core.Path.{_≡_, refl, sym, ap, _∙_}
-use mathlib.Core.Bool.{Bool, true, false, _||_}
+use mathlib.Core.Bool.{Bool, true, false, _&&_, _||_}
 use mathlib.Core.List.{List, [], _∷_, _++_, List·Memᴰ, List·Memᴰ·head, List·Memᴰ·tail, List·Memᴰ·not-nil, List·Memᴰ·cases-cons}
 use mathlib.Core.Logic.{_⊎_, inl, inr}
 use Prim.Native.Nat.{ℕ}
@@ -10,25 +10,24 @@ use lib.ListN.{length}
 use lib.Ieee.{binary64, toBits}
 use borrow.Author.Tests.{eqb-true, eq-eqb}
 use Rattle.laws.specs.Pick.{pick, pick-t, pick-f}
+use Rattle.laws.specs.Bools.{and-left, and-right}
 use Rattle.laws.specs.Whole.{false-true}
 use Rattle.journal.specs.declared.Line.{Line}
 use Rattle.journal.specs.declared.Line.the-variants.{Dose, On}
-use Rattle.hourly.specs.Holes.{inHole}
-use Rattle.hourly.specs.Hours.{missing, doseAt, amountsAt, isOn, hasOn, total, meanOf, measuredOrIdle, hourOf}
+use Rattle.holes.specs.Holes.{inHole}
+use Rattle.holes.specs.HoleLaws.{Exactly}
+use Rattle.hourly.specs.declared.Products.{Products}
+use Rattle.hourly.specs.Hours.{missing, asksFor, doseAt, amountsAt, isOn, hasOn, total, meanOf, measuredOrIdle, hourOf}
 use Rattle.hourly.specs.Text.{Row, rowM, rowI, rowX, rowFrom, rowOf}
-
--- each of the two follows from the other
-abbrev pub Exactly : Type 0 → Type 0 → Type 0
-Exactly a b = (a → b) × (b → a)
 
 -- what is printed of an hour that lies in a hole or in none, has an H or has none, with the amounts of its D lines
 abbrev rowBy : Bool → Bool → List ℕ → Row
 rowBy hole on amounts = rowFrom (pick hole missing (pick on (measuredOrIdle amounts) missing)) amounts
 
 -- an hour prints I exactly if it lies in no hole, and the journal has its H and no D of it
-pub idle-exactly : (ls : List Line) (h : ℕ) → Exactly (rowOf ls h ≡ rowI) ((inHole h ls ≡ false) × (hasOn h ls ≡ true) × (amountsAt h ls ≡ []))
+pub idle-exactly : (w : Products) (ls : List Line) (h : ℕ) → Exactly (rowOf w ls h ≡ rowI) ((inHole h ls ≡ false) × (hasOn h ls ≡ true) × (amountsAt w h ls ≡ []))
 unfolding rowOf rowFrom hourOf measuredOrIdle pick
-idle-exactly ls h = (only (inHole h ls) (hasOn h ls) (amountsAt h ls), λ e. rw (e .0, e .1, e .2))
+idle-exactly w ls h = (only (inHole h ls) (hasOn h ls) (amountsAt w h ls), λ e. rw (e .0, e .1, e .2))
   where
     only : (hole on : Bool) (amounts : List ℕ) → rowBy hole on amounts ≡ rowI → (hole ≡ false) × (on ≡ true) × (amounts ≡ [])
     only true on amounts e = let z : _≡_ {A = ℕ} 0 1 = cc in absurd (omega arith)
@@ -37,9 +36,9 @@ idle-exactly ls h = (only (inHole h ls) (hasOn h ls) (amountsAt h ls), λ e. rw 
     only false false amounts e = let z : _≡_ {A = ℕ} 0 1 = cc in absurd (omega arith)
 
 -- X exactly if it lies in a hole or has no H of it
-pub missing-exactly : (ls : List Line) (h : ℕ) → Exactly (rowOf ls h ≡ rowX) ((inHole h ls ≡ true) ⊎ (hasOn h ls ≡ false))
+pub missing-exactly : (w : Products) (ls : List Line) (h : ℕ) → Exactly (rowOf w ls h ≡ rowX) ((inHole h ls ≡ true) ⊎ (hasOn h ls ≡ false))
 unfolding rowOf rowFrom hourOf measuredOrIdle pick
-missing-exactly ls h = (only (inHole h ls) (hasOn h ls) (amountsAt h ls), made (inHole h ls) (hasOn h ls) (amountsAt h ls))
+missing-exactly w ls h = (only (inHole h ls) (hasOn h ls) (amountsAt w h ls), made (inHole h ls) (hasOn h ls) (amountsAt w h ls))
   where
     only : (hole on : Bool) (amounts : List ℕ) → rowBy hole on amounts ≡ rowX → (hole ≡ true) ⊎ (on ≡ false)
     only true on amounts e = inl refl
@@ -57,9 +56,9 @@ abbrev pub measuredRow : List ℕ → Row
 measuredRow amounts = rowM (length amounts) (total amounts) (toBits binary64 (meanOf amounts))
 
 -- M, with the number of its doses, their sum and the mean's bits, exactly if it lies in no hole and has its H and a D of it
-pub measured-exactly : (ls : List Line) (h : ℕ) → Exactly (rowOf ls h ≡ measuredRow (amountsAt h ls)) ((inHole h ls ≡ false) × (hasOn h ls ≡ true) × (amountsAt h ls ≡ [] → ⊥))
+pub measured-exactly : (w : Products) (ls : List Line) (h : ℕ) → Exactly (rowOf w ls h ≡ measuredRow (amountsAt w h ls)) ((inHole h ls ≡ false) × (hasOn h ls ≡ true) × (amountsAt w h ls ≡ [] → ⊥))
 unfolding rowOf rowFrom hourOf measuredOrIdle pick
-measured-exactly ls h = (only (inHole h ls) (hasOn h ls) (amountsAt h ls), λ e. rw (e .0, e .1) (made (amountsAt h ls) (e .2)))
+measured-exactly w ls h = (only (inHole h ls) (hasOn h ls) (amountsAt w h ls), λ e. rw (e .0, e .1) (made (amountsAt w h ls) (e .2)))
   where
     only : (hole on : Bool) (amounts : List ℕ) → rowBy hole on amounts ≡ measuredRow amounts → (hole ≡ false) × (on ≡ true) × (amounts ≡ [] → ⊥)
     only true on amounts e = let z : _≡_ {A = ℕ} 0 1 = cc in absurd (omega arith)
@@ -72,9 +71,9 @@ measured-exactly ls h = (only (inHole h ls) (hasOn h ls) (amountsAt h ls), λ e.
     made (a ∷ as') f = refl
 
 -- an M is printed of no other hour, and with no other numbers
-pub measured-only : (ls : List Line) (h doses sum bits : ℕ) → rowOf ls h ≡ rowM doses sum bits → rowM doses sum bits ≡ measuredRow (amountsAt h ls)
+pub measured-only : (w : Products) (ls : List Line) (h doses sum bits : ℕ) → rowOf w ls h ≡ rowM doses sum bits → rowM doses sum bits ≡ measuredRow (amountsAt w h ls)
 unfolding rowOf rowFrom hourOf measuredOrIdle pick
-measured-only ls h doses sum bits = only (inHole h ls) (hasOn h ls) (amountsAt h ls)
+measured-only w ls h doses sum bits = only (inHole h ls) (hasOn h ls) (amountsAt w h ls)
   where
     only : (hole on : Bool) (amounts : List ℕ) → rowBy hole on amounts ≡ rowM doses sum bits → rowM doses sum bits ≡ measuredRow amounts
     only true on amounts e = let z : _≡_ {A = ℕ} 0 1 = cc in absurd (omega arith)
@@ -83,18 +82,18 @@ measured-only ls h doses sum bits = only (inHole h ls) (hasOn h ls) (amountsAt h
     only false false amounts e = let z : _≡_ {A = ℕ} 0 1 = cc in absurd (omega arith)
 
 -- no hour in a hole is measured or idle
-pub hole-missing : (ls : List Line) (h : ℕ) → inHole h ls ≡ true → hourOf ls h ≡ missing
+pub hole-missing : (w : Products) (ls : List Line) (h : ℕ) → inHole h ls ≡ true → hourOf w ls h ≡ missing
 unfolding hourOf
-hole-missing ls h e = pick-t (inHole h ls) missing _ e
+hole-missing w ls h e = pick-t (inHole h ls) missing _ e
 
 -- an hour in no hole is as document 01 has it
-pub hole-free : (ls : List Line) (h : ℕ) → inHole h ls ≡ false → hourOf ls h ≡ pick (hasOn h ls) (measuredOrIdle (amountsAt h ls)) missing
+pub hole-free : (w : Products) (ls : List Line) (h : ℕ) → inHole h ls ≡ false → hourOf w ls h ≡ pick (hasOn h ls) (measuredOrIdle (amountsAt w h ls)) missing
 unfolding hourOf
-hole-free ls h e = pick-f (inHole h ls) missing _ e
+hole-free w ls h e = pick-f (inHole h ls) missing _ e
 
 is-on : (h : ℕ) (l : Line) → isOn h l ≡ true → On h ≡ l
 unfolding isOn
-is-on h (Dose x c a s) e = false-true e
+is-on h (Dose x c a s p) e = false-true e
 is-on h (On x) e = ap On (sym (eqb-true x h e))
 
 on-member : (h : ℕ) (ls : List Line) → hasOn h ls ≡ true → List·Memᴰ (On h) ls
@@ -126,29 +125,36 @@ on-exactly ls h = (on-member h ls, member-on h ls)
 some : (a : ℕ) (x : List ℕ) → a ∷ x ≡ [] → ⊥
 some a x e = let z : _≡_ {A = ℕ} 0 1 = cc in omega arith
 
-none-member : (h : ℕ) (ls : List Line) → amountsAt h ls ≡ [] → (c a s : ℕ) → List·Memᴰ (Dose h c a s) ls → ⊥
+-- no D of hour h, of a product that is asked for, is among the lines
+abbrev pub NoDose : Products → ℕ → List Line → Type 0
+NoDose w h ls = (c a s p : ℕ) → asksFor w p ≡ true → List·Memᴰ (Dose h c a s p) ls → ⊥
+
+none-member : (w : Products) (h : ℕ) (ls : List Line) → amountsAt w h ls ≡ [] → NoDose w h ls
 unfolding amountsAt doseAt pick
-none-member h [] e c a s m = List·Memᴰ·not-nil m
-none-member h (l ∷ ls) e c a s m = go (List·Memᴰ·cases-cons m) (λ e. none-member h ls e c a s)
+none-member w h [] e c a s p q m = List·Memᴰ·not-nil m
+none-member w h (l ∷ ls) e c a s p q m = go (List·Memᴰ·cases-cons m) (λ e. none-member w h ls e c a s p q)
   where
     after : (d x : List ℕ) → d ++ x ≡ [] → x ≡ []
     after [] x e = e
     after (y ∷ ys) x e = absurd (some y (ys ++ x) e)
 
-    go : (Dose h c a s ≡ l) ⊎ List·Memᴰ (Dose h c a s) ls → (amountsAt h ls ≡ [] → List·Memᴰ (Dose h c a s) ls → ⊥) → ⊥
-    go (inl p) rest = some a (amountsAt h ls) (ap (λ (b : Bool). pick b (a ∷ []) [] ++ amountsAt h ls) (sym (eq-eqb h h refl)) ∙ ap (λ (k : Line). doseAt h k ++ amountsAt h ls) p ∙ e)
-    go (inr n) rest = rest (after (doseAt h l) (amountsAt h ls) e) n
+    asked : (asksFor w p && eqb h h) ≡ true
+    asked = ap (λ (b : Bool). b && eqb h h) q ∙ eq-eqb h h refl
 
-member-none : (h : ℕ) (ls : List Line) → ((c a s : ℕ) → List·Memᴰ (Dose h c a s) ls → ⊥) → amountsAt h ls ≡ []
+    go : (Dose h c a s p ≡ l) ⊎ List·Memᴰ (Dose h c a s p) ls → (amountsAt w h ls ≡ [] → List·Memᴰ (Dose h c a s p) ls → ⊥) → ⊥
+    go (inl t) rest = some a (amountsAt w h ls) (ap (λ (b : Bool). pick b (a ∷ []) [] ++ amountsAt w h ls) (sym asked) ∙ ap (λ (k : Line). doseAt w h k ++ amountsAt w h ls) t ∙ e)
+    go (inr n) rest = rest (after (doseAt w h l) (amountsAt w h ls) e) n
+
+member-none : (w : Products) (h : ℕ) (ls : List Line) → NoDose w h ls → amountsAt w h ls ≡ []
 unfolding amountsAt doseAt pick
-member-none h [] f = refl
-member-none h (Dose x c a s ∷ ls) f = go (eqb x h) refl (member-none h ls (λ c a s m. f c a s (List·Memᴰ·tail m)))
+member-none w h [] f = refl
+member-none w h (Dose x c a s p ∷ ls) f = go (asksFor w p && eqb x h) refl (member-none w h ls (λ c a s p q m. f c a s p q (List·Memᴰ·tail m)))
   where
-    go : (b : Bool) → eqb x h ≡ b → amountsAt h ls ≡ [] → pick b (a ∷ []) [] ++ amountsAt h ls ≡ []
-    go true p e = absurd (f c a s (List·Memᴰ·head (ap (λ (y : ℕ). Dose y c a s) (sym (eqb-true x h p)))))
-    go false p e = e
-member-none h (On x ∷ ls) f = member-none h ls (λ c a s m. f c a s (List·Memᴰ·tail m))
+    go : (b : Bool) → (asksFor w p && eqb x h) ≡ b → amountsAt w h ls ≡ [] → pick b (a ∷ []) [] ++ amountsAt w h ls ≡ []
+    go true t e = absurd (f c a s p (and-left _ _ t) (List·Memᴰ·head (ap (λ (y : ℕ). Dose y c a s p) (sym (eqb-true x h (and-right (asksFor w p) _ t))))))
+    go false t e = e
+member-none w h (On x ∷ ls) f = member-none w h ls (λ c a s p q m. f c a s p q (List·Memᴰ·tail m))
 
--- an hour has no amounts exactly if no D of it is a line of the journal
-pub none-exactly : (ls : List Line) (h : ℕ) → Exactly (amountsAt h ls ≡ []) ((c a s : ℕ) → List·Memᴰ (Dose h c a s) ls → ⊥)
-none-exactly ls h = (none-member h ls, member-none h ls)
+-- an hour has no amounts exactly if no D of it, of a product that is asked for, is a line of the journal
+pub none-exactly : (w : Products) (ls : List Line) (h : ℕ) → Exactly (amountsAt w h ls ≡ []) (NoDose w h ls)
+none-exactly w ls h = (none-member w h ls, member-none w h ls)

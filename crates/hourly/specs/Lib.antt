@@ -1,10 +1,8 @@
-pub mod Holes
 pub mod Hours
 pub mod Text
 pub mod Says
 pub mod Tally
 pub mod Contracts
-pub mod HoleLaws
 pub mod Kinds
 pub mod Accepted
 pub mod Bounds
@@ -13,3 +11,4 @@ pub mod Exact
 pub mod TallyLaws
 pub mod Refused
 pub mod Among
+pub mod ProductLaws

@@ -1,22 +1,21 @@
 -- What the pass keeps of each hour while it goes through the lines, and the hour's answer by it. Assumes nothing.
 use mathlib.Core.Path.{_≡_}
-use mathlib.Core.Bool.{Bool, true, false, _&&_, _||_}
+use mathlib.Core.Bool.{Bool, true, false}
 use mathlib.Core.List.{List, []}
-use Prim.Native.Nat.{ℕ, _+_, _-_, _≤_, _<_, max}
-use lib.Dec.{eqb, leb, ltb}
+use Prim.Native.Nat.{ℕ, _+_, _-_, _<_, max}
+use lib.Dec.{eqb, ltb}
 use lib.ListN.{length, getD, replicate}
 use lib.Ieee.{nan, binary64, add, div}
 use Rattle.laws.specs.Pick.{pick}
 use Rattle.paper.specs.Answer.{Answer, done, refused, fault}
-use Rattle.journal.specs.Journal.{journalOf, firstHour, lastHour, hourIn}
+use Rattle.journal.specs.Journal.{journalOf, firstHour, lastHour}
 use Rattle.journal.specs.declared.Line.{Line}
 use Rattle.journal.specs.declared.Line.the-variants.{Dose, On}
 use Rattle.journal.specs.declared.Past.{Past}
 use Rattle.journal.specs.declared.Refusal.{Refusal}
-use Rattle.hourly.specs.Hours.{HourAnswer, measured, idle, missing, amountsAt, hasOn, total, greatest, asF64}
-use Rattle.hourly.specs.Holes.{endsHole, inHole}
-use Rattle.hourly.specs.declared.Before.{Before}
-use Rattle.hourly.specs.declared.Before.the-variants.{At}
+use Rattle.hourly.specs.Hours.{HourAnswer, measured, idle, missing, asksFor, amountsAt, hasOn, total, greatest, asF64}
+use Rattle.holes.specs.Holes.{inHole}
+use Rattle.hourly.specs.declared.Products.{Products}
 use Rattle.hourly.specs.declared.Tally.{Tally}
 use Rattle.hourly.specs.declared.Summary.{Summary}
 use Rattle.hourly.specs.declared.Judged.the-variants as J
@@ -31,7 +30,7 @@ linesIn (fault n vs) = []
 unfoldable pub linesOf : List ℕ → List Line
 linesOf s = linesIn (journalOf s)
 
--- the number of the lines, and the hours of the first and the last
+-- the number of the lines with an hour, and the hours of the first and the last
 unfoldable pub summaryOf : List Line → Summary
 summaryOf ls = record { lines = length ls; first = firstHour ls; last = lastHour ls }
 
@@ -46,10 +45,10 @@ withDose t a = record { doses = t .doses + 1; sum = add binary64 (t .sum) (asF64
 unfoldable pub withOn : Tally → Tally
 withOn t = record { doses = t .doses; sum = t .sum; largest = t .largest; on = true; holed = t .holed }
 
--- one line more of the hour
-unfoldable pub counted : Tally → Line → Tally
-counted t (Dose h c a s) = withDose t a
-counted t (On h) = withOn t
+-- one line more of the hour: a dose counts if its product is asked for
+unfoldable pub counted : Products → Tally → Line → Tally
+counted w t (Dose h c a s p) = pick (asksFor w p) (withDose t a) t
+counted w t (On h) = withOn t
 
 -- the tally of an hour with these amounts, with or without an H, in a hole or not
 abbrev pub tallyBy : List ℕ → Bool → Bool → Tally
@@ -63,12 +62,12 @@ tallyBy amounts on holed =
     }
 
 -- what some lines tell of hour h
-unfoldable pub tallyOf : List Line → ℕ → Tally
-tallyOf ls h = tallyBy (amountsAt h ls) (hasOn h ls) (inHole h ls)
+unfoldable pub tallyOf : Products → List Line → ℕ → Tally
+tallyOf w ls h = tallyBy (amountsAt w h ls) (hasOn h ls) (inHole h ls)
 
 -- and while its holes are marked in a table of their own
-unfoldable pub unmarkedOf : List Line → ℕ → Tally
-unmarkedOf ls h = tallyBy (amountsAt h ls) (hasOn h ls) false
+unfoldable pub unmarkedOf : Products → List Line → ℕ → Tally
+unmarkedOf w ls h = tallyBy (amountsAt w h ls) (hasOn h ls) false
 
 unfoldable pub withHole : Tally → Bool → Tally
 withHole t holed = record { doses = t .doses; sum = t .sum; largest = t .largest; on = t .on; holed = holed }
@@ -78,35 +77,13 @@ abbrev pub outside : Tally
 outside = record { doses = 0; sum = nan; largest = 0; on = false; holed = false }
 
 -- a table of the 744 hours from `first` on
-pub record Tells (table : List Tally) (first : ℕ) (ls : List Line) : Type 0 where
+pub record Tells (w : Products) (table : List Tally) (first : ℕ) (ls : List Line) : Type 0 where
   pub size : length table ≡ 744
-  pub at : (k : ℕ) → k < 744 → getD table k outside ≡ tallyOf ls (first + k)
+  pub at : (k : ℕ) → k < 744 → getD table k outside ≡ tallyOf w ls (first + k)
 
-pub record Unmarked (table : List Tally) (first : ℕ) (ls : List Line) : Type 0 where
+pub record Unmarked (w : Products) (table : List Tally) (first : ℕ) (ls : List Line) : Type 0 where
   pub size : length table ≡ 744
-  pub at : (k : ℕ) → k < 744 → getD table k outside ≡ unmarkedOf ls (first + k)
-
--- the marks of the 744 hours from `first` on: those in a hole
-pub record Marks (holed : List Bool) (first : ℕ) (ls : List Line) : Type 0 where
-  pub size : length holed ≡ 744
-  pub at : (k : ℕ) → k < 744 → getD holed k false ≡ inHole (first + k) ls
-
--- the places from `from` to `to` marked too
-pub record Adds (old : List Bool) (from to : ℕ) (new : List Bool) : Type 0 where
-  pub size : length new ≡ length old
-  pub at : (k : ℕ) → k < length old → getD new k false ≡ (getD old k false || (leb from k && leb k to))
-
--- the line's hour, and that of the D line before it, have a place among these marks
-pub record Placed (holed : List Bool) (first : ℕ) (before : Before) (l : Line) : Type 0 where
-  pub size : length holed ≡ 744
-  pub low : first ≤ hourIn l
-  pub high : hourIn l - first < 744
-  pub earlier : (x c : ℕ) → before ≡ At x c → first ≤ x
-
--- the hours of the hole that a line ends marked too
-pub record AddsHole (old : List Bool) (first : ℕ) (before : Before) (l : Line) (new : List Bool) : Type 0 where
-  pub size : length new ≡ length old
-  pub at : (k : ℕ) → k < length old → getD new k false ≡ (getD old k false || endsHole (first + k) before l)
+  pub at : (k : ℕ) → k < 744 → getD table k outside ≡ unmarkedOf w ls (first + k)
 
 -- a table with the marks set in it
 pub record Sets (table : List Tally) (holed : List Bool) (new : List Tally) : Type 0 where

@@ -10,7 +10,8 @@ use Rattle.paper.specs.Answer.{done, told}
 use Rattle.journal.specs.Journal.{journalOf, firstHour, lastHour}
 use Rattle.journal.specs.declared.Line.{Line}
 use Rattle.hourly.specs.Hours.{HourAnswer, measured, idle, missing, amountsAt, hasOn, total, greatest, sumOf, largestOf, meanOf, measuredOrIdle, hourOf, asF64}
-use Rattle.hourly.specs.Holes.{inHole}
+use Rattle.holes.specs.Holes.{inHole}
+use Rattle.hourly.specs.declared.Products.{Products}
 use Rattle.hourly.specs.Accepted.{Accepted, accepted}
 use Rattle.hourly.specs.Tally.{tallyOf, hourFrom, Tells, linesIn, linesOf, summaryOf}
 use Rattle.hourly.specs.Contracts.{Counts, judged-lines}
@@ -18,9 +19,9 @@ use Rattle.hourly.specs.declared.Tallied.{Tallied}
 use Rattle.hourly.specs.declared.Summary.{Summary}
 
 -- the tally of an hour answers as the hour does
-pub hour-tally : (ls : List Line) (h : ℕ) → hourFrom (tallyOf ls h) ≡ hourOf ls h
+pub hour-tally : (w : Products) (ls : List Line) (h : ℕ) → hourFrom (tallyOf w ls h) ≡ hourOf w ls h
 unfolding hourFrom tallyOf hourOf measuredOrIdle sumOf largestOf meanOf pick
-hour-tally ls h = ap (λ (x : HourAnswer). pick (inHole h ls) missing (pick (hasOn h ls) x missing)) (go (amountsAt h ls))
+hour-tally w ls h = ap (λ (x : HourAnswer). pick (inHole h ls) missing (pick (hasOn h ls) x missing)) (go (amountsAt w h ls))
   where
     go : (amounts : List ℕ) → pick (eqb (length amounts) 0) idle (measured (asF64 (total amounts)) (asF64 (greatest amounts)) (div binary64 (asF64 (total amounts)) (asF64 (length amounts)))) ≡ measuredOrIdle amounts
     go [] = refl
@@ -52,5 +53,5 @@ pub found-accepted : {s : List ℕ} {found : Summary} → Found s found → Acce
 found-accepted {s} f = accepted s (linesOf s) (f .journal)
 
 -- the pass has counted those lines
-pub counts-tell : {s : List ℕ} {found : Summary} {t : Tallied} → Found s found → Counts s t → Tells (t .table) (found .first) (linesOf s)
-counts-tell {s} {t = t} f c = subst (λ (h : ℕ). Tells (t .table) h (linesOf s)) (f .first) (c .tells (linesOf s) (f .journal))
+pub counts-tell : {w : Products} {s : List ℕ} {found : Summary} {t : Tallied} → Found s found → Counts w s t → Tells w (t .table) (found .first) (linesOf s)
+counts-tell {w} {s} {t = t} f c = subst (λ (h : ℕ). Tells w (t .table) h (linesOf s)) (f .first) (c .tells (linesOf s) (f .journal))

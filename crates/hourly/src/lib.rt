@@ -1,4 +1,5 @@
 // The hours of a journal: one pass that counts its lines, and an hour's answer.
+use holes::Before;
 use journal::Line;
 use journal::Past;
 use journal::Refusal;
@@ -6,10 +7,10 @@ use text::Num;
 ghost use mathlib.Core.Path.{_≡_};
 ghost use mathlib.Core.Bool.{false};
 ghost use Prim.Native.Nat.{_-_, _<_, max};
-ghost use lib.ListN.{length, replicate};
-ghost use Rattle.hourly.specs.Holes.{follows, doseBefore};
+ghost use lib.ListN.{replicate};
+ghost use Rattle.hourly.specs.Hours.{asksFor};
 ghost use Rattle.hourly.specs.Says.{saysHour};
-ghost use Rattle.hourly.specs.Tally.{noTally, withDose, counted, Placed, Adds, AddsHole, Sets, acceptedAfter, refusedBy, hourAmong};
+ghost use Rattle.hourly.specs.Tally.{noTally, withDose, counted, Sets, acceptedAfter, refusedBy, hourAmong};
 ghost use Rattle.hourly.specs.Contracts.{Counts, AnswersTally, AnswersHour};
 
 // What a measured hour hands to the predictor: the sum and the largest amount, both exact, and the mean.
@@ -34,9 +35,6 @@ pub enum Asked {
 
 const LF: u8 = 10;
 
-// The count that 0 follows.
-const LAST_COUNT: u32 = 999999;
-
 // What the lines tell of one hour: the number of its doses, their sum, the largest amount, whether its H was there, and whether it lies in a hole.
 pub struct Tally {
     pub doses: u32,
@@ -46,13 +44,13 @@ pub struct Tally {
     pub holed: bool,
 }
 
-// The D line before the next line: none yet, or its hour and count.
-enum Before {
-    Nothing,
-    At(u32, u32),
+// Which doses are asked for: those of all products, or those of one.
+pub enum Products {
+    All,
+    One(u8),
 }
 
-// What an accepted journal holds: the number of its lines, and the hours of the first and the last.
+// What an accepted journal holds: the number of its lines with an hour, and the hours of the first and the last.
 pub struct Summary {
     pub lines: usize,
     pub first: u32,
@@ -108,10 +106,20 @@ fn with_dose(t: Tally, amount: u32) -> Tally
     }
 }
 
-// One line more of the hour.
-fn with_line(t: Tally, line: Line) -> Tally
+// Whether a dose of this product is asked for.
+fn asks_for(products: Products, product: u32) -> bool
+    ensures { λ r. ⌜ r ≡ asksFor products product ⌝ }
+{
+    match products {
+        Products::All => true,
+        Products::One(one) => product == one as u32,
+    }
+}
+
+// One line more of the hour: a dose counts if its product is asked for.
+fn with_line(products: Products, t: Tally, line: Line) -> Tally
     requires { ⌜ t .doses < 16384 ⌝ }
-    ensures { λ r. ⌜ r ≡ counted t line ⌝ }
+    ensures { λ r. ⌜ r ≡ counted products t line ⌝ }
 {
     match line {
         Line::Dose {
@@ -119,7 +127,13 @@ fn with_line(t: Tally, line: Line) -> Tally
             count: _,
             amount,
             settled: _,
-        } => with_dose(t, amount),
+            product,
+        } => {
+            if asks_for(products, product) {
+                return with_dose(t, amount);
+            }
+            t
+        }
         Line::On { hour: _ } => Tally { on: true, ..t },
     }
 }
@@ -129,72 +143,6 @@ fn no_holes() -> [bool; journal::SPAN]
     ensures { λ r. ⌜ r ≡ replicate 744 false ⌝ }
 {
     [false; journal::SPAN]
-}
-
-// Whether a count follows the one before it: by one, 0 after 999,999, or as a 1.
-fn in_turn(before: u32, count: u32) -> bool
-    ensures { λ r. ⌜ r ≡ follows before count ⌝ }
-{
-    if count == 1 {
-        return true;
-    }
-    if before == LAST_COUNT {
-        return count == 0;
-    }
-    if count == 0 {
-        return false;
-    }
-    count - 1 == before
-}
-
-// Marks the places from one to another, both included.
-fn mark(holed: &mut [bool], from: usize, to: usize)
-    requires { ⌜ to < length (now holed) ⌝ }
-    ensures { λ _. ⌜ Adds (now (holed .entry)) from to (now (holed .exit)) ⌝ }
-{
-    let mut k = from;
-    while k <= to {
-        holed[k] = true;
-        k += 1;
-    }
-}
-
-// Marks the hours of the hole that a line ends, if it is a D line whose count does not follow.
-fn mark_hole(holed: &mut [bool], first: u32, before: Before, line: Line)
-    requires { ⌜ Placed (now holed) first before line ⌝ }
-    ensures { λ _. ⌜ AddsHole (now (holed .entry)) first before line (now (holed .exit)) ⌝ }
-{
-    let Line::Dose {
-        hour,
-        count,
-        amount: _,
-        settled: _,
-    } = line
-    else {
-        return;
-    };
-    let Before::At(earlier, last) = before else {
-        return;
-    };
-    if in_turn(last, count) {
-        return;
-    }
-    mark(holed, (earlier - first) as usize, (hour - first) as usize);
-}
-
-// The D line before the line that comes after this one.
-fn before_next(before: Before, line: Line) -> Before
-    ensures { λ r. ⌜ r ≡ doseBefore before line ⌝ }
-{
-    match line {
-        Line::Dose {
-            hour,
-            count,
-            amount: _,
-            settled: _,
-        } => Before::At(hour, count),
-        Line::On { hour: _ } => before,
-    }
 }
 
 // The tallies with the marks set in them.
@@ -239,9 +187,9 @@ fn accepted(lines: usize, past: Past, table: [Tally; journal::SPAN]) -> Tallied
     }
 }
 
-// A whole journal in one pass: R13, then line by line R10, R11, R12; each line that is taken is counted at its hour, and the hours of the hole that it ends are marked.
-pub fn tallies(bytes: &[u8]) -> Tallied
-    ensures { λ r. ⌜ Counts (now (bytes .entry)) r ⌝ }
+// A whole journal of either form in one pass: R13, then line by line R10, R11, R12; each line that is taken is counted at its hour, if it is no dose of a product that is not asked for, and the hours of the hole that it ends are marked.
+pub fn tallies(bytes: &[u8], products: Products) -> Tallied
+    ensures { λ r. ⌜ Counts products (now (bytes .entry)) r ⌝ }
 {
     let size = bytes.len();
     if size > journal::ROOM {
@@ -251,14 +199,16 @@ pub fn tallies(bytes: &[u8]) -> Tallied
     let mut holed = no_holes();
     let mut last = Before::Nothing;
     let mut past = journal::no_past();
-    let mut at: usize = 0;
+    let head = journal::head_of(bytes);
+    let form = head.form;
+    let mut at = head.bytes;
     let mut lines: usize = 0;
     'lines: loop {
         if at >= size {
             break 'lines accepted(lines, past, with_holes(table, holed));
         }
-        let number = lines + 1;
-        let fields = journal::fields_after(bytes[at]);
+        let number = head.lines + lines + 1;
+        let fields = journal::fields_after(form, bytes[at]);
         if fields == 0 {
             break 'lines refused(Refusal::R10(number));
         }
@@ -287,11 +237,11 @@ pub fn tallies(bytes: &[u8]) -> Tallied
         past = journal::past_after(past, line);
         let place = (hour - past.first) as usize;
         let tally = table[place];
-        table[place] = with_line(tally, line);
-        mark_hole(&mut holed, past.first, last, line);
-        last = before_next(last, line);
+        table[place] = with_line(products, tally, line);
+        holes::mark_hole(&mut holed, past.first, last, line);
+        last = holes::before_next(last, line);
         at = p + 1;
-        lines = number;
+        lines += 1;
     }
 }
 
@@ -332,10 +282,10 @@ fn hour_among(table: [Tally; journal::SPAN], found: Summary, hour: u32) -> Hour
 }
 
 // The hour of a journal, or the journal's refusal.
-pub fn hour_of(bytes: &[u8], hour: u32) -> Asked
-    ensures { λ r. ⌜ AnswersHour (now (bytes .entry)) hour r ⌝ }
+pub fn hour_of(bytes: &[u8], products: Products, hour: u32) -> Asked
+    ensures { λ r. ⌜ AnswersHour products (now (bytes .entry)) hour r ⌝ }
 {
-    let counted = tallies(bytes);
+    let counted = tallies(bytes, products);
     let table = counted.table;
     let judged = counted.judged;
     match judged {

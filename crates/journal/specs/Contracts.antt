@@ -6,7 +6,10 @@ use Prim.Native.Nat.{ℕ}
 use Rattle.paper.specs.Answer.{same}
 use Rattle.journal.specs.Line.{oneLine, lineAt}
 use Rattle.journal.specs.Fields.{fieldsAfter, lineFrom}
-use Rattle.journal.specs.Journal.{hourIn, noPast, pastAfter, outOfOrder, tooFar}
+use Rattle.journal.specs.Journal.{hourIn, noPast, pastAfter, outOfOrder, tooFar, formOf}
+use Rattle.journal.specs.JournalLaws.{headBytes, headLines}
+use Rattle.journal.specs.declared.Form.{Form}
+use Rattle.journal.specs.declared.Head.{Head}
 use Rattle.journal.specs.Says.{saysOne, saysAt, namesOf, one-one, at-one}
 use Rattle.journal.specs.declared.Line.{Line}
 use Rattle.journal.specs.declared.One.{One}
@@ -15,26 +18,33 @@ use Rattle.journal.specs.declared.Refusal.{Refusal}
 use Rattle.journal.specs.declared.Named.{Named}
 use Rattle.journal.specs.declared.Past.{Past}
 
--- line_at: the line that stands at a place, and the place after it
-abbrev pub StandsAt : List ℕ → ℕ → At → Type 0
-StandsAt s at r = saysAt r ≡ lineAt s at
+-- head_of: the form, and the bytes and lines before the first line with an hour
+abbrev pub Heads : List ℕ → Head → Type 0
+Heads s r = r ≡ record { form = formOf s; bytes = headBytes (formOf s); lines = headLines (formOf s) }
 
-pub line-at-determined : (s : List ℕ) (at : ℕ) (a b : At) → StandsAt s at a → StandsAt s at b → a ≡ b
-line-at-determined s at a b p q = at-one a b (same p q)
+pub head-of-determined : (s : List ℕ) (a b : Head) → Heads s a → Heads s b → a ≡ b
+head-of-determined s a b p q = same p q
+
+-- line_at: the line with an hour that stands at a place, and the place after it
+abbrev pub StandsAt : Form → List ℕ → ℕ → At → Type 0
+StandsAt f s at r = saysAt r ≡ lineAt f s at
+
+pub line-at-determined : (f : Form) (s : List ℕ) (at : ℕ) (a b : At) → StandsAt f s at a → StandsAt f s at b → a ≡ b
+line-at-determined f s at a b p q = at-one a b (same p q)
 
 -- read_line: the line that the bytes are, or R10
-abbrev pub ReadsLine : List ℕ → One → Type 0
-ReadsLine s r = saysOne r ≡ oneLine s
+abbrev pub ReadsLine : Form → List ℕ → One → Type 0
+ReadsLine f s r = saysOne r ≡ oneLine f s
 
-pub read-line-determined : (s : List ℕ) (a b : One) → ReadsLine s a → ReadsLine s b → a ≡ b
-read-line-determined s a b p q = one-one a b (same p q)
+pub read-line-determined : (f : Form) (s : List ℕ) (a b : One) → ReadsLine f s a → ReadsLine f s b → a ≡ b
+read-line-determined f s a b p q = one-one a b (same p q)
 
 -- fields_after: how many fields follow a letter
-abbrev pub CountsFields : ℕ → ℕ → Type 0
-CountsFields letter r = r ≡ fieldsAfter letter
+abbrev pub CountsFields : Form → ℕ → ℕ → Type 0
+CountsFields f letter r = r ≡ fieldsAfter f letter
 
-pub fields-after-determined : (letter a b : ℕ) → CountsFields letter a → CountsFields letter b → a ≡ b
-fields-after-determined letter a b p q = same p q
+pub fields-after-determined : (f : Form) (letter a b : ℕ) → CountsFields f letter a → CountsFields f letter b → a ≡ b
+fields-after-determined f letter a b p q = same p q
 
 -- line_from: the line of n fields
 abbrev pub MakesLine : ℕ → List ℕ → Line → Type 0

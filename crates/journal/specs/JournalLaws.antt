@@ -7,72 +7,113 @@ use native.Mathlib.Nat.{le-refl}
 use native.Mathlib.Omega.{arith}
 use native.Mathlib.Numerals.{add-one}
 use native.Mathlib.Decide.{decLt}
-use lib.ListN.{length, length-append}
+use lib.ListN.{length, drop, length-append, length-drop}
 use borrow.Author.Tests.{lt-ltb, le-ltb}
 use Rattle.laws.specs.Pick.{pick, pick-t, pick-f, pick-true, pick-false, pick-map}
 use Rattle.laws.specs.Decimal.{Parsed, good, bad}
 use Rattle.paper.specs.Answer.{Answer, done, refused, fault, told}
 use Rattle.paper.specs.AnswerLaws.{refused-done, fault-done}
 use Rattle.paper.specs.Numbers.{R10, R11, R12, R13}
-use Rattle.journal.specs.Line.{textOf, inRange, lineOf}
+use Rattle.journal.specs.Line.{versionText, textOf, inRange, lineOf, versioned}
 use Rattle.journal.specs.LineLaws.{text-only, text-least, line-shorter, dose-range, on-range}
-use Rattle.journal.specs.Journal.{hourIn, outOfOrder, tooFar, noPast, pastAfter, ordered, onLine, readFrom, journalOf, journalText}
+use Rattle.journal.specs.Singles.{versioned-text, versioned-long, text-versioned, text-no-version, empty-no-version}
+use Rattle.journal.specs.Journal.{hourIn, outOfOrder, tooFar, noPast, pastAfter, ordered, onLine, readFrom, formOf, bodyOf, journalOf, linesText, headText, journalText}
+use Rattle.journal.specs.declared.Form.{Form}
+use Rattle.journal.specs.declared.Form.the-variants.{Old, New}
 use Rattle.journal.specs.declared.Line.{Line}
 use Rattle.journal.specs.declared.Line.the-variants.{Dose, On}
 use Rattle.journal.specs.declared.Past.{Past}
 
--- what follows a line, with f as the bound on the number of lines
-abbrev next-line : (f : ℕ) (p : Past) (n : ℕ) (l : Line) (rest : List ℕ) → Answer (List Line)
-next-line f p n l rest = ordered p l n (told (λ (ls : List Line). l ∷ ls) (readFrom f (pastAfter p l) (suc n) rest))
+-- what follows a line, with b as the bound on the number of lines
+abbrev next-line : (f : Form) (b : ℕ) (p : Past) (n : ℕ) (l : Line) (rest : List ℕ) → Answer (List Line)
+next-line f b p n l rest = ordered p l n (told (λ (ls : List Line). l ∷ ls) (readFrom f b (pastAfter p l) (suc n) rest))
 
 -- the bound does not matter where it is at least the number of bytes
-pub read-enough : (f g : ℕ) (p : Past) (n : ℕ) (l : List ℕ) → length l ≤ f → length l ≤ g → readFrom f p n l ≡ readFrom g p n l
+pub read-enough : (f : Form) (b c : ℕ) (p : Past) (n : ℕ) (l : List ℕ) → length l ≤ b → length l ≤ c → readFrom f b p n l ≡ readFrom f c p n l
 unfolding readFrom onLine
-read-enough zero zero p n l h k = refl
-read-enough zero (suc g) p n [] h k = refl
-read-enough zero (suc g) p n (b ∷ bs) h k = absurd (omega arith)
-read-enough (suc f) zero p n [] h k = refl
-read-enough (suc f) zero p n (b ∷ bs) h k = absurd (omega arith)
-read-enough (suc f) (suc g) p n [] h k = refl
-read-enough (suc f) (suc g) p n (b ∷ bs) h k = go (λ q m r x y. read-enough f g q m r x y) (lineOf (b ∷ bs)) refl
+read-enough f zero zero p n l h k = refl
+read-enough f zero (suc c) p n [] h k = refl
+read-enough f zero (suc c) p n (x ∷ xs) h k = absurd (omega arith)
+read-enough f (suc b) zero p n [] h k = refl
+read-enough f (suc b) zero p n (x ∷ xs) h k = absurd (omega arith)
+read-enough f (suc b) (suc c) p n [] h k = refl
+read-enough f (suc b) (suc c) p n (x ∷ xs) h k = go (λ q m r i j. read-enough f b c q m r i j) (lineOf f (x ∷ xs)) refl
   where
-    go : ((q : Past) (m : ℕ) (r : List ℕ) → length r ≤ f → length r ≤ g → readFrom f q m r ≡ readFrom g q m r)
-        → (q : Parsed Line) → lineOf (b ∷ bs) ≡ q → onLine n q (next-line f p n) ≡ onLine n q (next-line g p n)
+    go : ((q : Past) (m : ℕ) (r : List ℕ) → length r ≤ b → length r ≤ c → readFrom f b q m r ≡ readFrom f c q m r)
+        → (q : Parsed Line) → lineOf f (x ∷ xs) ≡ q → onLine n q (next-line f b p n) ≡ onLine n q (next-line f c p n)
     go again (good l rest) e =
-        let s = line-shorter (b ∷ bs) l rest e in
+        let s = line-shorter f (x ∷ xs) l rest e in
         ap (λ (a : Answer (List Line)). ordered p l n (told (λ (ls : List Line). l ∷ ls) a)) (again (pastAfter p l) (suc n) rest (omega arith) (omega arith))
     go again bad e = refl
 
 -- the lines from line n on
-unfoldable pub linesFrom : Past → ℕ → List ℕ → Answer (List Line)
-linesFrom p n l = readFrom (length l) p n l
+unfoldable pub linesFrom : Form → Past → ℕ → List ℕ → Answer (List Line)
+linesFrom f p n l = readFrom f (length l) p n l
 
-pub lines-none : (p : Past) (n : ℕ) → linesFrom p n [] ≡ done []
+pub lines-none : (f : Form) (p : Past) (n : ℕ) → linesFrom f p n [] ≡ done []
 unfolding linesFrom readFrom
-lines-none p n = refl
+lines-none f p n = refl
 
-pub lines-bad : (p : Past) (n : ℕ) (l : List ℕ) → 0 < length l → lineOf l ≡ bad → linesFrom p n l ≡ refused R10 (n ∷ [])
+pub lines-bad : (f : Form) (p : Past) (n : ℕ) (l : List ℕ) → 0 < length l → lineOf f l ≡ bad → linesFrom f p n l ≡ refused R10 (n ∷ [])
 unfolding linesFrom readFrom onLine
-lines-bad p n [] h e = absurd (omega arith)
-lines-bad p n (b ∷ bs) h e = rw e
+lines-bad f p n [] h e = absurd (omega arith)
+lines-bad f p n (b ∷ bs) h e = rw e
 
-pub lines-good : (p : Past) (n : ℕ) (l : List ℕ) (x : Line) (rest : List ℕ) → lineOf l ≡ good x rest
-    → linesFrom p n l ≡ ordered p x n (told (λ (ls : List Line). x ∷ ls) (linesFrom (pastAfter p x) (suc n) rest))
+pub lines-good : (f : Form) (p : Past) (n : ℕ) (l : List ℕ) (x : Line) (rest : List ℕ) → lineOf f l ≡ good x rest
+    → linesFrom f p n l ≡ ordered p x n (told (λ (ls : List Line). x ∷ ls) (linesFrom f (pastAfter p x) (suc n) rest))
 unfolding linesFrom readFrom onLine
-lines-good p n [] x rest e = absurd (omega (arith, line-shorter [] x rest e))
-lines-good p n (b ∷ bs) x rest e =
-    let s = line-shorter (b ∷ bs) x rest e in
-    ap (λ (q : Parsed Line). onLine n q (next-line (length bs) p n)) e
-    ∙ ap (λ (a : Answer (List Line)). ordered p x n (told (λ (ls : List Line). x ∷ ls) a)) (read-enough (length bs) (length rest) (pastAfter p x) (suc n) rest (omega arith) (omega arith))
+lines-good f p n [] x rest e = absurd (omega (arith, line-shorter f [] x rest e))
+lines-good f p n (b ∷ bs) x rest e =
+    let s = line-shorter f (b ∷ bs) x rest e in
+    ap (λ (q : Parsed Line). onLine n q (next-line f (length bs) p n)) e
+    ∙ ap (λ (a : Answer (List Line)). ordered p x n (told (λ (ls : List Line). x ∷ ls) a)) (read-enough f (length bs) (length rest) (pastAfter p x) (suc n) rest (omega arith) (omega arith))
+
+-- what stands before the first line with an hour: so many lines and bytes
+unfoldable pub headLines : Form → ℕ
+headLines Old = 0
+headLines New = 1
+
+unfoldable pub headBytes : Form → ℕ
+headBytes Old = 0
+headBytes New = 4
+
+-- one line at most
+pub head-few : (f : Form) → headLines f ≤ 1
+unfolding headLines
+head-few Old = omega arith
+head-few New = omega arith
+
+body-lines : (f : Form) (s : List ℕ) → bodyOf f s ≡ linesFrom f noPast (headLines f + 1) (drop (headBytes f) s)
+unfolding bodyOf linesFrom headLines headBytes
+body-lines Old s = refl
+body-lines New s = read-enough New (length s) (length (drop 4 s)) noPast 2 (drop 4 s) (rw (length-drop 4 s) (omega arith)) (le-refl _)
 
 -- R13, then line by line
-pub journal-lines : (s : List ℕ) → length s ≤ 65536 → journalOf s ≡ linesFrom noPast 1 s
-unfolding journalOf linesFrom
-journal-lines s h = pick-f _ _ _ (le-ltb 65536 (length s) h)
+pub journal-lines : (s : List ℕ) → length s ≤ 65536 → journalOf s ≡ linesFrom (formOf s) noPast (headLines (formOf s) + 1) (drop (headBytes (formOf s)) s)
+unfolding journalOf
+journal-lines s h = pick-f _ _ _ (le-ltb 65536 (length s) h) ∙ body-lines (formOf s) s
 
 pub journal-long : (s : List ℕ) → 65536 < length s → journalOf s ≡ refused R13 []
 unfolding journalOf
 journal-long s h = pick-t _ _ _ (lt-ltb 65536 (length s) h)
+
+-- what stands before the first line with an hour is among the bytes
+pub head-inside : (s : List ℕ) → headBytes (formOf s) ≤ length s
+unfolding formOf headBytes pick
+head-inside s = go (versioned s) refl
+  where
+    go : (b : Bool) → versioned s ≡ b → headBytes (pick b New Old) ≤ length s
+    go true e = versioned-long s e
+    go false e = omega arith
+
+-- and is the text that a journal of its form begins with
+pub head-text : (s : List ℕ) → s ≡ headText (formOf s) ++ drop (headBytes (formOf s)) s
+unfolding formOf headText headBytes pick
+head-text s = go (versioned s) refl
+  where
+    go : (b : Bool) → versioned s ≡ b → s ≡ headText (pick b New Old) ++ drop (headBytes (pick b New Old)) s
+    go true e = versioned-text s e
+    go false e = refl
 
 -- ---- what is told of the lines from line n on
 
@@ -96,24 +137,24 @@ told-ordered f p l n a =
     pick-map (told f) late (refused R11 (n ∷ [])) (pick far (refused R12 (n ∷ [])) a)
     ∙ ap (pick late (refused R11 (n ∷ []))) (pick-map (told f) far (refused R12 (n ∷ [])) a)
 
-pub told-none : {X : Type 0} (f : List Line → X) (p : Past) (n : ℕ) → told f (linesFrom p n []) ≡ done (f [])
+pub told-none : {X : Type 0} (f : Form) (g : List Line → X) (p : Past) (n : ℕ) → told g (linesFrom f p n []) ≡ done (g [])
 unfolding told
-told-none f p n = ap (told f) (lines-none p n)
+told-none f g p n = ap (told g) (lines-none f p n)
 
-pub told-bad : {X : Type 0} (f : List Line → X) (p : Past) (n : ℕ) (l : List ℕ) → 0 < length l → lineOf l ≡ bad → told f (linesFrom p n l) ≡ refused R10 (n ∷ [])
+pub told-bad : {X : Type 0} (f : Form) (g : List Line → X) (p : Past) (n : ℕ) (l : List ℕ) → 0 < length l → lineOf f l ≡ bad → told g (linesFrom f p n l) ≡ refused R10 (n ∷ [])
 unfolding told
-told-bad f p n l h e = ap (told f) (lines-bad p n l h e)
+told-bad f g p n l h e = ap (told g) (lines-bad f p n l h e)
 
--- after a line, what f tells of it and the others is what g tells of the others
-pub told-good : {X : Type 0} (f g : List Line → X) (p : Past) (n : ℕ) (l : List ℕ) (x : Line) (rest : List ℕ) → lineOf l ≡ good x rest → ((ls : List Line) → f (x ∷ ls) ≡ g ls)
-    → told f (linesFrom p n l) ≡ ordered p x n (told g (linesFrom (pastAfter p x) (n + 1) rest))
-told-good f g p n l x rest e h =
-    let more = linesFrom (pastAfter p x) (suc n) rest in
-    ap (told f) (lines-good p n l x rest e)
-    ∙ told-ordered f p x n (told (λ (ls : List Line). x ∷ ls) more)
-    ∙ ap (ordered p x n) (told-told f (λ (ls : List Line). x ∷ ls) more
-    ∙ told-same (λ (ls : List Line). f (x ∷ ls)) g more h
-    ∙ ap (λ (m : ℕ). told g (linesFrom (pastAfter p x) m rest)) (sym (add-one n)))
+-- after a line, what g tells of it and the others is what k tells of the others
+pub told-good : {X : Type 0} (f : Form) (g k : List Line → X) (p : Past) (n : ℕ) (l : List ℕ) (x : Line) (rest : List ℕ) → lineOf f l ≡ good x rest → ((ls : List Line) → g (x ∷ ls) ≡ k ls)
+    → told g (linesFrom f p n l) ≡ ordered p x n (told k (linesFrom f (pastAfter p x) (n + 1) rest))
+told-good f g k p n l x rest e h =
+    let more = linesFrom f (pastAfter p x) (suc n) rest in
+    ap (told g) (lines-good f p n l x rest e)
+    ∙ told-ordered g p x n (told (λ (ls : List Line). x ∷ ls) more)
+    ∙ ap (ordered p x n) (told-told g (λ (ls : List Line). x ∷ ls) more
+    ∙ told-same (λ (ls : List Line). g (x ∷ ls)) k more h
+    ∙ ap (λ (m : ℕ). told k (linesFrom f (pastAfter p x) m rest)) (sym (add-one n)))
 
 -- a line against those before it
 pub order-broken : {X : Type 0} (p : Past) (l : Line) (n : ℕ) (a : Answer X) → (p .begun && outOfOrder (p .last) (p .closed) (hourIn l)) ≡ true → ordered p l n a ≡ refused R11 (n ∷ [])
@@ -135,10 +176,10 @@ pub record Keeps (p : Past) (l : Line) : Type 0 where
   pub order : (p .begun && outOfOrder (p .last) (p .closed) (hourIn l)) ≡ false
   pub near : (p .begun && tooFar (p .first) (hourIn l)) ≡ false
 
--- the bytes s hold the lines ls, after lines that leave p
-pub data Reads : Past → List ℕ → List Line → Type 0 where
-  none : {p : Past} → Reads p [] []
-  more : {p : Past} {s rest : List ℕ} {l : Line} {ls : List Line} → lineOf s ≡ good l rest → Keeps p l → Reads (pastAfter p l) rest ls → Reads p s (l ∷ ls)
+-- the bytes s hold the lines ls, all of one form, after lines that leave p
+pub data Reads (f : Form) : Past → List ℕ → List Line → Type 0 where
+  none : {p : Past} → Reads f p [] []
+  more : {p : Past} {s rest : List ℕ} {l : Line} {ls : List Line} → lineOf f s ≡ good l rest → Keeps p l → Reads f (pastAfter p l) rest ls → Reads f p s (l ∷ ls)
 
 kept : (p : Past) (l : Line) (n : ℕ) (a : Answer (List Line)) (ls : List Line) → ordered p l n a ≡ done ls → Keeps p l × (a ≡ done ls)
 unfolding ordered
@@ -156,29 +197,29 @@ told-done l (done ms) ls e = (ms, refl, cc)
 told-done l (refused n vs) ls e = refused-done e
 told-done l (fault n vs) ls e = fault-done e
 
-reads-none : (p : Past) (n : ℕ) (ls : List Line) → linesFrom p n [] ≡ done ls → Reads p [] ls
-reads-none p n ls e = let q : [] ≡ ls = cc (lines-none p n) in subst (λ (ms : List Line). Reads p [] ms) q none
+reads-none : (f : Form) (p : Past) (n : ℕ) (ls : List Line) → linesFrom f p n [] ≡ done ls → Reads f p [] ls
+reads-none f p n ls e = let q : [] ≡ ls = cc (lines-none f p n) in subst (λ (ms : List Line). Reads f p [] ms) q none
 
 -- bytes are read as lines exactly if they hold them
-pub lines-reads : (f : ℕ) (p : Past) (n : ℕ) (s : List ℕ) (ls : List Line) → length s ≤ f → linesFrom p n s ≡ done ls → Reads p s ls
-lines-reads zero p n [] ls h e = reads-none p n ls e
-lines-reads zero p n (b ∷ bs) ls h e = absurd (omega arith)
-lines-reads (suc f) p n [] ls h e = reads-none p n ls e
-lines-reads (suc f) p n (b ∷ bs) ls h e = go (λ q m r ms k d. lines-reads f q m r ms k d) (lineOf (b ∷ bs)) refl
+pub lines-reads : (f : Form) (b : ℕ) (p : Past) (n : ℕ) (s : List ℕ) (ls : List Line) → length s ≤ b → linesFrom f p n s ≡ done ls → Reads f p s ls
+lines-reads f zero p n [] ls h e = reads-none f p n ls e
+lines-reads f zero p n (x ∷ xs) ls h e = absurd (omega arith)
+lines-reads f (suc b) p n [] ls h e = reads-none f p n ls e
+lines-reads f (suc b) p n (x ∷ xs) ls h e = go (λ q m r ms k d. lines-reads f b q m r ms k d) (lineOf f (x ∷ xs)) refl
   where
-    go : ((q : Past) (m : ℕ) (r : List ℕ) (ms : List Line) → length r ≤ f → linesFrom q m r ≡ done ms → Reads q r ms) → (q : Parsed Line) → lineOf (b ∷ bs) ≡ q → Reads p (b ∷ bs) ls
+    go : ((q : Past) (m : ℕ) (r : List ℕ) (ms : List Line) → length r ≤ b → linesFrom f q m r ≡ done ms → Reads f q r ms) → (q : Parsed Line) → lineOf f (x ∷ xs) ≡ q → Reads f p (x ∷ xs) ls
     go again (good l rest) q =
-        let k = kept p l n _ ls (sym (lines-good p n (b ∷ bs) l rest q) ∙ e) in
-        let t = told-done l (linesFrom (pastAfter p l) (suc n) rest) ls (k .1) in
-        let s = line-shorter (b ∷ bs) l rest q in
-        subst (λ (ms : List Line). Reads p (b ∷ bs) ms) (sym (t .2)) (more q (k .0) (again (pastAfter p l) (suc n) rest (t .0) (omega arith) (t .1)))
-    go again bad q = refused-done (sym (lines-bad p n (b ∷ bs) (omega arith) q) ∙ e)
+        let k = kept p l n _ ls (sym (lines-good f p n (x ∷ xs) l rest q) ∙ e) in
+        let t = told-done l (linesFrom f (pastAfter p l) (suc n) rest) ls (k .1) in
+        let s = line-shorter f (x ∷ xs) l rest q in
+        subst (λ (ms : List Line). Reads f p (x ∷ xs) ms) (sym (t .2)) (more q (k .0) (again (pastAfter p l) (suc n) rest (t .0) (omega arith) (t .1)))
+    go again bad q = refused-done (sym (lines-bad f p n (x ∷ xs) (omega arith) q) ∙ e)
 
-pub reads-lines : {p : Past} {s : List ℕ} {ls : List Line} (n : ℕ) → Reads p s ls → linesFrom p n s ≡ done ls
+pub reads-lines : {f : Form} {p : Past} {s : List ℕ} {ls : List Line} (n : ℕ) → Reads f p s ls → linesFrom f p n s ≡ done ls
 unfolding ordered told
-reads-lines {p} n none = lines-none p n
-reads-lines {p} {s} n (more {rest = rest} {l = l} {ls = ls} e k r) =
-    lines-good p n s l rest e ∙ pick-f _ _ _ (k .order) ∙ pick-f _ _ _ (k .near) ∙ ap (told (λ (ms : List Line). l ∷ ms)) (reads-lines (suc n) r)
+reads-lines {f} {p} n none = lines-none f p n
+reads-lines {f} {p} {s} n (more {rest = rest} {l = l} {ls = ls} e k r) =
+    lines-good f p n s l rest e ∙ pick-f _ _ _ (k .order) ∙ pick-f _ _ _ (k .near) ∙ ap (told (λ (ms : List Line). l ∷ ms)) (reads-lines (suc n) r)
 
 pub journal-short : (s : List ℕ) (ls : List Line) → journalOf s ≡ done ls → length s ≤ 65536
 journal-short s ls e =
@@ -187,11 +228,14 @@ journal-short s ls e =
       | no h ↦ omega arith
     ]
 
-pub journal-reads : (s : List ℕ) (ls : List Line) → journalOf s ≡ done ls → Reads noPast s ls
-journal-reads s ls e = lines-reads (length s) noPast 1 s ls (le-refl (length s)) (sym (journal-lines s (journal-short s ls e)) ∙ e)
+-- a journal is read as lines exactly if it is not too long and they stand behind what it begins with
+pub journal-reads : (s : List ℕ) (ls : List Line) → journalOf s ≡ done ls → Reads (formOf s) noPast (drop (headBytes (formOf s)) s) ls
+journal-reads s ls e =
+    let body = drop (headBytes (formOf s)) s in
+    lines-reads (formOf s) (length body) noPast (headLines (formOf s) + 1) body ls (le-refl (length body)) (sym (journal-lines s (journal-short s ls e)) ∙ e)
 
-pub reads-journal : (s : List ℕ) (ls : List Line) → length s ≤ 65536 → Reads noPast s ls → journalOf s ≡ done ls
-reads-journal s ls h r = journal-lines s h ∙ reads-lines 1 r
+pub reads-journal : (s : List ℕ) (ls : List Line) → length s ≤ 65536 → Reads (formOf s) noPast (drop (headBytes (formOf s)) s) ls → journalOf s ≡ done ls
+reads-journal s ls h r = journal-lines s h ∙ reads-lines (headLines (formOf s) + 1) r
 
 -- a rule holds of each line
 abbrev pub Each : (Line → Type 0) → List Line → Type 0
@@ -203,31 +247,49 @@ each-map [] f e = tt
 each-map (l ∷ ls) f e = (f l (e .0), each-map ls f (e .1))
 
 -- the bytes are the lines' text
-reads-text : {p : Past} {s : List ℕ} {ls : List Line} → Reads p s ls → s ≡ journalText ls
-unfolding journalText
+reads-text : {f : Form} {p : Past} {s : List ℕ} {ls : List Line} → Reads f p s ls → s ≡ linesText f ls
+unfolding linesText
 reads-text none = refl
-reads-text {p} {s} (more {rest = rest} {l = l} e k r) = text-only s l rest e .text ∙ ap (λ (t : List ℕ). textOf l ++ t) (reads-text r)
+reads-text {f} {p} {s} (more {rest = rest} {l = l} e k r) = text-only f s l rest e .text ∙ ap (λ (t : List ℕ). textOf f l ++ t) (reads-text r)
 
-reads-range : {p : Past} {s : List ℕ} {ls : List Line} → Reads p s ls → Each (λ l. inRange l ≡ true) ls
+reads-range : {f : Form} {p : Past} {s : List ℕ} {ls : List Line} → Reads f p s ls → Each (λ l. inRange f l ≡ true) ls
 reads-range none = tt
-reads-range {p} {s} (more {rest = rest} {l = l} e k r) = (text-only s l rest e .range, reads-range r)
+reads-range {f} {p} {s} (more {rest = rest} {l = l} e k r) = (text-only f s l rest e .range, reads-range r)
 
-pub journal-text : (s : List ℕ) (ls : List Line) → journalOf s ≡ done ls → s ≡ journalText ls
-journal-text s ls e = reads-text (journal-reads s ls e)
+pub journal-text : (s : List ℕ) (ls : List Line) → journalOf s ≡ done ls → s ≡ journalText (formOf s) ls
+unfolding journalText
+journal-text s ls e = head-text s ∙ ap (λ (t : List ℕ). headText (formOf s) ++ t) (reads-text (journal-reads s ls e))
 
-pub journal-range : (s : List ℕ) (ls : List Line) → journalOf s ≡ done ls → Each (λ l. inRange l ≡ true) ls
+pub journal-range : (s : List ℕ) (ls : List Line) → journalOf s ≡ done ls → Each (λ l. inRange (formOf s) l ≡ true) ls
 journal-range s ls e = reads-range (journal-reads s ls e)
 
-pub hour-range : (l : Line) → inRange l ≡ true → hourIn l ≤ 9999999
-unfolding hourIn
-hour-range (Dose h c a s) e = dose-range h c a s e .0
-hour-range (On h) e = on-range h e
+-- the text of a journal has its form, and its lines stand behind what it begins with
+lines-old : (f : Form) (ls : List Line) → versioned (linesText f ls) ≡ false
+unfolding linesText
+lines-old f [] = empty-no-version
+lines-old f (l ∷ ls) = text-no-version f l (linesText f ls)
 
-text-lines : (ls : List Line) → 4 * length ls ≤ length (journalText ls)
-unfolding journalText
-text-lines [] = omega arith
-text-lines (l ∷ ls) = omega (arith, text-least l, text-lines ls, length-append (textOf l) (journalText ls))
+pub text-form : (f : Form) (ls : List Line) → formOf (journalText f ls) ≡ f
+unfolding formOf journalText headText
+text-form Old ls = pick-f _ _ _ (lines-old Old ls)
+text-form New ls = pick-t _ _ _ (text-versioned (linesText New ls))
+
+pub text-body : (f : Form) (ls : List Line) → drop (headBytes f) (journalText f ls) ≡ linesText f ls
+unfolding journalText headText headBytes versionText
+text-body Old ls = refl
+text-body New ls = refl
+
+pub hour-range : (f : Form) (l : Line) → inRange f l ≡ true → hourIn l ≤ 9999999
+unfolding hourIn
+hour-range f (Dose h c a s p) e = dose-range f h c a s p e .0
+hour-range f (On h) e = on-range f h e
+
+text-lines : (f : Form) (ls : List Line) → 4 * length ls ≤ length (linesText f ls)
+unfolding linesText
+text-lines f [] = omega arith
+text-lines f (l ∷ ls) = omega (arith, text-least f l, text-lines f ls, length-append (textOf f l) (linesText f ls))
 
 -- a line takes at least 4 bytes, so a journal has at most 16,384 lines
 pub lines-most : (s : List ℕ) (ls : List Line) → journalOf s ≡ done ls → 4 * length ls ≤ length s
-lines-most s ls e = omega (arith, text-lines ls, ap length (journal-text s ls e))
+unfolding journalText
+lines-most s ls e = omega (arith, text-lines (formOf s) ls, ap length (journal-text s ls e), length-append (headText (formOf s)) (linesText (formOf s) ls))

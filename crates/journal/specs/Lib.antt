@@ -1,8 +1,11 @@
 pub mod Line
 pub mod LineLaws
+pub mod Singles
 pub mod Journal
 pub mod JournalLaws
 pub mod Order
+pub mod Before
+pub mod Since
 pub mod Fields
 pub mod FieldLaws
 pub mod Says

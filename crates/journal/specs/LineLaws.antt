@@ -14,11 +14,12 @@ use Rattle.laws.specs.Whole.{false-true}
 use Rattle.laws.specs.Decimal.{Parsed, good, bad, numberAt, decimal, isDigit}
 use Rattle.laws.specs.DecimalLaws.{Stops, number-decimal, number-only, decimal-some, decimal-length}
 use Rattle.paper.specs.Answer.{done, refused, inRoom}
-use Rattle.paper.specs.AnswerLaws.{refused-done}
 use Rattle.paper.specs.Numbers.{R8, R10}
 use Rattle.text.specs.Scan.{LF, TAB, expect, onGood}
 use Rattle.text.specs.ScanLaws.{bad-good}
-use Rattle.journal.specs.Line.{holds, noLine, placed, lineAt, writeOf, oneLine, whole, letterD, letterH, mostOfD, mostOfH, fieldsText, textOf, within, inRange, fieldsAt, doseFrom, onFrom, lineOf}
+use Rattle.journal.specs.Line.{holds, noLine, placed, lineAt, writeOf, letterD, letterH, mostOfD, mostOfH, doseFields, fieldsText, textOf, within, productMost, inRange, fieldsAt, doseFrom, onFrom, lineOf}
+use Rattle.journal.specs.declared.Form.{Form}
+use Rattle.journal.specs.declared.Form.the-variants.{Old, New}
 use Rattle.journal.specs.declared.Line.{Line}
 use Rattle.journal.specs.declared.Line.the-variants.{Dose, On}
 
@@ -88,45 +89,126 @@ fields-only (m ∷ ms) got l vs rest e =
       fit = ap (λ (b : Bool). b && within (w .ws) ms) (le-leb (y .0) m (n .1)) ∙ w .fit;
     }
 
+-- the ranges of a line's values
+pub dose-range : (f : Form) (h c a s p : ℕ) → inRange f (Dose h c a s p) ≡ true → (h ≤ 9999999) × (c ≤ 999999) × (a ≤ 1800000) × (s ≤ 1) × (p ≤ productMost f)
+unfolding inRange within mostOfD
+dose-range f h c a s p e =
+    let e0 = and-left _ _ e in
+    let e1 = and-right (leb h 9999999) _ e0 in
+    let e2 = and-right (leb c 999999) _ e1 in
+    let e3 = and-right (leb a 1800000) _ e2 in
+    (leb-true _ _ (and-left _ _ e0), leb-true _ _ (and-left _ _ e1), leb-true _ _ (and-left _ _ e2), leb-true _ _ (and-left _ _ e3), leb-true _ _ (and-right (within (h ∷ c ∷ a ∷ s ∷ []) (mostOfD Old)) _ e))
+
+pub on-range : (f : Form) (h : ℕ) → inRange f (On h) ≡ true → h ≤ 9999999
+unfolding inRange within mostOfH
+on-range f h e = leb-true _ _ (and-left _ _ e)
+
+-- values up to the greatest are in range
+pub dose-inside : (f : Form) (h c a s p : ℕ) → h ≤ 9999999 → c ≤ 999999 → a ≤ 1800000 → s ≤ 1 → p ≤ productMost f → inRange f (Dose h c a s p) ≡ true
+unfolding inRange within mostOfD
+dose-inside f h c a s p hh hc ha hs hp = rw (le-leb _ _ hh, le-leb _ _ hc, le-leb _ _ ha, le-leb _ _ hs, le-leb _ _ hp)
+
+pub hour-inside : (f : Form) (h : ℕ) → h ≤ 9999999 → inRange f (On h) ≡ true
+unfolding inRange within mostOfH
+hour-inside f h e = rw (le-leb _ _ e)
+
+-- a product is at most 255 in either form
+pub product-most : (f : Form) → productMost f ≤ 255
+unfolding productMost
+product-most Old = omega arith
+product-most New = omega arith
+
+-- an old line in range is in range in the new form too
+pub range-either : (f : Form) (l : Line) → inRange f l ≡ true → inRange New l ≡ true
+unfolding productMost
+range-either f (Dose h c a s p) e =
+    let r = dose-range f h c a s p e in
+    dose-inside New h c a s p (r .0) (r .1) (r .2) (r .3) (omega (arith, r .4, product-most f))
+range-either f (On h) e = hour-inside New h (on-range f h e)
+
+-- a dose in range has its fields in range
+fields-within : (f : Form) (h c a s p : ℕ) → inRange f (Dose h c a s p) ≡ true → within (doseFields f h c a s p) (mostOfD f) ≡ true
+unfolding within mostOfD doseFields productMost
+fields-within Old h c a s p e =
+    let r = dose-range Old h c a s p e in
+    rw (le-leb _ _ (r .0), le-leb _ _ (r .1), le-leb _ _ (r .2), le-leb _ _ (r .3))
+fields-within New h c a s p e =
+    let r = dose-range New h c a s p e in
+    rw (le-leb _ _ (r .0), le-leb _ _ (r .1), le-leb _ _ (r .2), le-leb _ _ (r .3), le-leb _ _ (r .4))
+
+-- fields of a dose in range make it
+fields-dose : (f : Form) (h c a s p : ℕ) → inRange f (Dose h c a s p) ≡ true → doseFrom f (doseFields f h c a s p) ≡ Dose h c a s p
+unfolding doseFrom doseFields productMost
+fields-dose Old h c a s p e = let z : 0 ≡ p = omega (arith, dose-range Old h c a s p e .4) in ap (λ (q : ℕ). Dose h c a s q) z
+fields-dose New h c a s p e = refl
+
+hour-within : (f : Form) (h : ℕ) → inRange f (On h) ≡ true → within (h ∷ []) mostOfH ≡ true
+unfolding inRange
+hour-within f h e = e
+
 -- what the writer writes is read as what was written
-pub read-text : (l : Line) (rest : List ℕ) → inRange l ≡ true → lineOf (textOf l ++ rest) ≡ good l rest
-unfolding lineOf textOf inRange pick onGood doseFrom onFrom
-read-text (Dose h c a s) rest e = ap (λ (p : Parsed (List ℕ)). onGood p (λ vs r. good (doseFrom vs) r)) (fields-text mostOfD (h ∷ c ∷ a ∷ s ∷ []) [] rest e)
-read-text (On h) rest e = ap (λ (p : Parsed (List ℕ)). onGood p (λ vs r. good (onFrom vs) r)) (fields-text mostOfH (h ∷ []) [] rest e)
+pub read-text : (f : Form) (l : Line) (rest : List ℕ) → inRange f l ≡ true → lineOf f (textOf f l ++ rest) ≡ good l rest
+unfolding lineOf textOf pick onGood onFrom
+read-text f (Dose h c a s p) rest e =
+    ap (λ (q : Parsed (List ℕ)). onGood q (λ vs r. good (doseFrom f vs) r)) (fields-text (mostOfD f) (doseFields f h c a s p) [] rest (fields-within f h c a s p e))
+    ∙ ap (λ (l : Line). good l rest) (fields-dose f h c a s p e)
+read-text f (On h) rest e = ap (λ (p : Parsed (List ℕ)). onGood p (λ vs r. good (onFrom vs) r)) (fields-text mostOfH (h ∷ []) [] rest (hour-within f h e))
 
 -- s is the text of the line l, which is in range, and then rest
-pub record Only (l : Line) (s rest : List ℕ) : Type 0 where
-  pub text : s ≡ textOf l ++ rest
-  pub range : inRange l ≡ true
+pub record Only (f : Form) (l : Line) (s rest : List ℕ) : Type 0 where
+  pub text : s ≡ textOf f l ++ rest
+  pub range : inRange f l ≡ true
 
 -- values in range make a line whose text is theirs
-abbrev Made : ℕ → (List ℕ → Line) → List ℕ → Type 0
-Made letter make vs = (textOf (make vs) ≡ letter ∷ fieldsText vs) × (inRange (make vs) ≡ true)
+abbrev Made : Form → ℕ → (List ℕ → Line) → List ℕ → Type 0
+Made f letter make vs = (textOf f (make vs) ≡ letter ∷ fieldsText vs) × (inRange f (make vs) ≡ true)
 
-dose-made : (vs : List ℕ) → within vs mostOfD ≡ true → Made letterD doseFrom vs
-unfolding textOf inRange doseFrom mostOfD
-dose-made vs e = go vs e (within-length vs mostOfD e)
+old-made : (vs : List ℕ) → within vs (mostOfD Old) ≡ true → Made Old letterD (doseFrom Old) vs
+unfolding textOf inRange doseFields doseFrom mostOfD productMost
+old-made vs e = go vs e (within-length vs (mostOfD Old) e)
   where
-    go : (vs : List ℕ) → within vs mostOfD ≡ true → length vs ≡ 4 → Made letterD doseFrom vs
+    go : (vs : List ℕ) → within vs (mostOfD Old) ≡ true → length vs ≡ 4 → Made Old letterD (doseFrom Old) vs
     go [] e n = absurd (omega arith)
     go (h ∷ []) e n = absurd (omega arith)
     go (h ∷ c ∷ []) e n = absurd (omega arith)
     go (h ∷ c ∷ a ∷ []) e n = absurd (omega arith)
-    go (h ∷ c ∷ a ∷ s ∷ []) e n = (refl, e)
+    go (h ∷ c ∷ a ∷ s ∷ []) e n = (refl, rw e)
     go (h ∷ c ∷ a ∷ s ∷ x ∷ xs) e n = absurd (omega arith)
 
-on-made : (vs : List ℕ) → within vs mostOfH ≡ true → Made letterH onFrom vs
-unfolding textOf inRange onFrom mostOfH
-on-made vs e = go vs e (within-length vs mostOfH e)
+new-made : (vs : List ℕ) → within vs (mostOfD New) ≡ true → Made New letterD (doseFrom New) vs
+unfolding textOf doseFields doseFrom mostOfD productMost within
+new-made vs e = go vs e (within-length vs (mostOfD New) e)
   where
-    go : (vs : List ℕ) → within vs mostOfH ≡ true → length vs ≡ 1 → Made letterH onFrom vs
+    go : (vs : List ℕ) → within vs (mostOfD New) ≡ true → length vs ≡ 5 → Made New letterD (doseFrom New) vs
+    go [] e n = absurd (omega arith)
+    go (h ∷ []) e n = absurd (omega arith)
+    go (h ∷ c ∷ []) e n = absurd (omega arith)
+    go (h ∷ c ∷ a ∷ []) e n = absurd (omega arith)
+    go (h ∷ c ∷ a ∷ s ∷ []) e n = absurd (omega arith)
+    go (h ∷ c ∷ a ∷ s ∷ p ∷ []) e n =
+        let e1 = and-right (leb h 9999999) _ e in
+        let e2 = and-right (leb c 999999) _ e1 in
+        let e3 = and-right (leb a 1800000) _ e2 in
+        let e4 = and-right (leb s 1) _ e3 in
+        (refl, dose-inside New h c a s p (leb-true _ _ (and-left _ _ e)) (leb-true _ _ (and-left _ _ e1)) (leb-true _ _ (and-left _ _ e2)) (leb-true _ _ (and-left _ _ e3)) (leb-true _ _ (and-left _ _ e4)))
+    go (h ∷ c ∷ a ∷ s ∷ p ∷ x ∷ xs) e n = absurd (omega arith)
+
+dose-made : (f : Form) (vs : List ℕ) → within vs (mostOfD f) ≡ true → Made f letterD (doseFrom f) vs
+dose-made Old vs e = old-made vs e
+dose-made New vs e = new-made vs e
+
+on-made : (f : Form) (vs : List ℕ) → within vs mostOfH ≡ true → Made f letterH onFrom vs
+unfolding textOf inRange onFrom mostOfH
+on-made f vs e = go vs e (within-length vs mostOfH e)
+  where
+    go : (vs : List ℕ) → within vs mostOfH ≡ true → length vs ≡ 1 → Made f letterH onFrom vs
     go [] e n = absurd (omega arith)
     go (h ∷ []) e n = (refl, e)
     go (h ∷ x ∷ xs) e n = absurd (omega arith)
 
-letter-only : (b letter : ℕ) (bs ms : List ℕ) (make : List ℕ → Line) (l : Line) (rest : List ℕ) → b ≡ letter → ((vs : List ℕ) → within vs ms ≡ true → Made letter make vs)
-    → onGood (fieldsAt ms [] bs) (λ vs r. good (make vs) r) ≡ good l rest → Only l (b ∷ bs) rest
-letter-only b letter bs ms make l rest q made e =
+letter-only : (f : Form) (b letter : ℕ) (bs ms : List ℕ) (make : List ℕ → Line) (l : Line) (rest : List ℕ) → b ≡ letter → ((vs : List ℕ) → within vs ms ≡ true → Made f letter make vs)
+    → onGood (fieldsAt ms [] bs) (λ vs r. good (make vs) r) ≡ good l rest → Only f l (b ∷ bs) rest
+letter-only f b letter bs ms make l rest q made e =
     let x = gone (fieldsAt ms [] bs) (λ vs r. good (make vs) r) l rest e in
     let w = fields-only ms [] bs (x .0) (x .1) (x .2) in
     let m = made (w .ws) (w .fit) in
@@ -134,21 +216,21 @@ letter-only b letter bs ms make l rest q made e =
     let c : make (w .ws) ≡ l = ap make (sym (w .all)) ∙ a in
     let d : x .1 ≡ rest = cc (x .3) in
     record {
-      text = ap (λ (y : ℕ). y ∷ bs) q ∙ ap (λ (r : List ℕ). letter ∷ r) (w .text ∙ ap (λ (r : List ℕ). fieldsText (w .ws) ++ r) d) ∙ ap (λ (r : List ℕ). r ++ rest) (sym (m .0) ∙ ap textOf c);
-      range = ap inRange (sym c) ∙ m .1;
+      text = ap (λ (y : ℕ). y ∷ bs) q ∙ ap (λ (r : List ℕ). letter ∷ r) (w .text ∙ ap (λ (r : List ℕ). fieldsText (w .ws) ++ r) d) ∙ ap (λ (r : List ℕ). r ++ rest) (sym (m .0) ∙ ap (textOf f) c);
+      range = ap (inRange f) (sym c) ∙ m .1;
     }
 
 -- what is read as a line is what the writer writes for it
-pub text-only : (s : List ℕ) (l : Line) (rest : List ℕ) → lineOf s ≡ good l rest → Only l s rest
+pub text-only : (f : Form) (s : List ℕ) (l : Line) (rest : List ℕ) → lineOf f s ≡ good l rest → Only f l s rest
 unfolding lineOf pick
-text-only [] l rest e = bad-good e
-text-only (b ∷ bs) l rest e = go (eqb b letterD) (eqb b letterH) refl refl e
+text-only f [] l rest e = bad-good e
+text-only f (b ∷ bs) l rest e = go (eqb b letterD) (eqb b letterH) refl refl e
   where
     go : (x y : Bool) → eqb b letterD ≡ x → eqb b letterH ≡ y
-        → pick x (onGood (fieldsAt mostOfD [] bs) (λ vs r. good (doseFrom vs) r)) (pick y (onGood (fieldsAt mostOfH [] bs) (λ vs r. good (onFrom vs) r)) bad) ≡ good l rest
-        → Only l (b ∷ bs) rest
-    go true y p q h = letter-only b letterD bs mostOfD doseFrom l rest (eqb-true b letterD p) dose-made h
-    go false true p q h = letter-only b letterH bs mostOfH onFrom l rest (eqb-true b letterH q) on-made h
+        → pick x (onGood (fieldsAt (mostOfD f) [] bs) (λ vs r. good (doseFrom f vs) r)) (pick y (onGood (fieldsAt mostOfH [] bs) (λ vs r. good (onFrom vs) r)) bad) ≡ good l rest
+        → Only f l (b ∷ bs) rest
+    go true y p q h = letter-only f b letterD bs (mostOfD f) (doseFrom f) l rest (eqb-true b letterD p) (dose-made f) h
+    go false true p q h = letter-only f b letterH bs mostOfH onFrom l rest (eqb-true b letterH q) (on-made f) h
     go false false p q h = bad-good h
 
 fields-none : length (fieldsText []) ≡ 1
@@ -159,51 +241,49 @@ fields-length : (v : ℕ) (vs : List ℕ) → length (fieldsText (v ∷ vs)) ≡
 unfolding fieldsText
 fields-length v vs = omega (arith, length-append (decimal v) (fieldsText vs))
 
--- the ranges of a line's values
-pub dose-range : (h c a s : ℕ) → inRange (Dose h c a s) ≡ true → (h ≤ 9999999) × (c ≤ 999999) × (a ≤ 1800000) × (s ≤ 1)
-unfolding inRange within mostOfD
-dose-range h c a s e =
-    let e1 = and-right (leb h 9999999) _ e in
-    let e2 = and-right (leb c 999999) _ e1 in
-    let e3 = and-right (leb a 1800000) _ e2 in
-    (leb-true _ _ (and-left _ _ e), leb-true _ _ (and-left _ _ e1), leb-true _ _ (and-left _ _ e2), leb-true _ _ (and-left _ _ e3))
+-- the field of a dose's product: none in the old form
+unfoldable pub productText : Form → ℕ → List ℕ
+productText Old p = []
+productText New p = TAB ∷ decimal p
 
-pub on-range : (h : ℕ) → inRange (On h) ≡ true → h ≤ 9999999
-unfolding inRange within mostOfH
-on-range h e = leb-true _ _ (and-left _ _ e)
+pub dose-length : (f : Form) (h c a s p : ℕ) → length (textOf f (Dose h c a s p)) ≡ 6 + length (decimal h) + length (decimal c) + length (decimal a) + length (decimal s) + length (productText f p)
+unfolding textOf doseFields productText
+dose-length Old h c a s p = omega (arith, fields-none, fields-length h (c ∷ a ∷ s ∷ []), fields-length c (a ∷ s ∷ []), fields-length a (s ∷ []), fields-length s [])
+dose-length New h c a s p = omega (arith, fields-none, fields-length h (c ∷ a ∷ s ∷ p ∷ []), fields-length c (a ∷ s ∷ p ∷ []), fields-length a (s ∷ p ∷ []), fields-length s (p ∷ []), fields-length p [])
 
-pub dose-length : (h c a s : ℕ) → length (textOf (Dose h c a s)) ≡ 6 + length (decimal h) + length (decimal c) + length (decimal a) + length (decimal s)
+pub on-length : (f : Form) (h : ℕ) → length (textOf f (On h)) ≡ 3 + length (decimal h)
 unfolding textOf
-dose-length h c a s = omega (arith, fields-none, fields-length h (c ∷ a ∷ s ∷ []), fields-length c (a ∷ s ∷ []), fields-length a (s ∷ []), fields-length s [])
-
-pub on-length : (h : ℕ) → length (textOf (On h)) ≡ 3 + length (decimal h)
-unfolding textOf
-on-length h = omega (arith, fields-none, fields-length h [])
+on-length f h = omega (arith, fields-none, fields-length h [])
 
 -- a line takes at least 4 bytes
-pub text-least : (l : Line) → 4 ≤ length (textOf l)
-text-least (Dose h c a s) = omega (arith, dose-length h c a s)
-text-least (On h) = omega (arith, on-length h, decimal-some h)
+pub text-least : (f : Form) (l : Line) → 4 ≤ length (textOf f l)
+text-least f (Dose h c a s p) = omega (arith, dose-length f h c a s p)
+text-least f (On h) = omega (arith, on-length f h, decimal-some h)
 
--- and at most 27
-pub text-most : (l : Line) → inRange l ≡ true → length (textOf l) ≤ 27
-text-most (Dose h c a s) e =
-    let r = dose-range h c a s e in
-    omega (arith, dose-length h c a s, decimal-length 7 h (omega arith) (omega arith), decimal-length 6 c (omega arith) (omega arith), decimal-length 7 a (omega arith) (omega arith), decimal-length 1 s (omega arith) (omega arith))
-text-most (On h) e =
-    let r = on-range h e in
-    omega (arith, on-length h, decimal-length 7 h (omega arith) (omega arith))
+product-short : (f : Form) (p : ℕ) → p ≤ productMost f → length (productText f p) ≤ 4
+unfolding productText productMost
+product-short Old p h = omega arith
+product-short New p h = omega (arith, decimal-length 3 p (omega arith) (omega arith))
+
+-- and at most 31
+pub text-most : (f : Form) (l : Line) → inRange f l ≡ true → length (textOf f l) ≤ 31
+text-most f (Dose h c a s p) e =
+    let r = dose-range f h c a s p e in
+    omega (arith, dose-length f h c a s p, decimal-length 7 h (omega arith) (omega arith), decimal-length 6 c (omega arith) (omega arith), decimal-length 7 a (omega arith) (omega arith), decimal-length 1 s (omega arith) (omega arith), product-short f p (r .4))
+text-most f (On h) e =
+    let r = on-range f h e in
+    omega (arith, on-length f h, decimal-length 7 h (omega arith) (omega arith))
 
 -- what follows a line is shorter, and stands where the line's bytes end
-pub line-shorter : (s : List ℕ) (l : Line) (rest : List ℕ) → lineOf s ≡ good l rest → length rest < length s
-line-shorter s l rest e =
-    omega (arith, ap length (text-only s l rest e .text), length-append (textOf l) rest, text-least l)
+pub line-shorter : (f : Form) (s : List ℕ) (l : Line) (rest : List ℕ) → lineOf f s ≡ good l rest → length rest < length s
+line-shorter f s l rest e =
+    omega (arith, ap length (text-only f s l rest e .text), length-append (textOf f l) rest, text-least f l)
 
-pub line-rest : (s : List ℕ) (l : Line) (rest : List ℕ) → lineOf s ≡ good l rest → rest ≡ drop (length s - length rest) s
-line-rest s l rest e =
-    let o = text-only s l rest e .text in
-    let n : length (textOf l) ≡ length s - length rest = omega (arith, ap length o, length-append (textOf l) rest) in
-    sym (ap (drop (length s - length rest)) o ∙ drop-at (textOf l) rest (length s - length rest) n)
+pub line-rest : (f : Form) (s : List ℕ) (l : Line) (rest : List ℕ) → lineOf f s ≡ good l rest → rest ≡ drop (length s - length rest) s
+line-rest f s l rest e =
+    let o = text-only f s l rest e .text in
+    let n : length (textOf f l) ≡ length s - length rest = omega (arith, ap length o, length-append (textOf f l) rest) in
+    sym (ap (drop (length s - length rest)) o ∙ drop-at (textOf f l) rest (length s - length rest) n)
 
 -- a place is what is left after the bytes from it on
 pub place-back : (s : List ℕ) (p : ℕ) → p ≤ length s → length s - length (drop p s) ≡ p
@@ -225,62 +305,45 @@ placed-good n k l (good m rest) e =
 placed-good n k l bad e = holds-none e
 
 -- from `at` on stands the line l, and `next` is the place after it
-pub record Stands (s : List ℕ) (at : ℕ) (l : Line) (next : ℕ) : Type 0 where
-  pub line : lineOf (drop at s) ≡ good l (drop next s)
-  pub is : lineAt s at ≡ holds l next
+pub record Stands (f : Form) (s : List ℕ) (at : ℕ) (l : Line) (next : ℕ) : Type 0 where
+  pub line : lineOf f (drop at s) ≡ good l (drop next s)
+  pub is : lineAt f s at ≡ holds l next
   pub onward : at < next
   pub inside : next ≤ length s
 
-pub stands : (s : List ℕ) (at : ℕ) (l : Line) (rest : List ℕ) → lineOf (drop at s) ≡ good l rest → Stands s at l (length s - length rest)
+pub stands : (f : Form) (s : List ℕ) (at : ℕ) (l : Line) (rest : List ℕ) → lineOf f (drop at s) ≡ good l rest → Stands f s at l (length s - length rest)
 unfolding lineAt placed
-stands s at l rest e =
-    let d = line-shorter (drop at s) l rest e in
+stands f s at l rest e =
+    let d = line-shorter f (drop at s) l rest e in
     let n : length (drop at s) ≡ length s - at = length-drop at s in
     let k : at + (length (drop at s) - length rest) ≡ length s - length rest = omega arith in
     record {
-      line = e ∙ ap (λ (r : List ℕ). good l r) (line-rest (drop at s) l rest e ∙ drop-drop (length (drop at s) - length rest) at s ∙ ap (λ (j : ℕ). drop j s) k);
+      line = e ∙ ap (λ (r : List ℕ). good l r) (line-rest f (drop at s) l rest e ∙ drop-drop (length (drop at s) - length rest) at s ∙ ap (λ (j : ℕ). drop j s) k);
       is = ap (placed (length s)) e;
       onward = omega arith;
       inside = omega arith;
     }
 
 -- what a reader that answered a line at a place has found
-pub line-at-only : (s : List ℕ) (at : ℕ) (l : Line) (next : ℕ) → holds l next ≡ lineAt s at → Stands s at l next
+pub line-at-only : (f : Form) (s : List ℕ) (at : ℕ) (l : Line) (next : ℕ) → holds l next ≡ lineAt f s at → Stands f s at l next
 unfolding lineAt
-line-at-only s at l next e =
-    let x = placed-good (length s) next l (lineOf (drop at s)) e in
-    subst (λ (k : ℕ). Stands s at l k) (sym (x .2)) (stands s at l (x .0) (x .1))
+line-at-only f s at l next e =
+    let x = placed-good (length s) next l (lineOf f (drop at s)) e in
+    subst (λ (k : ℕ). Stands f s at l k) (sym (x .2)) (stands f s at l (x .0) (x .1))
 
 -- what is read there and goes on at a place
-pub stands-at : (s : List ℕ) (at : ℕ) (l : Line) (next : ℕ) → lineOf (drop at s) ≡ good l (drop next s) → next ≤ length s → Stands s at l next
-stands-at s at l next e h = subst (λ (k : ℕ). Stands s at l k) (place-back s next h) (stands s at l (drop next s) e)
+pub stands-at : (f : Form) (s : List ℕ) (at : ℕ) (l : Line) (next : ℕ) → lineOf f (drop at s) ≡ good l (drop next s) → next ≤ length s → Stands f s at l next
+stands-at f s at l next e h = subst (λ (k : ℕ). Stands f s at l k) (place-back s next h) (stands f s at l (drop next s) e)
 
 -- the writer's answers
-pub write-range : (l : Line) (room : ℕ) → inRange l ≡ false → writeOf l room ≡ refused R10 (0 ∷ [])
+pub write-range : (f : Form) (l : Line) (room : ℕ) → inRange f l ≡ false → writeOf f l room ≡ refused R10 (0 ∷ [])
 unfolding writeOf
-write-range l room e = pick-f _ _ _ e
+write-range f l room e = pick-f _ _ _ e
 
-pub write-short : (l : Line) (room : ℕ) → inRange l ≡ true → room < length (textOf l) → writeOf l room ≡ refused R8 []
+pub write-short : (f : Form) (l : Line) (room : ℕ) → inRange f l ≡ true → room < length (textOf f l) → writeOf f l room ≡ refused R8 []
 unfolding writeOf inRoom
-write-short l room e h = pick-t _ _ _ e ∙ pick-f _ _ _ (lt-leb _ _ h)
+write-short f l room e h = pick-t _ _ _ e ∙ pick-f _ _ _ (lt-leb _ _ h)
 
-pub write-fits : (l : Line) (room : ℕ) → inRange l ≡ true → length (textOf l) ≤ room → writeOf l room ≡ done (textOf l)
+pub write-fits : (f : Form) (l : Line) (room : ℕ) → inRange f l ≡ true → length (textOf f l) ≤ room → writeOf f l room ≡ done (textOf f l)
 unfolding writeOf inRoom
-write-fits l room e h = pick-t _ _ _ e ∙ pick-t _ _ _ (le-leb _ _ h)
-
--- what was written is read back, and nothing else is a line by itself
-pub one-text : (l : Line) → inRange l ≡ true → oneLine (textOf l) ≡ done l
-unfolding oneLine whole
-one-text l e = ap (λ (s : List ℕ). whole (lineOf s)) (sym (append-nil (textOf l))) ∙ ap whole (read-text l [] e)
-
-pub one-only : (s : List ℕ) (l : Line) → oneLine s ≡ done l → (s ≡ textOf l) × (inRange l ≡ true)
-unfolding oneLine whole
-one-only s l e = go (lineOf s) refl e
-  where
-    go : (p : Parsed Line) → lineOf s ≡ p → whole p ≡ done l → (s ≡ textOf l) × (inRange l ≡ true)
-    go (good m []) q h =
-        let f : m ≡ l = cc in
-        let o = text-only s m [] q in
-        (o .text ∙ append-nil (textOf m) ∙ ap textOf f, ap inRange (sym f) ∙ o .range)
-    go (good m (b ∷ bs)) q h = refused-done h
-    go bad q h = refused-done h
+write-fits f l room e h = pick-t _ _ _ e ∙ pick-t _ _ _ (le-leb _ _ h)

@@ -1,21 +1,22 @@
 -- The order of a journal's lines: exactly lines in range and in order are read, and every hour lies from the first to the last. Assumes nothing.
-use mathlib.Core.Path.{_≡_, refl, sym, _∙_}
+use mathlib.Core.Path.{_≡_, refl, sym, _∙_, subst}
 use mathlib.Core.Bool.{Bool, true, false}
 use mathlib.Core.List.{List, [], _∷_}
 use Prim.Native.Nat.{ℕ, _+_, _-_, _≤_, _<_}
 use native.Mathlib.Omega.{arith}
 use lib.Dec.{leb, ltb}
-use lib.ListN.{length}
+use lib.ListN.{length, drop}
 use borrow.Author.Tests.{ltb-false, leb-false, le-ltb, lt-leb}
 use Rattle.laws.specs.Pick.{pick, pick-true, pick-false}
 use Rattle.laws.specs.Whole.{true-false}
 use Rattle.paper.specs.Answer.{done}
 use Rattle.journal.specs.Line.{inRange}
 use Rattle.journal.specs.LineLaws.{read-text}
-use Rattle.journal.specs.Journal.{hourIn, closes, outOfOrder, tooFar, noPast, pastAfter, journalOf, firstHour, lastHour, journalText}
+use Rattle.journal.specs.Journal.{hourIn, closes, outOfOrder, tooFar, noPast, pastAfter, journalOf, firstHour, lastHour, linesText, journalText}
+use Rattle.journal.specs.declared.Form.{Form}
 use Rattle.journal.specs.declared.Line.{Line}
 use Rattle.journal.specs.declared.Past.{Past}
-use Rattle.journal.specs.JournalLaws.{Keeps, Reads, none, more, Each, journal-reads, reads-journal}
+use Rattle.journal.specs.JournalLaws.{Keeps, Reads, none, more, Each, headBytes, journal-reads, reads-journal, text-form, text-body}
 
 -- Hours never go back, and after an H the next line's hour is greater
 pub record Follows (l m : Line) : Type 0 where
@@ -37,14 +38,14 @@ abbrev Goes : Past → List Line → Type 0
 Goes p [] = Unit
 Goes p (l ∷ ls) = Keeps p l × Goes (pastAfter p l) ls
 
-reads-goes : {p : Past} {s : List ℕ} {ls : List Line} → Reads p s ls → Goes p ls
+reads-goes : {f : Form} {p : Past} {s : List ℕ} {ls : List Line} → Reads f p s ls → Goes p ls
 reads-goes none = tt
 reads-goes (more e k r) = (k, reads-goes r)
 
-goes-reads : (p : Past) (ls : List Line) → Goes p ls → Each (λ l. inRange l ≡ true) ls → Reads p (journalText ls) ls
-unfolding journalText
-goes-reads p [] g r = none
-goes-reads p (l ∷ ls) g r = more (read-text l (journalText ls) (r .0)) (g .0) (goes-reads (pastAfter p l) ls (g .1) (r .1))
+goes-reads : (f : Form) (p : Past) (ls : List Line) → Goes p ls → Each (λ l. inRange f l ≡ true) ls → Reads f p (linesText f ls) ls
+unfolding linesText
+goes-reads f p [] g r = none
+goes-reads f p (l ∷ ls) g r = more (read-text f l (linesText f ls) (r .0)) (g .0) (goes-reads f (pastAfter p l) ls (g .1) (r .1))
 
 -- a test that a line keeps the order is the rule
 keeps-follows : (p : Past) (l m : Line) → Keeps (pastAfter p l) m → Follows l m
@@ -106,8 +107,11 @@ ordered-goes (l ∷ ls) o = (keeps-first l, steps-goes noPast l ls (hourIn l) (f
 pub journal-ordered : (s : List ℕ) (ls : List Line) → journalOf s ≡ done ls → Ordered ls
 journal-ordered s ls e = goes-ordered ls (reads-goes (journal-reads s ls e))
 
-pub ordered-journal : (ls : List Line) → Ordered ls → Each (λ l. inRange l ≡ true) ls → length (journalText ls) ≤ 65536 → journalOf (journalText ls) ≡ done ls
-ordered-journal ls o r h = reads-journal (journalText ls) ls h (goes-reads noPast ls (ordered-goes ls o) r)
+pub ordered-journal : (f : Form) (ls : List Line) → Ordered ls → Each (λ l. inRange f l ≡ true) ls → length (journalText f ls) ≤ 65536 → journalOf (journalText f ls) ≡ done ls
+ordered-journal f ls o r h =
+    reads-journal (journalText f ls) ls h
+    (subst (λ (g : Form). Reads g noPast (drop (headBytes g) (journalText f ls)) ls) (sym (text-form f ls))
+    (subst (λ (s : List ℕ). Reads f noPast s ls) (sym (text-body f ls)) (goes-reads f noPast ls (ordered-goes ls o) r)))
 
 last-least : (l : Line) (ls : List Line) → Steps (l ∷ ls) → hourIn l ≤ lastHour (l ∷ ls)
 unfolding lastHour

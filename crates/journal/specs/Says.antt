@@ -2,11 +2,12 @@
 use mathlib.Core.Path.{_≡_, refl, sym}
 use mathlib.Core.List.{List, [], _∷_}
 use Prim.Native.Nat.{ℕ}
+use native.Mathlib.Omega.{arith}
 use lib.ListN.{getD}
 use Rattle.paper.specs.Answer.{Answer, done, refused, told}
 use Rattle.paper.specs.AnswerLaws.{refused-done}
 use Rattle.paper.specs.Numbers.{R10, R11, R12, R13}
-use Rattle.journal.specs.Line.{Place, holds, noLine}
+use Rattle.journal.specs.Line.{Single, version, dated, Place, holds, noLine}
 use Rattle.journal.specs.LineLaws.{holds-none}
 use Rattle.journal.specs.declared.Line.{Line}
 use Rattle.journal.specs.declared.One.{One}
@@ -18,8 +19,9 @@ use Rattle.journal.specs.declared.Refusal.the-variants as R
 use Rattle.journal.specs.declared.Named.{Named}
 
 -- a reader of one line by itself answers R10 with line 1
-abbrev pub saysOne : One → Answer Line
-saysOne (O.Line l) = done l
+abbrev pub saysOne : One → Answer Single
+saysOne O.Version = done version
+saysOne (O.Line l) = done (dated l)
 saysOne O.R10 = refused R10 (1 ∷ [])
 
 -- a line and the place after it, or that no line stands there: it refuses nothing
@@ -43,8 +45,13 @@ namesOf R.R13 = record { number = R13; line = 0 }
 
 -- two answers that say the same are equal
 pub one-one : (a b : One) → saysOne a ≡ saysOne b → a ≡ b
+one-one O.Version O.Version e = refl
+one-one O.Version (O.Line m) e = let z : _≡_ {A = ℕ} 0 1 = cc in absurd (omega arith)
+one-one O.Version O.R10 e = refused-done (sym e)
+one-one (O.Line l) O.Version e = let z : _≡_ {A = ℕ} 0 1 = cc in absurd (omega arith)
 one-one (O.Line l) (O.Line m) e = cc
 one-one (O.Line l) O.R10 e = cc
+one-one O.R10 O.Version e = refused-done e
 one-one O.R10 (O.Line m) e = cc
 one-one O.R10 O.R10 e = refl
 

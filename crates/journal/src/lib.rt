@@ -1,9 +1,18 @@
-// The journal: D and H lines, their reader, the order of their hours, and what refuses a journal.
+// The journal: its V, D and H lines in two forms, their reader, the order of their hours, and what refuses a journal.
 use text::Num;
 ghost use mathlib.Core.Path.{_≡_};
 ghost use Rattle.laws.specs.Pick.{pick};
+ghost use Rattle.journal.specs.Line.{versioned, isVersion, lineOf, whole};
 ghost use Rattle.journal.specs.Journal.{closes};
-ghost use Rattle.journal.specs.Contracts.{StandsAt, ReadsLine, CountsFields, MakesLine, HoursLine, Begins, TakesLine, BreaksOrder, GoesFar, Names};
+ghost use Rattle.journal.specs.Fields.{productFrom};
+ghost use Rattle.journal.specs.Says.{saysOne};
+ghost use Rattle.journal.specs.Contracts.{StandsAt, ReadsLine, Heads, CountsFields, MakesLine, HoursLine, Begins, TakesLine, BreaksOrder, GoesFar, Names};
+
+// The form of a journal: without a V line, its D lines have no product; or with one, and its D lines have it last.
+pub enum Form {
+    Old,
+    New,
+}
 
 // A line: a completed dose, or that the box was on for all of an hour.
 pub enum Line {
@@ -12,16 +21,25 @@ pub enum Line {
         count: u32,
         amount: u32,
         settled: u32,
+        product: u32,
     },
     On {
         hour: u32,
     },
 }
 
-// What the reader of one line answers.
+// What the reader of one line answers: the V line of the new form, a line with an hour, or neither.
 pub enum One {
+    Version,
     Line(Line),
     R10,
+}
+
+// What stands before the first line with an hour: so many bytes and lines, by the journal's form.
+pub struct Head {
+    pub form: Form,
+    pub bytes: usize,
+    pub lines: usize,
 }
 
 // What stands at a place of a journal: a line and the place after its LF, or no line.
@@ -52,13 +70,23 @@ pub struct Past {
     pub last: u32,
 }
 
+const TAB: u8 = 9;
+
 const LF: u8 = 10;
 
 const D: u8 = 68;
 
 const H: u8 = 72;
 
-// The greatest values of a line's fields after its letter: hour, count, amount, settled.
+const V: u8 = 86;
+
+// The number of the new form, as the V line has it.
+const TWO: u8 = 50;
+
+// The V line has so many bytes.
+pub const VERSION_LEN: usize = 4;
+
+// The greatest values of a line's fields after its letter: hour, count, amount, settled, product.
 pub const HOUR_MOST: u32 = 9999999;
 
 pub const COUNT_MOST: u32 = 999999;
@@ -67,10 +95,18 @@ pub const AMOUNT_MOST: u32 = 1800000;
 
 pub const SETTLED_MOST: u32 = 1;
 
-// A line has at most so many fields after its letter.
-pub const FIELDS: usize = 4;
+pub const PRODUCT_MOST: u32 = 255;
 
-pub const MOST: [u32; FIELDS] = [HOUR_MOST, COUNT_MOST, AMOUNT_MOST, SETTLED_MOST];
+// A line has at most so many fields after its letter.
+pub const FIELDS: usize = 5;
+
+pub const MOST: [u32; FIELDS] = [
+    HOUR_MOST,
+    COUNT_MOST,
+    AMOUNT_MOST,
+    SETTLED_MOST,
+    PRODUCT_MOST,
+];
 
 // A journal has at most so many bytes.
 pub const ROOM: usize = 65536;
@@ -81,15 +117,66 @@ pub const READ: usize = ROOM + 1;
 // A line's hour is less than so many hours above the first line's.
 pub const SPAN: usize = 744;
 
-// How many fields follow a letter: 4 after D, 1 after H, else none.
-pub fn fields_after(letter: u8) -> usize
-    ensures { λ r. ⌜ CountsFields letter r ⌝ }
+// Whether some bytes begin with the V line.
+fn has_version(bytes: &[u8]) -> bool
+    ensures { λ r. ⌜ r ≡ versioned (now (bytes .entry)) ⌝ }
+{
+    if text::byte_at(bytes, 0) != V {
+        return false;
+    }
+    if text::byte_at(bytes, 1) != TAB {
+        return false;
+    }
+    if text::byte_at(bytes, 2) != TWO {
+        return false;
+    }
+    text::byte_at(bytes, 3) == LF
+}
+
+// A journal's form, and what stands before its first line with an hour.
+pub fn head_of(bytes: &[u8]) -> Head
+    ensures { λ r. ⌜ Heads (now (bytes .entry)) r ⌝ }
+{
+    if has_version(bytes) {
+        return Head {
+            form: Form::New,
+            bytes: VERSION_LEN,
+            lines: 1,
+        };
+    }
+    Head {
+        form: Form::Old,
+        bytes: 0,
+        lines: 0,
+    }
+}
+
+// How many fields follow a letter: after D 4 in the old form and 5 in the new one, 1 after H, else none.
+pub fn fields_after(form: Form, letter: u8) -> usize
+    ensures { λ r. ⌜ CountsFields form letter r ⌝ }
 {
     if letter == D {
-        return 4;
+        match form {
+            Form::Old => {
+                return 4;
+            }
+            Form::New => {
+                return 5;
+            }
+        }
     }
     if letter == H {
         return 1;
+    }
+    0
+}
+
+// The product of a dose of n fields: its last one if it has five, else 0.
+fn product_from(n: usize, last: u32) -> u32
+    ensures { λ r. ⌜ r ≡ productFrom n last ⌝ }
+{
+    if n == 5 {
+        return last;
     }
     0
 }
@@ -99,25 +186,27 @@ pub fn line_from(n: usize, got: [u32; FIELDS]) -> Line
     ensures { λ r. ⌜ MakesLine n got r ⌝ }
 {
     let hour = got[0];
-    if n == 4 {
-        let count = got[1];
-        let amount = got[2];
-        let settled = got[3];
-        return Line::Dose {
-            hour,
-            count,
-            amount,
-            settled,
-        };
+    if n == 1 {
+        return Line::On { hour };
     }
-    Line::On { hour }
+    let count = got[1];
+    let amount = got[2];
+    let settled = got[3];
+    let product = product_from(n, got[4]);
+    Line::Dose {
+        hour,
+        count,
+        amount,
+        settled,
+        product,
+    }
 }
 
-// The line at a place and the place after it.
-pub fn line_at(bytes: &[u8], at: usize) -> At
-    ensures { λ r. ⌜ StandsAt (now (bytes .entry)) at r ⌝ }
+// The line with an hour at a place and the place after it.
+pub fn line_at(form: Form, bytes: &[u8], at: usize) -> At
+    ensures { λ r. ⌜ StandsAt form (now (bytes .entry)) at r ⌝ }
 {
-    let fields = fields_after(text::byte_at(bytes, at));
+    let fields = fields_after(form, text::byte_at(bytes, at));
     if fields == 0 {
         return At::NoLine;
     }
@@ -141,17 +230,42 @@ pub fn line_at(bytes: &[u8], at: usize) -> At
     }
 }
 
-// A line by itself, its LF included.
-pub fn read_line(bytes: &[u8]) -> One
-    ensures { λ r. ⌜ ReadsLine (now (bytes .entry)) r ⌝ }
+// A line with an hour by itself, its LF included.
+fn read_dated(form: Form, bytes: &[u8]) -> One
+    ensures { λ r. ⌜ saysOne r ≡ whole (lineOf form (now (bytes .entry))) ⌝ }
 {
-    let At::Line { line, next } = line_at(bytes, 0) else {
+    let At::Line { line, next } = line_at(form, bytes, 0) else {
         return One::R10;
     };
     if next < bytes.len() {
         return One::R10;
     }
     One::Line(line)
+}
+
+// Whether some bytes are the V line and nothing else.
+fn is_version(bytes: &[u8]) -> bool
+    ensures { λ r. ⌜ r ≡ isVersion (now (bytes .entry)) ⌝ }
+{
+    if bytes.len() == VERSION_LEN {
+        return has_version(bytes);
+    }
+    false
+}
+
+// A line by itself, its LF included: in the new form the V line too.
+pub fn read_line(form: Form, bytes: &[u8]) -> One
+    ensures { λ r. ⌜ ReadsLine form (now (bytes .entry)) r ⌝ }
+{
+    match form {
+        Form::Old => read_dated(form, bytes),
+        Form::New => {
+            if is_version(bytes) {
+                return One::Version;
+            }
+            read_dated(form, bytes)
+        }
+    }
 }
 
 // The hour of a line.
@@ -164,6 +278,7 @@ pub fn hour_in(line: Line) -> u32
             count: _,
             amount: _,
             settled: _,
+            product: _,
         } => hour,
         Line::On { hour } => hour,
     }
@@ -179,6 +294,7 @@ fn closes_hour(line: Line) -> bool
             count: _,
             amount: _,
             settled: _,
+            product: _,
         } => false,
         Line::On { hour: _ } => true,
     }

@@ -4,7 +4,7 @@ use mathlib.Core.Bool.{Bool, true, false, _&&_, _||_}
 use mathlib.Core.List.{List, [], _∷_}
 use Prim.Native.Nat.{ℕ, _+_, _-_, _*_, _/_, _%_}
 use lib.Dec.{leb, eqb}
-use lib.ListN.{length, getD, take}
+use lib.ListN.{length, getD, take, replicate}
 use Rattle.laws.specs.Pick.{pick}
 use Rattle.paper.specs.Answer.{Answer, done, refused}
 use Rattle.paper.specs.Numbers.{R17}
@@ -127,3 +127,18 @@ pub cases :
     × (hearOf 1 [] ≡ refused R17 [])
 unfolding hearOf heardBy heardByAll askBy readAsk writeAsk addressGood crcGood lengthGood functionOf wordAt sealed crcBytes crc enterAll enter shifts shift fellOut pick
 cases = (refl, refl, refl, refl, refl, refl, refl, refl, refl, refl, refl, refl, refl, refl, refl, refl, refl, refl, refl, refl, refl, refl, refl, refl, refl)
+
+-- half a CRC is none; 03 and 06 have 8 bytes, other functions up to 256; any other function, and any of another address
+pub edges :
+    (hearOf 1 (0x01 ∷ 0x03 ∷ 0 ∷ 4 ∷ 0 ∷ 2 ∷ 0x85 ∷ 0xCB ∷ []) ≡ refused R17 [])
+    × (hearOf 1 (0x01 ∷ 0x03 ∷ 0 ∷ 4 ∷ 0 ∷ 2 ∷ 0x84 ∷ 0xCA ∷ []) ≡ refused R17 [])
+    × (hearOf 1 (sealed (1 ∷ 6 ∷ 0 ∷ 10 ∷ 0 ∷ 1 ∷ 0 ∷ [])) ≡ refused R17 [])
+    × (hearOf 1 (sealed (1 ∷ 6 ∷ 0 ∷ 10 ∷ 0 ∷ [])) ≡ refused R17 [])
+    × (hearOf 1 (sealed (1 ∷ 3 ∷ 0 ∷ 0 ∷ 0 ∷ [])) ≡ refused R17 [])
+    × (hearOf 1 (sealed (1 ∷ 0x10 ∷ replicate 252 0)) ≡ done (heard false (exception 0x10 1)))
+    × (hearOf 1 (sealed (1 ∷ 0x10 ∷ replicate 253 0)) ≡ refused R17 [])
+    × (hearOf 1 (asked 1 4 0 1) ≡ done (heard false (exception 4 1)))
+    × (hearOf 1 (asked 1 5 10 1) ≡ done (heard false (exception 5 1)))
+    × (hearOf 1 (sealed (2 ∷ 0x10 ∷ [])) ≡ refused R17 [])
+unfolding hearOf heardBy heardByAll askBy readAsk writeAsk addressGood crcGood lengthGood functionOf wordAt sealed crcBytes crc enterAll enter shifts shift fellOut pick
+edges = (refl, refl, refl, refl, refl, refl, refl, refl, refl, refl)

@@ -6,7 +6,7 @@ pub struct Words {
     pub letter: u8,
     pub minus: bool,
     pub count: usize,
-    pub numbers: [u64; 4],
+    pub numbers: [u64; 5],
 }
 
 const TAB: u8 = 9;
@@ -20,7 +20,7 @@ impl Words {
             letter,
             minus: false,
             count: 0,
-            numbers: [0, 0, 0, 0],
+            numbers: [0, 0, 0, 0, 0],
         }
     }
 
@@ -30,7 +30,7 @@ impl Words {
             letter,
             minus: false,
             count: 1,
-            numbers: [n, 0, 0, 0],
+            numbers: [n, 0, 0, 0, 0],
         }
     }
 
@@ -40,7 +40,7 @@ impl Words {
             letter,
             minus: false,
             count: 2,
-            numbers: [n, m, 0, 0],
+            numbers: [n, m, 0, 0, 0],
         }
     }
 
@@ -50,7 +50,17 @@ impl Words {
             letter,
             minus: false,
             count: 4,
-            numbers: [n, m, k, l],
+            numbers: [n, m, k, l, 0],
+        }
+    }
+
+    // A letter and five numbers.
+    pub fn five(letter: u8, n: u64, m: u64, k: u64, l: u64, j: u64) -> Words {
+        Words {
+            letter,
+            minus: false,
+            count: 5,
+            numbers: [n, m, k, l, j],
         }
     }
 }
@@ -96,7 +106,7 @@ pub fn numbers(out: &mut [u8], at: usize, w: Words) -> usize {
     let count = w.count;
     let mut minus = w.minus;
     let mut p = at;
-    for i in 0..4 {
+    for i in 0..5 {
         if count <= i {
             return p;
         }

@@ -46,13 +46,22 @@ pub in-AL1 :
 unfolding whole
 in-AL1 = (refl, refl, refl, refl, refl, refl, refl, refl)
 
--- AL0: output 3 is unused, also before any tick; the hold
+-- p9 3, a start at 10: what is compared is w and not F, and 768 ticks are allowed
+pub from-ten :
+    whys (ticked (controllerIn (restartOf (setOf (1 ∷ 1000 ∷ 500 ∷ 100 ∷ 20 ∷ 50 ∷ 4 ∷ 4 ∷ 3 ∷ 0 ∷ 0 ∷ 1 ∷ 1 ∷ 1 ∷ 1 ∷ 0 ∷ 0 ∷ [])) 0 0)) ((pos 10, 8) ∷ (pos 970, 8) ∷ []))
+    ≡ says (leadReached (pos 480) 480) (leadReached (pos 480) 480) (settling 0 768) noAlarm
+unfolding whole
+from-ten = refl
+
+-- AL0: output 3 is unused, also before any tick; the stages of Fill; the hold
 pub in-AL0 :
     (whys (box 0 50) ≡ says (inPhase ready) (inPhase ready) unused noAlarm)
     × (whys (ticked (box 0 50) ((pos 0, 0) ∷ [])) ≡ says noStart noStart unused noAlarm)
+    × (whys (ticked (box 0 50) ((pos 0, 8) ∷ [])) ≡ says isOpen (inPhase fill) unused noAlarm)
+    × (whys (ticked (box 0 50) ((pos 400, 8) ∷ [])) ≡ says (leadReached (pos 400) 400) isOpen unused noAlarm)
     × (whys (ticked (box 0 50) ((pos 480, 8) ∷ [])) ≡ says (leadReached (pos 480) 480) (leadReached (pos 480) 480) unused noAlarm)
 unfolding whole
-in-AL0 = (refl, refl, refl)
+in-AL0 = (refl, refl, refl, refl, refl)
 
 -- AL2: start off with w >= D, where output 3 has no start to wait for; Load; Calm; Dose in its stages, with wH-w; its Settle
 pub in-AL2 :
@@ -65,10 +74,13 @@ pub in-AL2 :
 unfolding whole
 in-AL2 = (refl, refl, refl, refl, refl, refl)
 
--- AL3: input 4 is no start, and output 3 waits for start too
-pub in-AL3 : whys (ticked (box 3 800) ((pos 0, 8) ∷ [])) ≡ says noStart noStart noStart noAlarm
+-- AL3: input 4 is no start, and output 3 waits for start too; with the link start its Dose in the fine stage, with wH-w, and its Settle
+pub in-AL3 :
+    (whys (ticked (box 3 800) ((pos 0, 8) ∷ [])) ≡ says noStart noStart noStart noAlarm)
+    × (whys (ticked (linkOf (box 3 800) true) ((pos 900, 0) ∷ (pos 100, 0) ∷ [])) ≡ says (leadReached (pos 400) 400) isOpen (inPhase dose) noAlarm)
+    × (whys (ticked (linkOf (box 3 800) true) ((pos 900, 0) ∷ (negsuc 59, 0) ∷ [])) ≡ says (leadReached (pos 480) 480) (leadReached (pos 480) 480) (inPhase settle) noAlarm)
 unfolding whole
-in-AL3 = refl
+in-AL3 = (refl, refl, refl)
 
 -- a fault stands before unused, for all four outputs; F14 with its channel
 pub in-faults :

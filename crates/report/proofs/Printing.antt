@@ -16,7 +16,8 @@ use Rattle.text.specs.Put.{Puts}
 use Rattle.text.specs.PutLaws.{room-is, puts-fit, puts-length}
 use Rattle.journal.specs.Journal.{firstHour}
 use Rattle.journal.specs.declared.Line.{Line}
-use Rattle.hourly.specs.Holes.{inHole}
+use Rattle.holes.specs.Holes.{inHole}
+use Rattle.hourly.specs.declared.Products.{Products}
 use Rattle.hourly.specs.Hours.{HourAnswer, missing, amountsAt, hasOn, total, sumOf, meanOf, measuredOrIdle, hourOf}
 use Rattle.hourly.specs.Text.{Row, rowFrom, rowOf, rowText, rowsOf, rowsText, hoursFrom, spanOf, hoursText, printOf}
 use Rattle.hourly.specs.Accepted.{Accepted}
@@ -80,9 +81,9 @@ rest-none table first hours k p h =
 -- ---- the rows of an accepted journal
 
 -- the tally of an hour is shown as its row
-shown-tally : (ls : List Line) (h : ℕ) → total (amountsAt h ls) ≤ 2 ^ 53 → shownOf (tallyOf ls h) ≡ rowOf ls h
+shown-tally : (w : Products) (ls : List Line) (h : ℕ) → total (amountsAt w h ls) ≤ 2 ^ 53 → shownOf (tallyOf w ls h) ≡ rowOf w ls h
 unfolding shownOf rowOf rowFrom hourOf measuredOrIdle sumOf meanOf tallyOf pick
-shown-tally ls h b = ap (λ (x : HourAnswer). shownBy x (tallyOf ls h)) (hour-tally ls h) ∙ go (inHole h ls) (hasOn h ls) (amountsAt h ls) b
+shown-tally w ls h b = ap (λ (x : HourAnswer). shownBy x (tallyOf w ls h)) (hour-tally w ls h) ∙ go (inHole h ls) (hasOn h ls) (amountsAt w h ls) b
   where
     go : (hole on : Bool) (amounts : List ℕ) → total amounts ≤ 2 ^ 53
         → shownBy (pick hole missing (pick on (measuredOrIdle amounts) missing)) (tallyBy amounts on hole) ≡ rowFrom (pick hole missing (pick on (measuredOrIdle amounts) missing)) amounts
@@ -91,13 +92,13 @@ shown-tally ls h b = ap (λ (x : HourAnswer). shownBy x (tallyOf ls h)) (hour-ta
     go false true (a ∷ as') b = rw (whole-back (total (a ∷ as')) b .1)
     go false false amounts b = refl
 
-rows-tell : (ls : List Line) (ts : List Tally) (h : ℕ) → ((k : ℕ) → k < length ts → shownOf (getD ts k outside) ≡ rowOf ls (h + k))
-    → rowsBy ts h ≡ map (λ k. record { hour = k; row = rowOf ls k }) (hoursFrom h (length ts))
+rows-tell : (w : Products) (ls : List Line) (ts : List Tally) (h : ℕ) → ((k : ℕ) → k < length ts → shownOf (getD ts k outside) ≡ rowOf w ls (h + k))
+    → rowsBy ts h ≡ map (λ k. record { hour = k; row = rowOf w ls k }) (hoursFrom h (length ts))
 unfolding rowsBy hoursFrom
-rows-tell ls [] h f = refl
-rows-tell ls (t ∷ ts) h f =
-    let here : shownOf t ≡ rowOf ls h = f 0 (omega arith) ∙ ap (rowOf ls) (add-zero h) in
-    rw (here, rows-tell ls ts (suc h) (λ k b. f (suc k) (omega arith) ∙ ap (rowOf ls) (omega arith)))
+rows-tell w ls [] h f = refl
+rows-tell w ls (t ∷ ts) h f =
+    let here : shownOf t ≡ rowOf w ls h = f 0 (omega arith) ∙ ap (rowOf w ls) (add-zero h) in
+    rw (here, rows-tell w ls ts (suc h) (λ k b. f (suc k) (omega arith) ∙ ap (rowOf w ls) (omega arith)))
 
 -- the hours printed are as many as the reader's answer says
 span-is : (ls : List Line) → spanOf ls ≡ hoursFrom (firstHour ls) (hoursIn (summaryOf ls))
@@ -111,34 +112,34 @@ hours-few [] a = omega arith
 hours-few (l ∷ ls) a = rw eqb·suc-zero (omega (arith, a .span))
 
 -- a sum of amounts is a whole number that an f64 holds exactly
-sum-small : {s : List ℕ} (ls : List Line) (h : ℕ) → Accepted s ls → total (amountsAt h ls) ≤ 2 ^ 53
-sum-small ls h a = omega (arith, modest h ls (a .ranged) .sum, a .few)
+sum-small : (w : Products) {s : List ℕ} (ls : List Line) (h : ℕ) → Accepted s ls → total (amountsAt w h ls) ≤ 2 ^ 53
+sum-small w ls h a = omega (arith, modest w h ls (a .ranged) .sum, a .few)
 
 -- the table of an accepted journal is printed as its text
-pub record Prints (s : List ℕ) (found : Summary) (table : List Tally) : Type 0 where
+pub record Prints (w : Products) (s : List ℕ) (found : Summary) (table : List Tally) : Type 0 where
   pub printable : Printable table (found .first) (hoursIn found)
-  pub text : textBy table (found .first) (hoursIn found) ≡ hoursText (linesOf s)
+  pub text : textBy table (found .first) (hoursIn found) ≡ hoursText w (linesOf s)
 
-module _ (s : List ℕ) (table : List Tally) (a : Accepted s (linesOf s)) (t : Tells table (firstHour (linesOf s)) (linesOf s)) where
+module _ (w : Products) (s : List ℕ) (table : List Tally) (a : Accepted s (linesOf s)) (t : Tells w table (firstHour (linesOf s)) (linesOf s)) where
   abbrev hours : ℕ
   hours = hoursIn (summaryOf (linesOf s))
 
-  shown : (k : ℕ) → k < hours → shownOf (getD (take hours table) k outside) ≡ rowOf (linesOf s) (firstHour (linesOf s) + k)
+  shown : (k : ℕ) → k < hours → shownOf (getD (take hours table) k outside) ≡ rowOf w (linesOf s) (firstHour (linesOf s) + k)
   shown k b =
       ap shownOf (getD-take hours table k outside b ∙ t .at k (omega (arith, hours-few (linesOf s) a)))
-      ∙ shown-tally (linesOf s) (firstHour (linesOf s) + k) (sum-small (linesOf s) (firstHour (linesOf s) + k) a)
+      ∙ shown-tally w (linesOf s) (firstHour (linesOf s) + k) (sum-small w (linesOf s) (firstHour (linesOf s) + k) a)
 
-  printed : textBy table (firstHour (linesOf s)) hours ≡ hoursText (linesOf s)
+  printed : textBy table (firstHour (linesOf s)) hours ≡ hoursText w (linesOf s)
   unfolding textBy hoursText rowsOf
   printed =
       let n : length (take hours table) ≡ hours = length-take-le hours table (omega (arith, hours-few (linesOf s) a, t .size)) in
-      let rows = rows-tell (linesOf s) (take hours table) (firstHour (linesOf s)) (λ k b. shown k (omega arith)) in
+      let rows = rows-tell w (linesOf s) (take hours table) (firstHour (linesOf s)) (λ k b. shown k (omega arith)) in
       ap rowsText (
       rows
-      ∙ ap (λ (m : ℕ). map (λ k. record { hour = k; row = rowOf (linesOf s) k }) (hoursFrom (firstHour (linesOf s)) m)) n
-      ∙ ap (map (λ k. record { hour = k; row = rowOf (linesOf s) k })) (sym (span-is (linesOf s))))
+      ∙ ap (λ (m : ℕ). map (λ k. record { hour = k; row = rowOf w (linesOf s) k }) (hoursFrom (firstHour (linesOf s)) m)) n
+      ∙ ap (map (λ k. record { hour = k; row = rowOf w (linesOf s) k })) (sym (span-is (linesOf s))))
 
-  prints-lines : Prints s (summaryOf (linesOf s)) table
+  prints-lines : Prints w s (summaryOf (linesOf s)) table
   unfolding summaryOf tallyOf
   prints-lines =
       record {
@@ -147,24 +148,24 @@ module _ (s : List ℕ) (table : List Tally) (a : Accepted s (linesOf s)) (t : T
               size = t .size;
               few = hours-few (linesOf s) a;
               summed = λ k b. record {
-                whole = total (amountsAt (firstHour (linesOf s) + k) (linesOf s));
+                whole = total (amountsAt w (firstHour (linesOf s) + k) (linesOf s));
                 exact = ap (λ (x : Tally). x .sum) (t .at k (omega (arith, hours-few (linesOf s) a)));
-                small = sum-small (linesOf s) (firstHour (linesOf s) + k) a;
+                small = sum-small w (linesOf s) (firstHour (linesOf s) + k) a;
               };
-              short = omega (arith, ap length printed, text-short (linesOf s) a);
+              short = omega (arith, ap length printed, text-short w (linesOf s) a);
             };
         text = printed;
       }
 
-pub prints : (s : List ℕ) (found : Summary) (table : List Tally) → Found s found → Tells table (found .first) (linesOf s) → Prints s found table
-prints s found table f t =
-    subst (λ (x : Summary). Prints s x table) (f .summary) (prints-lines s table (found-accepted f) (subst (λ (n : ℕ). Tells table n (linesOf s)) (sym (f .first)) t))
+pub prints : (w : Products) (s : List ℕ) (found : Summary) (table : List Tally) → Found s found → Tells w table (found .first) (linesOf s) → Prints w s found table
+prints w s found table f t =
+    subst (λ (x : Summary). Prints w s x table) (f .summary) (prints-lines w s table (found-accepted f) (subst (λ (n : ℕ). Tells w table n (linesOf s)) (sym (f .first)) t))
 
 -- the first line's hour is no later than the last line's
 pub first-last : {s : List ℕ} {found : Summary} → Found s found → found .first ≤ found .last
 first-last f = omega (arith, f .first, f .last, found-accepted f .order)
 
 -- and the text is what is printed, if it has room
-pub prints-answer : {s : List ℕ} {found : Summary} {table : List Tally} → Found s found → Prints s found table → (room : ℕ) → inRoom [] room (textBy table (found .first) (hoursIn found)) ≡ printOf s room
+pub prints-answer : {w : Products} {s : List ℕ} {found : Summary} {table : List Tally} → Found s found → Prints w s found table → (room : ℕ) → inRoom [] room (textBy table (found .first) (hoursIn found)) ≡ printOf w s room
 unfolding printOf onDone
-prints-answer f p room = ap (inRoom [] room) (p .text) ∙ sym (ap (λ (a : Answer (List Line)). onDone a (λ ls. inRoom [] room (hoursText ls))) (f .journal))
+prints-answer {w} f p room = ap (inRoom [] room) (p .text) ∙ sym (ap (λ (a : Answer (List Line)). onDone a (λ ls. inRoom [] room (hoursText w ls))) (f .journal))

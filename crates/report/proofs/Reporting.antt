@@ -1,26 +1,25 @@
 -- From the text's answer to the report, and from the journal's refusal to its line. Assumes nothing.
 use mathlib.Core.Path.{_≡_, refl, sym, ap, _∙_, subst}
 use mathlib.Core.List.{List, []}
-use Prim.Native.Nat.{ℕ, _≤_, min}
+use Prim.Native.Nat.{ℕ, _≤_}
 use native.Mathlib.Omega.{arith}
-use native.Mathlib.Decide.{decLt}
 use lib.ListN.{length, take, replicate, length-replicate}
-use lib.Seq.{take-all}
 use Rattle.laws.specs.Over.{over, sets-over}
 use Rattle.paper.specs.Answer.{Answer, done, refused, fault, told, onDone, inRoom, leaves, Fills}
 use Rattle.paper.specs.AnswerLaws.{refused-done, fault-done, fault-refused, hands-over}
-use Rattle.paper.specs.Numbers.{R8, R10}
+use Rattle.paper.specs.Numbers.{R8}
 use Rattle.text.specs.Put.{Puts}
 use Rattle.text.specs.PutLaws.{room-is, puts-fit}
 use Rattle.journal.specs.Journal.{journalOf}
 use Rattle.journal.specs.Says.{saysRefusal, refusal-done, refusal-told, namesOf, refusal-names}
 use Rattle.journal.specs.declared.Line.{Line}
 use Rattle.journal.specs.declared.Refusal.{Refusal}
-use Rattle.journal.specs.declared.Refusal.the-variants as J
 use Rattle.hourly.specs.Text.{hoursText, printOf}
 use Rattle.hourly.specs.Bounds.{room-enough}
+use Rattle.report.specs.Says.{refusal-fault}
 use Rattle.report.specs.Report.{refusalText, refusalOf, reportFrom, reportOf, seen-enough, journal-named}
 use Rattle.report.specs.Contracts.{Holds, Reports}
+use Rattle.hourly.specs.declared.Products.{Products}
 use Rattle.report.specs.declared.Printout.{Printout}
 
 -- a text laid over nothing but 0
@@ -34,73 +33,58 @@ holds-put text old r z h p =
     let f = puts-fit (room-is old 0 text (omega arith)) p in
     holds-over text old r z (f .1 ∙ omega arith) (f .0 ∙ sets-over old text (omega arith))
 
--- no refusal of a journal is a fault
-refusal-fault : {X Q : Type 0} {n : ℕ} {vs : List ℕ} (r : Refusal) → saysRefusal {X = X} r ≡ fault n vs → Q
-refusal-fault (J.R10 n) e = fault-refused (sym e)
-refusal-fault (J.R11 n) e = fault-refused (sym e)
-refusal-fault (J.R12 n) e = fault-refused (sym e)
-refusal-fault J.R13 e = fault-refused (sym e)
-
 -- what the text's answer is made of
-abbrev printFrom : Answer (List Line) → ℕ → Answer (List ℕ)
-printFrom a room = onDone a (λ ls. inRoom [] room (hoursText ls))
+abbrev printFrom : Products → Answer (List Line) → ℕ → Answer (List ℕ)
+printFrom w a room = onDone a (λ ls. inRoom [] room (hoursText w ls))
 
-module _ (s old new : List ℕ) (z : old ≡ replicate 33480 0) where
+module _ (w : Products) (s old new : List ℕ) (z : old ≡ replicate 33480 0) where
   room : 33480 ≤ length old
   room = omega (arith, ap length z, length-replicate {A = ℕ} 33480 0)
 
   -- the text stands there
-  pub text-holds : (n : ℕ) → Fills (done n) (printOf s (length old)) old new → Holds (reportOf s) (record { bytes = new; len = n })
+  pub text-holds : (n : ℕ) → Fills (done n) (printOf w s (length old)) old new → Holds (reportOf w s) (record { bytes = new; len = n })
   unfolding reportOf reportFrom printOf onDone told leaves
   text-holds n f = go (journalOf s) refl
     where
-      go : (a : Answer (List Line)) → journalOf s ≡ a → Holds (reportFrom a) (record { bytes = new; len = n })
+      go : (a : Answer (List Line)) → journalOf s ≡ a → Holds (reportFrom w a) (record { bytes = new; len = n })
       go (done ls) e =
-          let p = room-enough s ls (length old) e room in
-          let says : done n ≡ done (length (hoursText ls)) = f .says ∙ ap (told length) p in
-          let m : n ≡ length (hoursText ls) = cc in
-          holds-over (hoursText ls) old (record { bytes = new; len = n }) z m (f .left ∙ ap (λ (a : Answer (List ℕ)). leaves a old) p)
-      go (refused k vs) e = refused-done (sym (f .says ∙ ap (λ (a : Answer (List Line)). told length (printFrom a (length old))) e))
-      go (fault k vs) e = fault-done (sym (f .says ∙ ap (λ (a : Answer (List Line)). told length (printFrom a (length old))) e))
+          let p = room-enough w s ls (length old) e room in
+          let says : done n ≡ done (length (hoursText w ls)) = f .says ∙ ap (told length) p in
+          let m : n ≡ length (hoursText w ls) = cc in
+          holds-over (hoursText w ls) old (record { bytes = new; len = n }) z m (f .left ∙ ap (λ (a : Answer (List ℕ)). leaves a old) p)
+      go (refused k vs) e = refused-done (sym (f .says ∙ ap (λ (a : Answer (List Line)). told length (printFrom w a (length old))) e))
+      go (fault k vs) e = fault-done (sym (f .says ∙ ap (λ (a : Answer (List Line)). told length (printFrom w a (length old))) e))
 
   -- it always has room
-  pub never-short : {Q : Type 0} → Fills (refused R8 []) (printOf s (length old)) old new → Q
+  pub never-short : {Q : Type 0} → Fills (refused R8 []) (printOf w s (length old)) old new → Q
   unfolding printOf onDone told
   never-short {Q} f = go (journalOf s) refl
     where
       go : (a : Answer (List Line)) → journalOf s ≡ a → Q
-      go (done ls) e = refused-done (f .says ∙ ap (told length) (room-enough s ls (length old) e room))
+      go (done ls) e = refused-done (f .says ∙ ap (told length) (room-enough w s ls (length old) e room))
       go (refused k vs) e =
-          let q : _≡_ {A = Answer ℕ} (refused R8 []) (refused k vs) = f .says ∙ ap (λ (a : Answer (List Line)). told length (printFrom a (length old))) e in
+          let q : _≡_ {A = Answer ℕ} (refused R8 []) (refused k vs) = f .says ∙ ap (λ (a : Answer (List Line)). told length (printFrom w a (length old))) e in
           let y : R8 ≡ k = cc in
           absurd (omega (arith, journal-named s k vs e .least))
-      go (fault k vs) e = fault-refused (sym (f .says ∙ ap (λ (a : Answer (List Line)). told length (printFrom a (length old))) e))
+      go (fault k vs) e = fault-refused (sym (f .says ∙ ap (λ (a : Answer (List Line)). told length (printFrom w a (length old))) e))
 
   -- the journal is refused, and the report is the refusal's line
-  pub refused-line : (r : Refusal) → Fills (saysRefusal r) (printOf s (length old)) old new → refusalOf r ≡ reportOf s
+  pub refused-line : (r : Refusal) → Fills (saysRefusal r) (printOf w s (length old)) old new → refusalOf r ≡ reportOf w s
   unfolding reportOf reportFrom printOf onDone told
   refused-line r f = go (journalOf s) refl
     where
-      line : refusalOf r ≡ reportFrom (saysRefusal r)
-      line = let x = refusal-names r in sym (ap reportFrom (x .1) ∙ ap (λ (k : ℕ). refusalText (namesOf r .number) k) (x .2))
+      line : refusalOf r ≡ reportFrom w (saysRefusal r)
+      line = let x = refusal-names r in sym (ap (reportFrom w) (x .1) ∙ ap (λ (k : ℕ). refusalText (namesOf r .number) k) (x .2))
 
-      go : (a : Answer (List Line)) → journalOf s ≡ a → refusalOf r ≡ reportFrom a
-      go (done ls) e = refusal-done r (f .says ∙ ap (told length) (room-enough s ls (length old) e room))
-      go (refused k vs) e = line ∙ ap reportFrom (refusal-told (λ (n : ℕ). []) r ∙ ap (told (λ (n : ℕ). [])) (f .says ∙ ap (λ (a : Answer (List Line)). told length (printFrom a (length old))) e))
-      go (fault k vs) e = refusal-fault r (f .says ∙ ap (λ (a : Answer (List Line)). told length (printFrom a (length old))) e)
-
--- no more bytes are looked at than were asked for
-pub seen-is : (bytes : List ℕ) (n k : ℕ) → length bytes ≡ 65537 → k ≡ min n 65537 → take k bytes ≡ take n bytes
-seen-is bytes n k size e =
-    elim (decLt n 65537) [
-      | yes h ↦ let f : k ≡ n = omega arith in ap (λ (j : ℕ). take j bytes) f
-      | no h ↦ take-all k bytes (omega arith) ∙ sym (take-all n bytes (omega arith))
-    ]
+      go : (a : Answer (List Line)) → journalOf s ≡ a → refusalOf r ≡ reportFrom w a
+      go (done ls) e = refusal-done r (f .says ∙ ap (told length) (room-enough w s ls (length old) e room))
+      go (refused k vs) e = line ∙ ap (reportFrom w) (refusal-told (λ (n : ℕ). []) r ∙ ap (told (λ (n : ℕ). [])) (f .says ∙ ap (λ (a : Answer (List Line)). told length (printFrom w a (length old))) e))
+      go (fault k vs) e = refusal-fault r (f .says ∙ ap (λ (a : Answer (List Line)). told length (printFrom w a (length old))) e)
 
 -- 65,537 bytes were asked for, so it is the report of the journal that was read
-pub reports : (bytes seen : List ℕ) (n : ℕ) (r : Printout) → length bytes ≡ 65537 → seen ≡ take n bytes → Holds (reportOf seen) r → Reports bytes n r
-reports bytes seen n r size e h =
+pub reports : (w : Products) (bytes seen : List ℕ) (n : ℕ) (r : Printout) → length bytes ≡ 65537 → seen ≡ take n bytes → Holds (reportOf w seen) r → Reports w bytes n r
+reports w bytes seen n r size e h =
     record {
-      holds = subst (λ (l : List ℕ). Holds (reportOf l) r) e h;
-      whole = λ s q. subst (λ (l : List ℕ). Holds l r) (ap reportOf (e ∙ q ∙ ap (λ (k : ℕ). take k s) size) ∙ seen-enough s) h;
+      holds = subst (λ (l : List ℕ). Holds (reportOf w l) r) e h;
+      whole = λ s q. subst (λ (l : List ℕ). Holds l r) (ap (reportOf w) (e ∙ q ∙ ap (λ (k : ℕ). take k s) size) ∙ seen-enough w s) h;
     }

@@ -13,7 +13,8 @@ use Rattle.laws.specs.Decimal.{decimal, hexOf}
 use Rattle.laws.specs.DecimalLaws.{decimal-apart, hex-apart, hex-length}
 use Rattle.text.specs.Scan.{LF, TAB}
 use Rattle.journal.specs.declared.Line.{Line}
-use Rattle.hourly.specs.Holes.{inHole}
+use Rattle.holes.specs.Holes.{inHole}
+use Rattle.hourly.specs.declared.Products.{Products}
 use Rattle.hourly.specs.Hours.{HourAnswer, amountsAt, hasOn, sumOf, meanOf, measuredOrIdle, hourOf, asF64}
 use Rattle.hourly.specs.Text.{Row, rowM, rowI, rowX, letterM, letterI, letterX, HourRow, rowFrom, rowOf, rowText, rowsOf, rowsText, hoursText, spanOf}
 
@@ -102,19 +103,19 @@ abbrev FitsOf : List ℕ → HourAnswer → Type 0
 FitsOf amounts x = RowFits (rowFrom x amounts)
 
 -- every row of a journal has 64 bits
-row-fits : (ls : List Line) (h : ℕ) → RowFits (rowOf ls h)
+row-fits : (w : Products) (ls : List Line) (h : ℕ) → RowFits (rowOf w ls h)
 unfolding rowOf hourOf rowFrom measuredOrIdle meanOf
-row-fits ls h = pick-all (FitsOf (amountsAt h ls)) (inHole h ls) tt (pick-all (FitsOf (amountsAt h ls)) (hasOn h ls) (either (amountsAt h ls)) tt)
+row-fits w ls h = pick-all (FitsOf (amountsAt w h ls)) (inHole h ls) tt (pick-all (FitsOf (amountsAt w h ls)) (hasOn h ls) (either (amountsAt w h ls)) tt)
   where
     either : (amounts : List ℕ) → RowFits (rowFrom (measuredOrIdle amounts) amounts)
     either [] = tt
     either (a ∷ as') = toBits-lt binary64 (meanOf (a ∷ as')) (div-fits binary64 (sumOf (a ∷ as')) (asF64 (length (a ∷ as'))))
 
-rows-fit : (ls : List Line) (hs : List ℕ) → RowsFit (map (λ h. record { hour = h; row = rowOf ls h }) hs)
-rows-fit ls [] = tt
-rows-fit ls (h ∷ hs) = (row-fits ls h, rows-fit ls hs)
+rows-fit : (w : Products) (ls : List Line) (hs : List ℕ) → RowsFit (map (λ h. record { hour = h; row = rowOf w ls h }) hs)
+rows-fit w ls [] = tt
+rows-fit w ls (h ∷ hs) = (row-fits w ls h, rows-fit w ls hs)
 
--- two journals with the same text have the same rows
-pub text-apart : (ls ms : List Line) → hoursText ls ≡ hoursText ms → rowsOf ls ≡ rowsOf ms
+-- two journals with the same text, for whatever products, have the same rows
+pub text-apart : (w v : Products) (ls ms : List Line) → hoursText w ls ≡ hoursText v ms → rowsOf w ls ≡ rowsOf v ms
 unfolding hoursText rowsOf
-text-apart ls ms e = rows-apart (rowsOf ls) (rowsOf ms) (rows-fit ls (spanOf ls)) (rows-fit ms (spanOf ms)) e
+text-apart w v ls ms e = rows-apart (rowsOf w ls) (rowsOf v ms) (rows-fit w ls (spanOf ls)) (rows-fit v ms (spanOf ms)) e

@@ -1,10 +1,10 @@
 -- What the answer of the text's call says, in the paper's words, and that two which say the same are equal. Assumes nothing.
 use mathlib.Core.Path.{_≡_, refl, sym, ap}
-use mathlib.Core.List.{[]}
+use mathlib.Core.List.{List, []}
 use Prim.Native.Nat.{ℕ}
 use native.Mathlib.Omega.{arith}
-use Rattle.paper.specs.Answer.{Answer, done, refused}
-use Rattle.paper.specs.AnswerLaws.{refused-done}
+use Rattle.paper.specs.Answer.{Answer, done, refused, fault}
+use Rattle.paper.specs.AnswerLaws.{refused-done, fault-refused}
 use Rattle.paper.specs.Numbers.{R8, R10, R11, R12, R13}
 use Rattle.journal.specs.Says.{saysRefusal, refusal-one, refusal-done}
 use Rattle.journal.specs.declared.Refusal.{Refusal}
@@ -24,6 +24,13 @@ refusal-r8 (R.R10 n) e = let z : R10 ≡ R8 = cc in absurd (omega arith)
 refusal-r8 (R.R11 n) e = let z : R11 ≡ R8 = cc in absurd (omega arith)
 refusal-r8 (R.R12 n) e = let z : R12 ≡ R8 = cc in absurd (omega arith)
 refusal-r8 R.R13 e = let z : R13 ≡ R8 = cc in absurd (omega arith)
+
+-- no refusal of a journal is a fault
+pub refusal-fault : {X Q : Type 0} {n : ℕ} {vs : List ℕ} (r : Refusal) → saysRefusal {X = X} r ≡ fault n vs → Q
+refusal-fault (R.R10 n) e = fault-refused (sym e)
+refusal-fault (R.R11 n) e = fault-refused (sym e)
+refusal-fault (R.R12 n) e = fault-refused (sym e)
+refusal-fault R.R13 e = fault-refused (sym e)
 
 pub printed-one : (a b : Printed) → saysPrinted a ≡ saysPrinted b → a ≡ b
 printed-one (P.Text n) (P.Text m) e = cc

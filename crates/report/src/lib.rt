@@ -1,6 +1,7 @@
 // What the hour program prints for a journal.
 use hourly::Hour;
 use hourly::Judged;
+use hourly::Products;
 use hourly::Summary;
 use hourly::Tally;
 use journal::Refusal;
@@ -16,7 +17,7 @@ ghost use Rattle.report.specs.Rows.{tailText};
 ghost use Rattle.report.specs.Table.{saysShown, Summed, shownOf, textBy, Printable, hoursIn};
 ghost use Rattle.report.specs.Says.{saysPrinted};
 ghost use Rattle.report.specs.Report.{refusalOf};
-ghost use Rattle.report.specs.Contracts.{PrintsHours, PutsRefusal, Holds, Reports};
+ghost use Rattle.report.specs.Contracts.{PrintsHours, PutsRefusal, Holds, HoldsRefusal, Reports};
 
 // What making the text answers: its length, the journal's refusal, or that the buffer is too short.
 pub enum Printed {
@@ -181,11 +182,11 @@ fn print_table(table: [Tally; journal::SPAN], found: Summary, out: &mut [u8]) ->
     Printed::Text(n)
 }
 
-// The hour program's text, from the buffer's start, or a refusal that leaves the buffer as it was.
-pub fn print(bytes: &[u8], out: &mut [u8]) -> Printed
-    ensures { λ r. ⌜ PrintsHours (now (bytes .entry)) r (now (out .entry)) (now (out .exit)) ⌝ }
+// The hour program's text for some products, from the buffer's start, or a refusal that leaves the buffer as it was.
+pub fn print(bytes: &[u8], products: Products, out: &mut [u8]) -> Printed
+    ensures { λ r. ⌜ PrintsHours products (now (bytes .entry)) r (now (out .entry)) (now (out .exit)) ⌝ }
 {
-    let counted = hourly::tallies(bytes);
+    let counted = hourly::tallies(bytes, products);
     let table = counted.table;
     let judged = counted.judged;
     match judged {
@@ -217,14 +218,21 @@ fn no_bytes() -> [u8; ENOUGH]
     [0u8; ENOUGH]
 }
 
+// The one line of a refusal, by its number and the line that it names.
+pub fn refusal_line(number: u64, line: u64) -> Printout
+    ensures { λ r. ⌜ HoldsRefusal number line r ⌝ }
+{
+    let mut out = no_bytes();
+    let len = put_refused(&mut out, number, line);
+    Printout { bytes: out, len }
+}
+
 // The one line of a journal's refusal.
 fn refusal_report(refusal: Refusal) -> Printout
     ensures { λ r. ⌜ Holds (refusalOf refusal) r ⌝ }
 {
     let named = journal::number_and_line(refusal);
-    let mut out = no_bytes();
-    let len = put_refused(&mut out, named.number, named.line);
-    Printout { bytes: out, len }
+    refusal_line(named.number, named.line)
 }
 
 // The smaller of two numbers.
@@ -237,14 +245,14 @@ fn smaller(a: usize, b: usize) -> usize
     b
 }
 
-// What the hour program prints for a journal, which the first n of the bytes read are: its text, or the line of its refusal.
-pub fn report(bytes: &[u8; journal::READ], n: usize) -> Printout
-    ensures { λ r. ⌜ Reports (now (bytes .entry)) n r ⌝ }
+// What the hour program prints for a journal, which the first n of the bytes read are, and for some products: its text, or the line of its refusal.
+pub fn report(bytes: &[u8; journal::READ], n: usize, products: Products) -> Printout
+    ensures { λ r. ⌜ Reports products (now (bytes .entry)) n r ⌝ }
 {
     let mut out = no_bytes();
     let size = smaller(n, journal::READ);
     let all: &[u8] = bytes;
-    let printed = print(&all[..size], &mut out);
+    let printed = print(&all[..size], products, &mut out);
     match printed {
         Printed::Text(len) => Printout { bytes: out, len },
         Printed::Refused(refusal) => refusal_report(refusal),

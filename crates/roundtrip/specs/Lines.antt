@@ -1,17 +1,20 @@
--- A journal line written and read back. Assumes nothing.
+-- A journal line of either form and the V line, written and read back. Assumes nothing.
 use mathlib.Core.Path.{_≡_, refl}
 use mathlib.Core.List.{[], _∷_}
 use Rattle.laws.specs.Pick.{pick}
 use Rattle.paper.specs.Answer.{Answer, done, refused, same}
 use Rattle.paper.specs.Numbers.{R10}
-use Rattle.journal.specs.Line.{inRange}
+use Rattle.journal.specs.Line.{inRange, version}
+use Rattle.journal.specs.Says.{saysOne, one-one}
+use Rattle.journal.specs.declared.Form.{Form}
+use Rattle.journal.specs.declared.One.{One}
 use Rattle.journal.specs.declared.Line.{Line}
 use Rattle.roundtrip.specs.declared.lines.Echoed.{Echoed}
 use Rattle.roundtrip.specs.declared.lines.Echoed.the-variants as E
 
 -- written and read back: the line that was given, or the writer's refusal
-unfoldable pub echoOf : Line → Answer Line
-echoOf l = pick (inRange l) (done l) (refused R10 (0 ∷ []))
+unfoldable pub echoOf : Form → Line → Answer Line
+echoOf f l = pick (inRange f l) (done l) (refused R10 (0 ∷ []))
 
 -- R10 is the writer's, and carries line 0
 abbrev pub saysEchoed : Echoed → Answer Line
@@ -26,9 +29,16 @@ echoed-one E.R10 (E.Line m) e = cc
 echoed-one E.R10 E.R10 e = refl
 
 -- echo: the line that was given, or R10
-abbrev pub EchoesLine : Line → Echoed → Type 0
-EchoesLine l r = saysEchoed r ≡ echoOf l
+abbrev pub EchoesLine : Form → Line → Echoed → Type 0
+EchoesLine f l r = saysEchoed r ≡ echoOf f l
 
--- two results that both meet the call's contract are equal
-pub echo-determined : (l : Line) (a b : Echoed) → EchoesLine l a → EchoesLine l b → a ≡ b
-echo-determined l a b p q = echoed-one a b (same p q)
+-- echo_version: the V line
+abbrev pub EchoesVersion : One → Type 0
+EchoesVersion r = saysOne r ≡ done version
+
+-- two results that both meet a call's contract are equal
+pub echo-determined : (f : Form) (l : Line) (a b : Echoed) → EchoesLine f l a → EchoesLine f l b → a ≡ b
+echo-determined f l a b p q = echoed-one a b (same p q)
+
+pub echo-version-determined : (a b : One) → EchoesVersion a → EchoesVersion b → a ≡ b
+echo-version-determined a b p q = one-one a b (same p q)

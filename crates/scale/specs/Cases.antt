@@ -28,6 +28,10 @@ twelve = record { samples = replicate 4 (pos 100) ++ replicate 124 (pos 0); held
 abbrev empty : Window
 empty = record { samples = replicate 128 (pos 5); held = 0 }
 
+-- a wild sample of 800 after seven of 0
+abbrev wild : Window
+wild = record { samples = pos 800 ∷ replicate 127 (pos 0); held = 8 }
+
 -- -900,000 and 900,000 are samples, one beyond is not
 pub limits :
     (outside (pos 900000) ≡ false) × (outside (pos 900001) ≡ true) × (outside (negsuc 899999) ≡ false) × (outside (negsuc 900000) ≡ true)
@@ -72,15 +76,17 @@ pub flags :
 unfolding stableOf overCapacity setOf
 flags = (refl, refl, refl, refl, refl, refl, refl)
 
--- with no sample held weight and flags are 0 and the point is sent; stable by S; over by the weight of this reply; below 0
+-- with no sample held weight and flags are 0 and the point is sent; stable by S; over by the weight of this reply; below 0; a wild sample moves neither C3's nor C2's
 pub weights :
     (weightBy (set 1 2) empty (units (pos 5)) 64 8 ≡ weight (pos 0) false false 2)
     × (weightBy (set 1 2) twelve (units (pos 0)) 63 8 ≡ weight (pos 50) false false 2)
     × (weightBy (set 1 0) twelve (units (pos 101)) 64 4 ≡ weight (negsuc 0) true false 0)
     × (weightBy (set 1 0) twelve (units (negsuc 9909)) 0 4 ≡ weight (pos 10010) false true 0)
     × (weightBy (set 1 0) twelve (units (negsuc 9909)) 0 8 ≡ weight (pos 9960) false false 0)
+    × (weightBy (set 1 0) wild (units (pos 0)) 0 8 ≡ weight (pos 0) false false 0)
+    × (weightBy (set 1 0) wild (units (pos 0)) 0 4 ≡ weight (pos 0) false false 0)
 unfolding weightBy weightFrom none filtered samplesOf meanOf averagedOf leftOf without alike largest smallest greater lesser plainOf roundAway halfUp sumOf stableOf overCapacity setOf pick
-weights = (refl, refl, refl, refl, refl)
+weights = (refl, refl, refl, refl, refl, refl, refl)
 
 -- a weight of six digits and a point of at most 7 can be shown
 pub shows :

@@ -9,17 +9,19 @@ use lib.ListN.{replicate}
 use Rattle.laws.specs.Pick.{pick}
 use Rattle.laws.specs.Whole.{false-true}
 use Rattle.laws.specs.Decimal.{decimal, digitsOf, glyph}
+use Rattle.journal.specs.declared.Form.the-variants.{New}
 use Rattle.journal.specs.declared.Line.{Line}
 use Rattle.journal.specs.declared.Line.the-variants.{Dose, On}
-use Rattle.journal.specs.Line.{textOf, fieldsText}
-use Rattle.journal.specs.Journal.{hourIn, closes, firstHour, journalText}
+use Rattle.journal.specs.Line.{versionText, textOf, doseFields, fieldsText}
+use Rattle.journal.specs.Journal.{hourIn, closes, firstHour, linesText, headText, journalText}
 use Rattle.journal.specs.Order.{Follows}
+use Rattle.settings.specs.declared.Settings.{Settings}
 use Rattle.settings.specs.Cases.{setOf}
 use Rattle.counters.specs.declared.Record.{Record}
 use Rattle.controller.specs.Calls.{freshOf, restartedFrom}
 use Rattle.controller.specs.Outside.{wAt, clear, inDoseSettle, shuts3, leavesSettle, completes, begins, opens3, noted, amountSeen, dosesSeen}
 use Rattle.controller.specs.Cases.{rules}
-use Rattle.series.specs.Events.{Event, tick, link, restart, eventOf, sightOf, givenBy, countingAt, nothingSeen, countedFrom, withSight, seenAfter, seen, handedBack, handsBack, recordsIn, recordsAt, records}
+use Rattle.series.specs.Events.{Event, tick, link, settings, restart, eventOf, sightOf, givenBy, countingAt, nothingSeen, countedFrom, withSight, seenAfter, seen, handedBack, handsBack, recordsIn, recordsAt, records}
 use Rattle.series.specs.Statement.{allDosesAfter}
 use Rattle.series.specs.Lines.{Stamped, doseOf, lineFor, doseLines, JournalOf}
 
@@ -61,6 +63,24 @@ pub two-handed-back : map (handsBack freshOf) (twoOfAL1 ∷ twoOfAL2 ∷ twoOfAL
 unfolding whole
 two-handed-back = refl
 
+-- ---- two products from one hopper
+
+-- AL2 with a product code
+abbrev ofCode : ℕ → Settings
+ofCode product = setOf (2 ∷ 1000 ∷ 100 ∷ 0 ∷ 0 ∷ 200 ∷ 4 ∷ 4 ∷ 1 ∷ 0 ∷ 0 ∷ 1 ∷ 1 ∷ 1 ∷ 1 ∷ 0 ∷ 0 ∷ product ∷ [])
+
+-- product 1 is dosed from 500 to 300; in Ready product 2 is set, and dosed to 150
+abbrev pub twoProducts : List Event
+twoProducts = restart (ofCode 1) 0 0 ∷ ticks 1 0 0 ++ ticks 68 500 0 ++ ticks 1 500 8 ++ ticks 68 300 0 ++ settings (ofCode 2) ∷ ticks 1 300 8 ++ ticks 68 150 0
+
+abbrev recorded : ℕ → ℕ → ℕ → Record
+recorded count amount product = record { count = count; amount = amount; settled = 1; product = product }
+
+-- each dose is told of with the product that was set, the counters go on
+pub two-products : records freshOf twoProducts ≡ recorded 1 200 1 ∷ recorded 2 150 2 ∷ []
+unfolding whole
+two-products = refl
+
 -- ---- a journal of the first: both doses in hour 10, and the box on for all of it
 
 abbrev stamp : Record → Stamped
@@ -73,22 +93,22 @@ stamped-whole : (rs : List Record) → map doseOf (map stamp rs) ≡ rs
 stamped-whole [] = refl
 stamped-whole (r ∷ rs) = ap (λ (l : List Record). r ∷ l) (stamped-whole rs)
 
-lines-AL1 : map lineFor stampsOfAL1 ≡ Dose 10 1 112 1 ∷ Dose 10 2 250 1 ∷ []
+lines-AL1 : map lineFor stampsOfAL1 ≡ Dose 10 1 112 1 0 ∷ Dose 10 2 250 1 0 ∷ []
 unfolding whole lineFor
 lines-AL1 = refl
 
 -- a line after a D of its hour
-after-dose : (h c a s : ℕ) (l : Line) → hourIn l ≡ h → Follows (Dose h c a s) l
+after-dose : (h c a s p : ℕ) (l : Line) → hourIn l ≡ h → Follows (Dose h c a s p) l
 unfolding hourIn closes
-after-dose h c a s l e = record { onward = omega arith; beyond = λ k. false-true k }
+after-dose h c a s p l e = record { onward = omega arith; beyond = λ k. false-true k }
 
-pub journal-AL1 : JournalOf freshOf twoOfAL1 stampsOfAL1 (Dose 10 1 112 1 ∷ Dose 10 2 250 1 ∷ On 10 ∷ [])
-unfolding doseLines hourIn closes firstHour journalText textOf fieldsText decimal digitsOf glyph pick
+pub journal-AL1 : JournalOf freshOf twoOfAL1 stampsOfAL1 (Dose 10 1 112 1 0 ∷ Dose 10 2 250 1 0 ∷ On 10 ∷ [])
+unfolding doseLines hourIn closes firstHour journalText headText versionText linesText textOf doseFields fieldsText decimal digitsOf glyph pick
 journal-AL1 =
     record {
       whole = stamped-whole (records freshOf twoOfAL1);
       doses = sym lines-AL1;
-      order = record { steps = (after-dose 10 1 112 1 (Dose 10 2 250 1) refl, (after-dose 10 2 250 1 (On 10) refl, tt)); near = omega arith };
+      order = record { steps = (after-dose 10 1 112 1 0 (Dose 10 2 250 1 0) refl, (after-dose 10 2 250 1 0 (On 10) refl, tt)); near = omega arith };
       hours = omega arith;
       size = omega arith;
     }

@@ -5,8 +5,8 @@ use mathlib.Core.List.{List, [], _∷_, _++_, map, map-append}
 use Prim.Native.Nat.{ℕ, _+_, _%_, _≤_}
 use native.Mathlib.Omega.{arith}
 use Rattle.laws.specs.Bools.{and-left, and-right}
-use Rattle.hourly.specs.Holes.{follows}
-use Rattle.hourly.specs.HoleLaws.{followOn, allFollow, first-free, counted-follows, one-follows}
+use Rattle.holes.specs.Holes.{follows}
+use Rattle.holes.specs.HoleLaws.{followOn, allFollow, first-free, counted-follows, one-follows}
 use Rattle.controller.specs.declared.Controller.{Controller}
 use Rattle.counters.specs.declared.Counters.{Counters}
 use Rattle.counters.specs.declared.Record.{Record}

@@ -5,6 +5,7 @@ pub mod Statement
 pub mod Proved
 pub mod Calls
 pub mod Records
+pub mod Products
 pub mod Holes
 pub mod Lines
 pub mod Examples

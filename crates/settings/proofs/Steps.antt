@@ -13,7 +13,7 @@ use lib.Seq.{drop-cons}
 use borrow.Author.Tests.{ltb-true, ltb-false}
 use Rattle.paper.specs.Answer.{Answer, done, refused}
 use Rattle.paper.specs.Numbers.{R2}
-use Rattle.settings.specs.Table.{Row, row, table, firstFrom, seventeen}
+use Rattle.settings.specs.Table.{Row, row, table, firstFrom, eighteen}
 use Rattle.settings.specs.Named.{In, Out, goes-on, stops}
 use Rattle.settings.specs.Columns.{valueOf, rangeOf, bounds}
 use Rattle.settings.specs.declared.Settings.{Settings}
@@ -32,9 +32,9 @@ fromPlace s i = firstFrom (suc i) (drop i (table s))
 abbrev pub rowAt : Settings → ℕ → Row
 rowAt s i = getD (table s) i (row 0 0 0)
 
-module _ (s : Settings) (i : ℕ) (h : i < 17) where
+module _ (s : Settings) (i : ℕ) (h : i < 18) where
   split : fromPlace s i ≡ firstFrom (suc i) (rowAt s i ∷ drop (suc i) (table s))
-  split = ap (firstFrom (suc i)) (drop-cons (table s) i (row 0 0 0) (omega (arith, seventeen s)))
+  split = ap (firstFrom (suc i)) (drop-cons (table s) i (row 0 0 0) (omega (arith, eighteen s)))
 
   pub passed : In (rowAt s i) → fromPlace s i ≡ fromPlace s (suc i)
   passed w = split ∙ goes-on (suc i) (rowAt s i) (drop (suc i) (table s)) w
@@ -43,12 +43,12 @@ module _ (s : Settings) (i : ℕ) (h : i < 17) where
   named w = rw add-one (split ∙ stops (suc i) (rowAt s i) (drop (suc i) (table s)) w)
 
 -- a value and a range that the code has read, as the row's
-module _ (s : Settings) (i : ℕ) (h : i < 17) {values : List ℕ} {ranges : List Range} (v : values ≡ map valueOf (table s)) (r : ranges ≡ map rangeOf (table s)) where
+module _ (s : Settings) (i : ℕ) (h : i < 18) {values : List ℕ} {ranges : List Range} (v : values ≡ map valueOf (table s)) (r : ranges ≡ map rangeOf (table s)) where
   value-at : getD values i 0 ≡ rowAt s i .value
-  value-at = rw v (column valueOf 0 (table s) (row 0 0 0) i (omega (arith, seventeen s)))
+  value-at = rw v (column valueOf 0 (table s) (row 0 0 0) i (omega (arith, eighteen s)))
 
   range-at : getD ranges i (bounds 0 0) ≡ rangeOf (rowAt s i)
-  range-at = rw r (column rangeOf (bounds 0 0) (table s) (row 0 0 0) i (omega (arith, seventeen s)))
+  range-at = rw r (column rangeOf (bounds 0 0) (table s) (row 0 0 0) i (omega (arith, eighteen s)))
 
   abbrev value : ℕ
   value = getD values i 0
@@ -65,6 +65,6 @@ module _ (s : Settings) (i : ℕ) (h : i < 17) {values : List ℕ} {ranges : Lis
   pub high-at : ltb (range .to) value ≡ true → Out (rowAt s i)
   high-at a = inr (rw (value-at, range-at) at (ltb-true (range .to) value a))
 
-pub ended : (s : Settings) (i : ℕ) → 17 ≤ i → fromPlace s i ≡ done tt
+pub ended : (s : Settings) (i : ℕ) → 18 ≤ i → fromPlace s i ≡ done tt
 unfolding firstFrom
-ended s i h = let l : length (table s) ≤ i = omega (arith, seventeen s) in rw (drop-of-length-le (table s) l) refl
+ended s i h = let l : length (table s) ≤ i = omega (arith, eighteen s) in rw (drop-of-length-le (table s) l) refl

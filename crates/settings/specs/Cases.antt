@@ -34,19 +34,20 @@ setOf l =
       address = getD l 14 0;
       serial = getD l 15 0;
       point = getD l 16 0;
+      product = getD l 17 0;
     }
 
 -- AL1 with C 1,000, D 500, Pc 100, Pf 20, M 50
 abbrev al1 : List ℕ
-al1 = 1 ∷ 1000 ∷ 500 ∷ 100 ∷ 20 ∷ 50 ∷ 4 ∷ 8 ∷ 1 ∷ 0 ∷ 0 ∷ 1 ∷ 1 ∷ 1 ∷ 1 ∷ 0 ∷ 0 ∷ []
+al1 = 1 ∷ 1000 ∷ 500 ∷ 100 ∷ 20 ∷ 50 ∷ 4 ∷ 8 ∷ 1 ∷ 0 ∷ 0 ∷ 1 ∷ 1 ∷ 1 ∷ 1 ∷ 0 ∷ 0 ∷ 0 ∷ []
 
 -- AL2 with C 1,000, D 500, Pc 100, Pf 20, M 800
 abbrev al2 : List ℕ
-al2 = 2 ∷ 1000 ∷ 500 ∷ 100 ∷ 20 ∷ 800 ∷ 128 ∷ 128 ∷ 63 ∷ 1 ∷ 1 ∷ 0 ∷ 0 ∷ 0 ∷ 127 ∷ 16777215 ∷ 3 ∷ []
+al2 = 2 ∷ 1000 ∷ 500 ∷ 100 ∷ 20 ∷ 800 ∷ 128 ∷ 128 ∷ 63 ∷ 1 ∷ 1 ∷ 0 ∷ 0 ∷ 0 ∷ 127 ∷ 16777215 ∷ 3 ∷ 255 ∷ []
 
 -- every setting out of its range
 abbrev worst : List ℕ
-worst = 4 ∷ 100000 ∷ 100001 ∷ 100002 ∷ 100003 ∷ 100004 ∷ 129 ∷ 130 ∷ 64 ∷ 2 ∷ 2 ∷ 2 ∷ 2 ∷ 2 ∷ 128 ∷ 16777216 ∷ 4 ∷ []
+worst = 4 ∷ 100000 ∷ 100001 ∷ 100002 ∷ 100003 ∷ 100004 ∷ 129 ∷ 130 ∷ 64 ∷ 2 ∷ 2 ∷ 2 ∷ 2 ∷ 2 ∷ 128 ∷ 16777216 ∷ 4 ∷ 256 ∷ []
 
 abbrev good : Answer (Unit {0})
 good = done tt
@@ -110,6 +111,10 @@ cases =
     ∷ case al1 15 128 (bad 15)
     ∷ case al1 16 16777216 (bad 16)
     ∷ case al1 17 4 (bad 17)
+    ∷ case al1 18 255 good
+    ∷ case al1 18 256 (bad 18)
+    -- row 17 is named before row 18
+    ∷ case (set al2 17 256) 17 4 (bad 17)
     ∷ []
 
 pub cases-hold : map (λ (k : Case). firstBad (setOf (k .values))) cases ≡ map (λ (k : Case). k .answer) cases
@@ -117,7 +122,7 @@ unfolding cases setOf firstBad firstFrom table inRange leastLevel mostLevel pick
 cases-hold = refl
 
 -- a default set: AL0, C 10,000, D 100, Pc 0, Pf 0, M 100, p7 4, p8 4, p9 1, address 1, the rest 0
-pub default-values : map valueOf (table defaultSet) ≡ 0 ∷ 10000 ∷ 100 ∷ 0 ∷ 0 ∷ 100 ∷ 4 ∷ 4 ∷ 1 ∷ 0 ∷ 0 ∷ 0 ∷ 0 ∷ 0 ∷ 1 ∷ 0 ∷ 0 ∷ []
+pub default-values : map valueOf (table defaultSet) ≡ 0 ∷ 10000 ∷ 100 ∷ 0 ∷ 0 ∷ 100 ∷ 4 ∷ 4 ∷ 1 ∷ 0 ∷ 0 ∷ 0 ∷ 0 ∷ 0 ∷ 1 ∷ 0 ∷ 0 ∷ 0 ∷ []
 unfolding table defaultSet
 default-values = refl
 
@@ -127,6 +132,6 @@ none-in zero = inl (omega arith)
 none-in (suc m) = inr (omega arith)
 
 -- with C under 4 no M is good in AL0 and AL1, so M is named
-pub no-level : (m : ℕ) → firstBad (setOf (1 ∷ 3 ∷ 1 ∷ 0 ∷ 0 ∷ m ∷ 4 ∷ 4 ∷ 1 ∷ 0 ∷ 0 ∷ 0 ∷ 0 ∷ 0 ∷ 1 ∷ 0 ∷ 0 ∷ [])) ≡ refused R2 (6 ∷ [])
+pub no-level : (m : ℕ) → firstBad (setOf (1 ∷ 3 ∷ 1 ∷ 0 ∷ 0 ∷ m ∷ 4 ∷ 4 ∷ 1 ∷ 0 ∷ 0 ∷ 0 ∷ 0 ∷ 0 ∷ 1 ∷ 0 ∷ 0 ∷ 0 ∷ [])) ≡ refused R2 (6 ∷ [])
 unfolding setOf firstBad firstFrom table inRange leastLevel mostLevel pick
 no-level m = pick-f (inRange (row m 1 0)) (done tt) (refused R2 (6 ∷ [])) (out-false (row m 1 0) (none-in m))

@@ -13,7 +13,7 @@ use Rattle.laws.specs.Pick.{pick-t, pick-f}
 use Rattle.laws.specs.Whole.{true-false, false-true}
 use Rattle.paper.specs.Answer.{done, refused}
 use Rattle.paper.specs.Numbers.{R2}
-use Rattle.settings.specs.Table.{Row, row, table, inRange, firstFrom, firstBad, seventeen}
+use Rattle.settings.specs.Table.{Row, row, table, inRange, firstFrom, firstBad, eighteen}
 use Rattle.settings.specs.declared.Settings.{Settings}
 
 -- the row's value is in its range
@@ -31,7 +31,7 @@ rowNumber s n = getD (table s) (n - 1) (row 0 0 0)
 -- row n is out of range, and every row before it is in range
 pub record FirstOut (s : Settings) (n : ℕ) : Type 0 where
   pub from : 1 ≤ n
-  pub to : n ≤ 17
+  pub to : n ≤ 18
   pub out : Out (rowNumber s n)
   pub before : (k : ℕ) → 1 ≤ k → k < n → In (rowNumber s k)
 
@@ -156,7 +156,7 @@ bad-named s n e =
     let w = named-at 1 n (table s) e in
     record {
       from = w .0;
-      to = omega (arith, w .0, w .1 .within, seventeen s);
+      to = omega (arith, w .0, w .1 .within, eighteen s);
       out = w .1 .out;
       before = λ k a b. w .1 .before (k - 1) (omega arith);
     }
@@ -167,7 +167,7 @@ unfolding firstBad
 named-bad s n f =
     let p : 1 + (n - 1) ≡ n = omega (arith, f .from) in
     at-named 1 (n - 1) (table s) (record {
-      within = omega (arith, f .from, f .to, seventeen s);
+      within = omega (arith, f .from, f .to, eighteen s);
       out = f .out;
       before = λ j b. let p : suc j - 1 ≡ j = omega arith in rw p at (f .before (suc j) (omega arith) (omega arith));
     })

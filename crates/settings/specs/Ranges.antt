@@ -1,6 +1,6 @@
 -- What a good set satisfies, range by range: the table read as facts. Assumes nothing.
 use Prim.Native.Nat.{_≤_}
-use Rattle.settings.specs.Table.{capacityMost, filterMost, leastLevel, mostLevel}
+use Rattle.settings.specs.Table.{capacityMost, filterMost, productMost, leastLevel, mostLevel}
 use Rattle.settings.specs.declared.Settings.{Settings}
 
 pub record Ranges (s : Settings) : Type 0 where
@@ -21,3 +21,4 @@ pub record Ranges (s : Settings) : Type 0 where
   pub address : (1 ≤ s .address) × (s .address ≤ 127)
   pub serial : s .serial ≤ 16777215
   pub point : s .point ≤ 3
+  pub product : s .product ≤ productMost

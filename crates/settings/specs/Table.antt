@@ -1,4 +1,4 @@
--- Settings and their ranges (document 01, "Settings and their ranges"). Assumes nothing.
+-- Settings and their ranges (document 01, "Settings and their ranges"; the product code is document 02's, W4). Assumes nothing.
 use mathlib.Core.Path.{_≡_, refl}
 use mathlib.Core.Bool.{Bool, _&&_}
 use mathlib.Core.List.{List, [], _∷_}
@@ -32,6 +32,10 @@ capacityMost = 99999
 
 abbrev pub filterMost : ℕ
 filterMost = 128
+
+-- the greatest product code
+abbrev pub productMost : ℕ
+productMost = 255
 
 -- One table lists each setting with its least and greatest value
 unfoldable pub table : Settings → List Row
@@ -68,6 +72,8 @@ table s =
     ∷ row (s .serial) 0 16777215
     -- decimal point: 0..3
     ∷ row (s .point) 0 3
+    -- product code: 0..255 as their last entry (document 02, W4)
+    ∷ row (s .product) 0 productMost
     ∷ []
 
 unfoldable pub inRange : Row → Bool
@@ -110,13 +116,14 @@ defaultSet =
       address = 1;
       serial = 0;
       point = 0;
+      product = 0;
     }
 
 pub default-good : firstBad defaultSet ≡ done tt
 unfolding firstBad firstFrom table defaultSet inRange leastLevel mostLevel pick
 default-good = refl
 
--- 17 settings
-pub seventeen : (s : Settings) → length (table s) ≡ 17
+-- 18 settings
+pub eighteen : (s : Settings) → length (table s) ≡ 18
 unfolding table
-seventeen s = refl
+eighteen s = refl

@@ -23,6 +23,7 @@ pub struct Settings {
     pub address: u32,
     pub serial: u32,
     pub point: u32,
+    pub product: u32,
 }
 
 // What the check answers: the set is good, or the row of the first bad setting (1 is the first).
@@ -38,7 +39,7 @@ struct Range {
 }
 
 // Each setting's fixed range, in the order of the check; a bound that depends on other settings is laid over it.
-const TABLE: [Range; 17] = [
+const TABLE: [Range; 18] = [
     Range { from: 0, to: 3 }, // algorithm
     Range {
         from: 1,
@@ -80,6 +81,10 @@ const TABLE: [Range; 17] = [
         to: 16777215,
     }, // serial
     Range { from: 0, to: 3 }, // decimal point
+    Range {
+        from: 0,
+        to: Settings::PRODUCT_MOST,
+    }, // product code
 ];
 
 impl Settings {
@@ -89,8 +94,11 @@ impl Settings {
     // The most samples that a filter takes the mean of.
     pub const FILTER_MOST: u32 = 128;
 
+    // The greatest product code.
+    pub const PRODUCT_MOST: u32 = 255;
+
     // The values of the settings, in the table's order.
-    fn values(self) -> [u32; 17]
+    fn values(self) -> [u32; 18]
         ensures { λ r. ⌜ r ≡ map valueOf (table self) ⌝ }
     {
         [
@@ -111,11 +119,12 @@ impl Settings {
             self.address,
             self.serial,
             self.point,
+            self.product,
         ]
     }
 
     // The table with the bounds that depend on other settings laid over it.
-    fn ranges(self) -> [Range; 17]
+    fn ranges(self) -> [Range; 18]
         ensures { λ r. ⌜ r ≡ map rangeOf (table self) ⌝ }
     {
         let mut ranges = TABLE;
@@ -152,7 +161,7 @@ impl Settings {
         let values = self.values();
         let ranges = self.ranges();
         let mut i: usize = 0;
-        while i < 17 {
+        while i < 18 {
             let value = values[i];
             let range = ranges[i];
             if value < range.from || range.to < value {
@@ -185,6 +194,7 @@ impl Settings {
             address: 1,
             serial: 0,
             point: 0,
+            product: 0,
         }
     }
 }

@@ -3,11 +3,11 @@ use mathlib.Core.Path.{_≡_, refl}
 use mathlib.Core.List.{List, [], _∷_, _++_}
 use Prim.Native.Nat.{ℕ, suc}
 use lib.Dec.{eqb}
-use lib.ListN.{getD}
+use lib.ListN.{getD, replicate}
 use Rattle.laws.specs.Pick.{pick}
 use Rattle.laws.specs.Decimal.{decimal, digitsOf, glyph, Parsed, good, bad, numberAt, digitsFrom, isDigit}
 use Rattle.paper.specs.Answer.{Answer, done, refused, fault, onDone, inRoom}
-use Rattle.paper.specs.Numbers.{R21}
+use Rattle.paper.specs.Numbers.{R10, R21}
 use Rattle.text.specs.Scan.{LF, TAB}
 use Rattle.hourly.specs.Text.{letterI, letterX}
 use Rattle.report.specs.Report.{refusalText}
@@ -85,7 +85,15 @@ pub day-bytes :
 unfolding dayText letterOf decimal digitsOf glyph pick
 day-bytes = (refl, refl, refl)
 
--- 0, 10 and 9,999,832 are first hours; an empty line, a leading zero, a sign, a space behind it, a CR and 9,999,833 are none
+-- seven unknown days, 0 to 6; R21 with line 0, and a journal's refusal with its own
+pub reports :
+    (reportBy (done (replicate 7 (record { kind = Unknown; covered = 0; sum = 0 }))) ≡ 48 ∷ 9 ∷ 88 ∷ 9 ∷ 48 ∷ 9 ∷ 48 ∷ 10 ∷ 49 ∷ 9 ∷ 88 ∷ 9 ∷ 48 ∷ 9 ∷ 48 ∷ 10 ∷ 50 ∷ 9 ∷ 88 ∷ 9 ∷ 48 ∷ 9 ∷ 48 ∷ 10 ∷ 51 ∷ 9 ∷ 88 ∷ 9 ∷ 48 ∷ 9 ∷ 48 ∷ 10 ∷ 52 ∷ 9 ∷ 88 ∷ 9 ∷ 48 ∷ 9 ∷ 48 ∷ 10 ∷ 53 ∷ 9 ∷ 88 ∷ 9 ∷ 48 ∷ 9 ∷ 48 ∷ 10 ∷ 54 ∷ 9 ∷ 88 ∷ 9 ∷ 48 ∷ 9 ∷ 48 ∷ 10 ∷ [])
+    × (reportBy (refused R21 []) ≡ 82 ∷ 9 ∷ 50 ∷ 49 ∷ 9 ∷ 48 ∷ 10 ∷ [])
+    × (reportBy (refused R10 (3 ∷ [])) ≡ 82 ∷ 9 ∷ 49 ∷ 48 ∷ 9 ∷ 51 ∷ 10 ∷ [])
+unfolding reportBy daysText dayText letterOf refusalText decimal digitsOf glyph pick
+reports = (refl, refl, refl)
+
+-- 0, 10 and 9,999,832 are first hours; an empty line, a leading zero, a sign, a space or a tab behind it, a space before it, a CR and 9,999,833 are none
 pub first-lines :
     (firstLine (48 ∷ []) ≡ done 0)
     × (firstLine (49 ∷ 48 ∷ []) ≡ done 10)
@@ -94,7 +102,10 @@ pub first-lines :
     × (firstLine (48 ∷ 49 ∷ []) ≡ refused R21 [])
     × (firstLine (43 ∷ 49 ∷ []) ≡ refused R21 [])
     × (firstLine (49 ∷ 32 ∷ []) ≡ refused R21 [])
+    × (firstLine (49 ∷ 9 ∷ []) ≡ refused R21 [])
+    × (firstLine (32 ∷ 49 ∷ []) ≡ refused R21 [])
+    × (firstLine (45 ∷ 49 ∷ []) ≡ refused R21 [])
     × (firstLine (49 ∷ 13 ∷ []) ≡ refused R21 [])
     × (firstLine (57 ∷ 57 ∷ 57 ∷ 57 ∷ 56 ∷ 51 ∷ 51 ∷ []) ≡ refused R21 [])
 unfolding firstLine firstFrom numberAt digitsFrom isDigit pick
-first-lines = (refl, refl, refl, refl, refl, refl, refl, refl, refl)
+first-lines = (refl, refl, refl, refl, refl, refl, refl, refl, refl, refl, refl, refl)

@@ -14,6 +14,7 @@ use Rattle.journal.specs.Says.{saysRefusal, refusal-done, refusal-told}
 use Rattle.journal.specs.declared.Line.{Line}
 use Rattle.journal.specs.declared.Refusal.{Refusal}
 use Rattle.journal.specs.declared.Refusal.the-variants as J
+use Rattle.hourly.specs.declared.Products.the-variants.{All}
 use Rattle.hourly.specs.Hours.{HourAnswer, hourOf}
 use Rattle.hourly.specs.Among.{among-hour}
 use Rattle.hourly.specs.Tally.{Tells, linesOf, summaryOf, hourAmong}
@@ -85,10 +86,10 @@ told-same f g (done x) e = ap done (e x)
 told-same f g (refused n vs) e = refl
 told-same f g (fault n vs) e = refl
 
-pub sums-whole : {s : List ℕ} {found : Summary} {table : List Tally} → Found s found → Tells table (found .first) (linesOf s) → Summed table found
+pub sums-whole : {s : List ℕ} {found : Summary} {table : List Tally} → Found s found → Tells All table (found .first) (linesOf s) → Summed table found
 sums-whole {s} f t = record { whole = λ h. subst Whole (sym (among-hour f t h)) (hour-whole (linesOf s) h (found-accepted f)) }
 
-module _ {s : List ℕ} {found : Summary} {table : List Tally} (f : Found s found) (t : Tells table (found .first) (linesOf s)) (first : ℕ) where
+module _ {s : List ℕ} {found : Summary} {table : List Tally} (f : Found s found) (t : Tells All table (found .first) (linesOf s)) (first : ℕ) where
   abbrev hours : ℕ → HourAnswer
   hours = hourAmong table found
 
@@ -101,14 +102,14 @@ module _ {s : List ℕ} {found : Summary} {table : List Tally} (f : Found s foun
   unfolding weekOf
   week-made {r} w =
       subst (λ (rule : Answer (List (List HourAnswer))). Week-is rule r)
-      (told-same (weekBy hours) (weekOf (linesOf s)) (firstOf first) (λ h. week-same hours (hourOf (linesOf s)) h (among-hour f t)) ∙ accepted-rule weekOf) w
+      (told-same (weekBy hours) (weekOf (linesOf s)) (firstOf first) (λ h. week-same hours (hourOf All (linesOf s)) h (among-hour f t)) ∙ accepted-rule weekOf) w
 
   pub days-made : {r : Days} → DaysBy table found first r → MakesDays s first r
   unfolding weekOf
   days-made {r} d =
       subst (λ (rule : Answer (List Day)). Days-are rule r)
       (told-same (λ (h : ℕ). map dayFrom (weekBy hours h)) (daysOf (linesOf s)) (firstOf first)
-      (λ h. ap (map dayFrom) (week-same hours (hourOf (linesOf s)) h (among-hour f t)) ∙ days-same (linesOf s) h (found-accepted f))
+      (λ h. ap (map dayFrom) (week-same hours (hourOf All (linesOf s)) h (among-hour f t)) ∙ days-same (linesOf s) h (found-accepted f))
       ∙ accepted-rule daysOf) d
 
 -- ---- a journal that is refused

@@ -4,6 +4,7 @@ use mathlib.Core.List.{List, [], _∷_}
 use Prim.Native.Nat.{ℕ, _+_, _*_}
 use Rattle.laws.specs.Pick.{pick}
 use Rattle.journal.specs.declared.Line.{Line}
+use Rattle.hourly.specs.declared.Products.the-variants.{All}
 use Rattle.hourly.specs.Hours.{HourAnswer, measured, idle, missing, amountsAt, total, hourOf}
 use Rattle.weekly.specs.Week.{listOf, dayBy}
 use Rattle.weekly.specs.declared.Kind.{Kind}
@@ -63,7 +64,7 @@ coveredOf hs = count isMeasured hs
 
 -- what an hour adds to the sum: its D amounts if it is measured, else nothing
 unfoldable pub sumAt : List Line → ℕ → ℕ
-sumAt ls h = pick (isMeasured (hourOf ls h)) (total (amountsAt h ls)) 0
+sumAt ls h = pick (isMeasured (hourOf All ls h)) (total (amountsAt All h ls)) 0
 
 -- the sum over its measured hours, exact
 unfoldable pub sumOver : List Line → ℕ → ℕ
@@ -71,7 +72,7 @@ sumOver ls h = total (listOf (λ (k : ℕ). sumAt ls (h + k)) 24)
 
 -- the day from hour h on
 unfoldable pub dayOf : List Line → ℕ → Day
-dayOf ls h = record { kind = kindOf (dayBy (hourOf ls) h); covered = coveredOf (dayBy (hourOf ls) h); sum = sumOver ls h }
+dayOf ls h = record { kind = kindOf (dayBy (hourOf All ls) h); covered = coveredOf (dayBy (hourOf All ls) h); sum = sumOver ls h }
 
 -- day 0 to 6
 unfoldable pub daysOf : List Line → ℕ → List Day

@@ -7,8 +7,8 @@ use lib.Ieee.{div, ofInt}
 use Rattle.laws.specs.Pick.{pick}
 use Rattle.journal.specs.declared.Line.{Line}
 use Rattle.journal.specs.declared.Line.the-variants.{Dose, On}
-use Rattle.hourly.specs.Holes.{nextCount, follows, doseBefore, endsHole, holeFrom, inHole}
-use Rattle.hourly.specs.Hours.{hourOf, measuredOrIdle, hasOn, isOn, amountsAt, doseAt, total, greatest, sumOf, largestOf, meanOf, asF64}
+use Rattle.holes.specs.Holes.{nextCount, follows, doseBefore, endsHole, holeFrom, inHole}
+use Rattle.hourly.specs.Hours.{hourOf, measuredOrIdle, hasOn, isOn, amountsAt, doseAt, total, greatest, sumOf, largestOf, meanOf, asF64, asksFor}
 use Rattle.weekly.specs.Week.{listOf, dayBy}
 use Rattle.weekly.specs.Day.{any, all, isWorked, isHoliday, kindOf, count, coveredOf, sumAt, sumOver, dayOf, daysOf}
 use Rattle.weekly.specs.declared.Kind.{Kind}
@@ -28,18 +28,19 @@ pub days :
     (dayOf (ons 10 24) 10 ≡ day Holiday 0 0)
     × (dayOf (ons 10 23) 10 ≡ day Unknown 0 0)
     × (dayOf (ons 10 24) 9 ≡ day Unknown 0 0)
-    × (dayOf (Dose 10 1 500 1 ∷ Dose 10 2 498 1 ∷ ons 10 24) 10 ≡ day Worked 1 998)
-unfolding dayOf dayBy sumOver sumAt coveredOf count kindOf isWorked isHoliday any all listOf ons hourOf inHole holeFrom endsHole doseBefore follows nextCount measuredOrIdle hasOn isOn amountsAt doseAt total greatest sumOf largestOf meanOf asF64 div ofInt pick
+    × (dayOf (Dose 10 1 500 1 0 ∷ Dose 10 2 498 1 0 ∷ ons 10 24) 10 ≡ day Worked 1 998)
+unfolding dayOf dayBy sumOver sumAt coveredOf count kindOf isWorked isHoliday any all listOf ons hourOf inHole holeFrom endsHole doseBefore follows nextCount measuredOrIdle hasOn isOn amountsAt doseAt asksFor total greatest sumOf largestOf meanOf asF64 div ofInt pick
 days = (refl, refl, refl, refl)
 
--- a measured hour and 23 missing ones are worked; D lines without an H are not; a hole takes a day's hours away
+-- a measured hour and 23 missing ones are worked, and two add up, of whatever product; D lines without an H are not; a hole takes a day's hours away
 pub worked :
-    (dayOf (Dose 10 1 5 1 ∷ On 10 ∷ []) 3 ≡ day Worked 1 5)
-    × (dayOf (Dose 10 1 5 1 ∷ Dose 11 2 7 1 ∷ On 11 ∷ []) 3 ≡ day Worked 1 7)
-    × (dayOf (Dose 10 1 5 1 ∷ []) 3 ≡ day Unknown 0 0)
-    × (dayOf (Dose 10 1 5 1 ∷ On 10 ∷ Dose 12 3 5 1 ∷ On 12 ∷ []) 3 ≡ day Unknown 0 0)
-unfolding dayOf dayBy sumOver sumAt coveredOf count kindOf isWorked isHoliday any all listOf hourOf inHole holeFrom endsHole doseBefore follows nextCount measuredOrIdle hasOn isOn amountsAt doseAt total greatest sumOf largestOf meanOf asF64 div ofInt pick
-worked = (refl, refl, refl, refl)
+    (dayOf (Dose 10 1 5 1 0 ∷ On 10 ∷ []) 3 ≡ day Worked 1 5)
+    × (dayOf (Dose 10 1 5 1 0 ∷ Dose 11 2 7 1 0 ∷ On 11 ∷ []) 3 ≡ day Worked 1 7)
+    × (dayOf (Dose 10 1 500 1 0 ∷ On 10 ∷ Dose 12 2 250 0 3 ∷ On 12 ∷ []) 3 ≡ day Worked 2 750)
+    × (dayOf (Dose 10 1 5 1 0 ∷ []) 3 ≡ day Unknown 0 0)
+    × (dayOf (Dose 10 1 5 1 0 ∷ On 10 ∷ Dose 12 3 5 1 0 ∷ On 12 ∷ []) 3 ≡ day Unknown 0 0)
+unfolding dayOf dayBy sumOver sumAt coveredOf count kindOf isWorked isHoliday any all listOf hourOf inHole holeFrom endsHole doseBefore follows nextCount measuredOrIdle hasOn isOn amountsAt doseAt asksFor total greatest sumOf largestOf meanOf asF64 div ofInt pick
+worked = (refl, refl, refl, refl, refl)
 
 -- of an empty journal every day is unknown
 pub nothing : daysOf [] 100 ≡ replicate 7 (day Unknown 0 0)

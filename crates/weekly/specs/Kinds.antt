@@ -11,9 +11,11 @@ use Rattle.laws.specs.Pick.{pick}
 use Rattle.laws.specs.Bools.{and-left, and-right}
 use Rattle.journal.specs.declared.Line.{Line}
 use Rattle.journal.specs.declared.Line.the-variants.{Dose, On}
-use Rattle.hourly.specs.Holes.{inHole}
-use Rattle.hourly.specs.Hours.{HourAnswer, measured, idle, missing, amountsAt, hasOn, measuredOrIdle, hourOf}
-use Rattle.hourly.specs.Kinds.{Exactly, on-exactly, none-exactly}
+use Rattle.holes.specs.Holes.{inHole}
+use Rattle.hourly.specs.declared.Products.the-variants.{All}
+use Rattle.hourly.specs.Hours.{HourAnswer, measured, idle, missing, amountsAt, hasOn, measuredOrIdle, hourOf, asksFor}
+use Rattle.hourly.specs.Kinds.{on-exactly, none-exactly}
+use Rattle.holes.specs.HoleLaws.{Exactly}
 use Rattle.weekly.specs.Week.{listOf, dayBy}
 use Rattle.weekly.specs.Day.{isMeasured, isIdle, isMissing, any, all, isWorked, isHoliday, isUnknown, kindOf, dayOf}
 use Rattle.weekly.specs.declared.Kind.the-variants.{Worked, Holiday, Unknown}
@@ -169,9 +171,9 @@ any-exactly p f (suc n) = (λ e. there (any-exactly p f n .0) (any-snoc p (listO
 -- ---- by the journal's lines
 
 -- an hour is idle exactly if it lies in no hole, and the journal has its H and no D of it
-idle-is : (ls : List Line) (h : ℕ) → Exactly (isIdle (hourOf ls h) ≡ true) ((inHole h ls ≡ false) × (hasOn h ls ≡ true) × (amountsAt h ls ≡ []))
+idle-is : (ls : List Line) (h : ℕ) → Exactly (isIdle (hourOf All ls h) ≡ true) ((inHole h ls ≡ false) × (hasOn h ls ≡ true) × (amountsAt All h ls ≡ []))
 unfolding hourOf measuredOrIdle pick
-idle-is ls h = (only (inHole h ls) (hasOn h ls) (amountsAt h ls), λ e. rw (e .0, e .1, e .2))
+idle-is ls h = (only (inHole h ls) (hasOn h ls) (amountsAt All h ls), λ e. rw (e .0, e .1, e .2))
   where
     only : (hole on : Bool) (amounts : List ℕ) → isIdle (pick hole missing (pick on (measuredOrIdle amounts) missing)) ≡ true → (hole ≡ false) × (on ≡ true) × (amounts ≡ [])
     only true on amounts e = absurd (true≢false (sym e))
@@ -180,9 +182,9 @@ idle-is ls h = (only (inHole h ls) (hasOn h ls) (amountsAt h ls), λ e. rw (e .0
     only false false amounts e = absurd (true≢false (sym e))
 
 -- and measured exactly if it lies in no hole, and the journal has its H and a D of it
-measured-is : (ls : List Line) (h : ℕ) → Exactly (isMeasured (hourOf ls h) ≡ true) ((inHole h ls ≡ false) × (hasOn h ls ≡ true) × (amountsAt h ls ≡ [] → ⊥))
+measured-is : (ls : List Line) (h : ℕ) → Exactly (isMeasured (hourOf All ls h) ≡ true) ((inHole h ls ≡ false) × (hasOn h ls ≡ true) × (amountsAt All h ls ≡ [] → ⊥))
 unfolding hourOf measuredOrIdle pick
-measured-is ls h = (only (inHole h ls) (hasOn h ls) (amountsAt h ls), λ e. rw (e .0, e .1) (made (amountsAt h ls) (e .2)))
+measured-is ls h = (only (inHole h ls) (hasOn h ls) (amountsAt All h ls), λ e. rw (e .0, e .1) (made (amountsAt All h ls) (e .2)))
   where
     only : (hole on : Bool) (amounts : List ℕ) → isMeasured (pick hole missing (pick on (measuredOrIdle amounts) missing)) ≡ true → (hole ≡ false) × (on ≡ true) × (amounts ≡ [] → ⊥)
     only true on amounts e = absurd (true≢false (sym e))
@@ -197,32 +199,32 @@ measured-is ls h = (only (inHole h ls) (hasOn h ls) (amountsAt h ls), λ e. rw (
 -- what the journal has of an idle hour: its H, no D of it, and no hole that covers it
 pub record IdleLines (ls : List Line) (h : ℕ) : Type 0 where
   pub on : List·Memᴰ (On h) ls
-  pub none : (c a s : ℕ) → List·Memᴰ (Dose h c a s) ls → ⊥
+  pub none : (c a s p : ℕ) → List·Memᴰ (Dose h c a s p) ls → ⊥
   pub hole : inHole h ls ≡ false
 
 -- a day prints I exactly if so it is of each of its 24 hours
 pub holiday-lines : (ls : List Line) (h : ℕ) → Exactly (dayOf ls h .kind ≡ Holiday) ((k : ℕ) → k < 24 → IdleLines ls (h + k))
-unfolding dayOf dayBy isHoliday
+unfolding dayOf dayBy isHoliday asksFor
 holiday-lines ls h =
-    let day = holiday-exactly (dayBy (hourOf ls) h) in
-    let hours = all-exactly isIdle (λ (k : ℕ). hourOf ls (h + k)) 24 in (
+    let day = holiday-exactly (dayBy (hourOf All ls) h) in
+    let hours = all-exactly isIdle (λ (k : ℕ). hourOf All ls (h + k)) 24 in (
       λ e k b.
           let i = idle-is ls (h + k) .0 (hours .0 (day .0 e) k b) in
-          record { on = on-exactly ls (h + k) .0 (i .1); none = none-exactly ls (h + k) .0 (i .2); hole = i .0 },
+          record { on = on-exactly ls (h + k) .0 (i .1); none = λ c a s p. none-exactly All ls (h + k) .0 (i .2) c a s p refl; hole = i .0 },
       λ e.
           day .1
           (hours .1
           (λ k b.
           let i = e k b in
-          idle-is ls (h + k) .1 (i .hole, on-exactly ls (h + k) .1 (i .on), none-exactly ls (h + k) .1 (i .none)))),
+          idle-is ls (h + k) .1 (i .hole, on-exactly ls (h + k) .1 (i .on), none-exactly All ls (h + k) .1 (λ c a s p q. i .none c a s p)))),
     )
 
 -- W exactly if one of its 24 hours is measured: no hole covers it, and the journal has its H and a D of it
-pub worked-lines : (ls : List Line) (h : ℕ) → Exactly (dayOf ls h .kind ≡ Worked) ((k : ℕ) × (k < 24) × ((inHole (h + k) ls ≡ false) × (hasOn (h + k) ls ≡ true) × (amountsAt (h + k) ls ≡ [] → ⊥)))
+pub worked-lines : (ls : List Line) (h : ℕ) → Exactly (dayOf ls h .kind ≡ Worked) ((k : ℕ) × (k < 24) × ((inHole (h + k) ls ≡ false) × (hasOn (h + k) ls ≡ true) × (amountsAt All (h + k) ls ≡ [] → ⊥)))
 unfolding dayOf dayBy isWorked
 worked-lines ls h =
-    let day = worked-exactly (dayBy (hourOf ls) h) in
-    let hours = any-exactly isMeasured (λ (k : ℕ). hourOf ls (h + k)) 24 in (
+    let day = worked-exactly (dayBy (hourOf All ls) h) in
+    let hours = any-exactly isMeasured (λ (k : ℕ). hourOf All ls (h + k)) 24 in (
       λ e. let r = hours .0 (day .0 e) in (r .0, r .1, measured-is ls (h + r .0) .0 (r .2)),
       λ e. day .1 (hours .1 (e .0, e .1, measured-is ls (h + e .0) .1 (e .2))),
     )

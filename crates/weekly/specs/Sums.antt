@@ -7,7 +7,8 @@ use native.Mathlib.Omega.{arith}
 use lib.ListN.{length}
 use Rattle.laws.specs.Pick.{pick, pick-all}
 use Rattle.journal.specs.declared.Line.{Line}
-use Rattle.hourly.specs.Holes.{inHole}
+use Rattle.holes.specs.Holes.{inHole}
+use Rattle.hourly.specs.declared.Products.the-variants.{All}
 use Rattle.hourly.specs.Hours.{HourAnswer, missing, amountsAt, hasOn, total, sumOf, measuredOrIdle, hourOf}
 use Rattle.hourly.specs.Floats.{whole-back}
 use Rattle.hourly.specs.Accepted.{Accepted}
@@ -19,13 +20,13 @@ use Rattle.weekly.specs.Lists.{list-same, list-map, list-length}
 use Rattle.weekly.specs.declared.Day.{Day}
 
 -- an hour's D amounts come to at most 16,384 times 1,800,000
-pub hour-most : {s : List ℕ} (ls : List Line) (h : ℕ) → Accepted s ls → total (amountsAt h ls) ≤ 29491200000
-hour-most ls h a = omega (arith, modest h ls (a .ranged) .sum, a .few)
+pub hour-most : {s : List ℕ} (ls : List Line) (h : ℕ) → Accepted s ls → total (amountsAt All h ls) ≤ 29491200000
+hour-most ls h a = omega (arith, modest All h ls (a .ranged) .sum, a .few)
 
 -- so its f64 sum is a whole number, and the one that its D amounts come to
-sum-is : {s : List ℕ} (ls : List Line) (h : ℕ) → Accepted s ls → Whole (hourOf ls h) × (sumIn (hourOf ls h) ≡ sumAt ls h)
+sum-is : {s : List ℕ} (ls : List Line) (h : ℕ) → Accepted s ls → Whole (hourOf All ls h) × (sumIn (hourOf All ls h) ≡ sumAt ls h)
 unfolding hourOf measuredOrIdle sumOf sumAt pick
-sum-is ls h a = go (inHole h ls) (hasOn h ls) (amountsAt h ls) (hour-most ls h a)
+sum-is ls h a = go (inHole h ls) (hasOn h ls) (amountsAt All h ls) (hour-most ls h a)
   where
     go : (hole on : Bool) (amounts : List ℕ) → total amounts ≤ 29491200000
         → Whole (pick hole missing (pick on (measuredOrIdle amounts) missing))
@@ -35,32 +36,32 @@ sum-is ls h a = go (inHole h ls) (hasOn h ls) (amountsAt h ls) (hour-most ls h a
     go false true (x ∷ xs) b = let w = whole-back (total (x ∷ xs)) (omega arith) in ((w .0, omega (arith, w .1)), w .1)
     go false false amounts b = (tt, refl)
 
-pub hour-whole : {s : List ℕ} (ls : List Line) (h : ℕ) → Accepted s ls → Whole (hourOf ls h)
+pub hour-whole : {s : List ℕ} (ls : List Line) (h : ℕ) → Accepted s ls → Whole (hourOf All ls h)
 hour-whole ls h a = sum-is ls h a .0
 
-pub hour-sum : {s : List ℕ} (ls : List Line) (h : ℕ) → Accepted s ls → sumIn (hourOf ls h) ≡ sumAt ls h
+pub hour-sum : {s : List ℕ} (ls : List Line) (h : ℕ) → Accepted s ls → sumIn (hourOf All ls h) ≡ sumAt ls h
 hour-sum ls h a = sum-is ls h a .1
 
 -- a day's f64 sums add up to the sum over its measured hours
-pub day-same : {s : List ℕ} (ls : List Line) (h : ℕ) → Accepted s ls → dayFrom (dayBy (hourOf ls) h) ≡ dayOf ls h
+pub day-same : {s : List ℕ} (ls : List Line) (h : ℕ) → Accepted s ls → dayFrom (dayBy (hourOf All ls) h) ≡ dayOf ls h
 unfolding dayFrom dayOf dayBy sumOver
 day-same ls h a =
-    ap (λ (n : ℕ). record { kind = kindOf (dayBy (hourOf ls) h); covered = coveredOf (dayBy (hourOf ls) h); sum = n })
+    ap (λ (n : ℕ). record { kind = kindOf (dayBy (hourOf All ls) h); covered = coveredOf (dayBy (hourOf All ls) h); sum = n })
     (ap total
-    (list-map sumIn (λ (k : ℕ). hourOf ls (h + k)) 24
-    ∙ list-same (λ (k : ℕ). sumIn (hourOf ls (h + k))) (λ (k : ℕ). sumAt ls (h + k)) 24 (λ k. hour-sum ls (h + k) a)))
+    (list-map sumIn (λ (k : ℕ). hourOf All ls (h + k)) 24
+    ∙ list-same (λ (k : ℕ). sumIn (hourOf All ls (h + k))) (λ (k : ℕ). sumAt ls (h + k)) 24 (λ k. hour-sum ls (h + k) a)))
 
 pub days-same : {s : List ℕ} (ls : List Line) (first : ℕ) → Accepted s ls → map dayFrom (weekOf ls first) ≡ daysOf ls first
 unfolding weekOf weekBy daysOf
 days-same ls first a =
-    list-map dayFrom (λ (d : ℕ). dayBy (hourOf ls) (first + 24 * d)) 7
-    ∙ list-same (λ (d : ℕ). dayFrom (dayBy (hourOf ls) (first + 24 * d))) (λ (d : ℕ). dayOf ls (first + 24 * d)) 7 (λ d. day-same ls (first + 24 * d) a)
+    list-map dayFrom (λ (d : ℕ). dayBy (hourOf All ls) (first + 24 * d)) 7
+    ∙ list-same (λ (d : ℕ). dayFrom (dayBy (hourOf All ls) (first + 24 * d))) (λ (d : ℕ). dayOf ls (first + 24 * d)) 7 (λ d. day-same ls (first + 24 * d) a)
 
 -- ---- how large a day can be
 
 sum-at-most : {s : List ℕ} (ls : List Line) (h : ℕ) → Accepted s ls → sumAt ls h ≤ 29491200000
 unfolding sumAt
-sum-at-most ls h a = pick-all (λ (n : ℕ). n ≤ 29491200000) (isMeasured (hourOf ls h)) (hour-most ls h a) (omega arith)
+sum-at-most ls h a = pick-all (λ (n : ℕ). n ≤ 29491200000) (isMeasured (hourOf All ls h)) (hour-most ls h a) (omega arith)
 
 total-most : (f : ℕ → ℕ) (m n : ℕ) → ((k : ℕ) → f k ≤ m) → total (listOf f n) ≤ m * n
 unfolding listOf total
@@ -89,6 +90,6 @@ pub day-modest : {s : List ℕ} (ls : List Line) (h : ℕ) → Accepted s ls →
 unfolding dayOf dayBy coveredOf sumOver
 day-modest ls h a =
     record {
-      covered = omega (arith, count-most isMeasured (dayBy (hourOf ls) h), list-length (λ (k : ℕ). hourOf ls (h + k)) 24);
+      covered = omega (arith, count-most isMeasured (dayBy (hourOf All ls) h), list-length (λ (k : ℕ). hourOf All ls (h + k)) 24);
       sum = omega (arith, total-most (λ (k : ℕ). sumAt ls (h + k)) 29491200000 24 (λ k. sum-at-most ls (h + k) a));
     }

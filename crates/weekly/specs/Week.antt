@@ -1,5 +1,5 @@
 -- The week: seven days of twenty-four hours from a given first hour (document 02, W12). Assumes nothing.
-use mathlib.Core.Path.{_≡_, refl}
+use mathlib.Core.Path.{_≡_, refl, ap}
 use mathlib.Core.List.{List, [], _∷_, _++_}
 use Prim.Native.Nat.{ℕ, zero, suc, _+_, _*_}
 use lib.Dec.{leb}
@@ -8,6 +8,7 @@ use Rattle.paper.specs.Answer.{Answer, done, refused, told, onDone}
 use Rattle.paper.specs.Numbers.{R21}
 use Rattle.journal.specs.Journal.{journalOf}
 use Rattle.journal.specs.declared.Line.{Line}
+use Rattle.hourly.specs.declared.Products.the-variants.{All}
 use Rattle.hourly.specs.Hours.{HourAnswer, hourOf}
 
 -- f 0, f 1, .., n of them
@@ -25,7 +26,7 @@ weekBy hour first = listOf (λ (d : ℕ). dayBy hour (first + 24 * d)) 7
 
 -- each measured, idle or missing as the hour rules say (an hour outside the journal has no H, so they say missing)
 unfoldable pub weekOf : List Line → ℕ → List (List HourAnswer)
-weekOf ls first = weekBy (hourOf ls) first
+weekOf ls first = weekBy (hourOf All ls) first
 
 -- a first hour that is malformed or above 9,999,832 is R21: so the week's last hour is at most 9,999,999
 abbrev pub latest : ℕ
@@ -37,6 +38,11 @@ firstOf first = pick (leb first latest) (done first) (refused R21 [])
 -- R21 after the journal's own refusals
 unfoldable pub afterJournal : {X : Type 0} → List ℕ → Answer ℕ → (List Line → ℕ → X) → Answer X
 afterJournal s first what = onDone (journalOf s) (λ ls. told (what ls) first)
+
+-- so a refused journal answers its own refusal, whatever the first hour
+pub journal-first : {X : Type 0} (s : List ℕ) (first : Answer ℕ) (what : List Line → ℕ → X) (n : ℕ) (vs : List ℕ) → journalOf s ≡ refused n vs → afterJournal s first what ≡ refused n vs
+unfolding afterJournal onDone
+journal-first s first what n vs e = ap (λ (a : Answer (List Line)). onDone a (λ ls. told (what ls) first)) e
 
 pub first-cases : (firstOf 0 ≡ done 0) × (firstOf 9999832 ≡ done 9999832) × (firstOf 9999833 ≡ refused R21 [])
 unfolding firstOf pick

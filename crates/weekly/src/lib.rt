@@ -1,6 +1,7 @@
 // The week of a journal: seven days of twenty-four hours from a given first hour, and what each day was.
 use hourly::Hour;
 use hourly::Judged;
+use hourly::Products;
 use hourly::Summary;
 use hourly::Tally;
 use journal::Refusal;
@@ -171,7 +172,7 @@ fn week_in(table: [Tally; journal::SPAN], found: Summary, first: u32) -> Weekly
 pub fn week_of(bytes: &[u8], first: u32) -> Weekly
     ensures { λ r. ⌜ MakesWeek (now (bytes .entry)) first r ⌝ }
 {
-    let counted = hourly::tallies(bytes);
+    let counted = hourly::tallies(bytes, Products::All);
     let table = counted.table;
     let judged = counted.judged;
     match judged {
@@ -314,7 +315,7 @@ fn days_at(table: [Tally; journal::SPAN], found: Summary, first: u32) -> Days
 pub fn days_of(bytes: &[u8], first: u32) -> Days
     ensures { λ r. ⌜ MakesDays (now (bytes .entry)) first r ⌝ }
 {
-    let counted = hourly::tallies(bytes);
+    let counted = hourly::tallies(bytes, Products::All);
     let table = counted.table;
     let judged = counted.judged;
     match judged {

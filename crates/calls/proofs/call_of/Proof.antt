@@ -13,13 +13,14 @@ use borrow.Author.Needs.{needs}
 use Rattle.calls.proofs.call_of.Statement.{statement}
 use Rattle.calls.proofs.call_of.Tie as tie
 
-returns-18 : tie.Need-returns-18
+returns-19 : tie.Need-returns-19
 unfolding callBy
-returns-18 c =
+returns-19 c =
     let n = c .match .rest in
     by-key (c .before .byte-at .ensures) refl
     (unasked
     (pick-f _ _ _ (ne-eqb _ _ (λ t. c .before .before .before .pre .1 (sym (c .before .byte-at .ensures) ∙ t)))
+    ∙ pick-f _ _ _ (ne-eqb _ _ (n .0 .0 .0 .0 .0 .0 .0 .0 .0 .0 .0 .0 .0 .0 .0 .0 .0 .1))
     ∙ pick-f _ _ _ (ne-eqb _ _ (n .0 .0 .0 .0 .0 .0 .0 .0 .0 .0 .0 .0 .0 .0 .0 .0 .1))
     ∙ pick-f _ _ _ (ne-eqb _ _ (n .0 .0 .0 .0 .0 .0 .0 .0 .0 .0 .0 .0 .0 .0 .0 .1))
     ∙ pick-f _ _ _ (ne-eqb _ _ (n .0 .0 .0 .0 .0 .0 .0 .0 .0 .0 .0 .0 .0 .0 .1))
@@ -29,10 +30,14 @@ returns-18 c =
     ∙ pick-f _ _ _ (ne-eqb _ _ (n .0 .0 .0 .0 .0 .0 .0 .0 .0 .0 .1))
     ∙ pick-f _ _ _ (ne-eqb _ _ (n .0 .0 .0 .0 .0 .0 .0 .0 .0 .1))
     ∙ pick-f _ _ _ (ne-eqb _ _ (n .0 .0 .0 .0 .0 .0 .0 .0 .1))
-    ∙ pick-f _ _ _ (ne-eqb _ _ (n .0 .0 .0 .0 .0 .0 .0 .1)) ∙ pick-f _ _ _ (ne-eqb _ _ (n .0 .0 .0 .0 .0 .0 .1))
-    ∙ pick-f _ _ _ (ne-eqb _ _ (n .0 .0 .0 .0 .0 .1)) ∙ pick-f _ _ _ (ne-eqb _ _ (n .0 .0 .0 .0 .1))
-    ∙ pick-f _ _ _ (ne-eqb _ _ (n .0 .0 .0 .1)) ∙ pick-f _ _ _ (ne-eqb _ _ (n .0 .0 .1))
-    ∙ pick-f _ _ _ (ne-eqb _ _ (n .0 .1)) ∙ pick-f _ _ _ (ne-eqb _ _ (n .1))))
+    ∙ pick-f _ _ _ (ne-eqb _ _ (n .0 .0 .0 .0 .0 .0 .0 .1))
+    ∙ pick-f _ _ _ (ne-eqb _ _ (n .0 .0 .0 .0 .0 .0 .1))
+    ∙ pick-f _ _ _ (ne-eqb _ _ (n .0 .0 .0 .0 .0 .1))
+    ∙ pick-f _ _ _ (ne-eqb _ _ (n .0 .0 .0 .0 .1))
+    ∙ pick-f _ _ _ (ne-eqb _ _ (n .0 .0 .0 .1))
+    ∙ pick-f _ _ _ (ne-eqb _ _ (n .0 .0 .1))
+    ∙ pick-f _ _ _ (ne-eqb _ _ (n .0 .1))
+    ∙ pick-f _ _ _ (ne-eqb _ _ (n .1))))
 
 pub call-of-spec : {M : Type 1} → statement M
 unfolding callBy aloneCall roomCall roomMost pick asCall sizeOf Within
@@ -47,8 +52,9 @@ call-of-spec =
     (λ c κs. (c .before .before .before .pre .0, sym (ap roomMost (c .match .keys9))))
     (λ c κs. c .before .before .before .pre .0) (λ c κs. search needs) (λ c κs. c .before .before .before .pre .0)
     (λ c κs. search needs) (λ c κs. search needs) (λ c κs. c .before .before .before .pre .0)
-    (λ c κs. (c .before .before .before .pre .0, sym (ap roomMost (c .match .keys16))))
+    (λ c κs. c .before .before .before .pre .0)
     (λ c κs. (c .before .before .before .pre .0, sym (ap roomMost (c .match .keys17))))
+    (λ c κs. (c .before .before .before .pre .0, sym (ap roomMost (c .match .keys18))))
     (λ c. by-key {k = 76} (c .before .before .byte-at .ensures) (c .before .match .keys1) (c .link .ensures))
     (λ c. by-key {k = 83} (c .before .before .byte-at .ensures) (c .before .match .keys2) (c .set .ensures))
     (λ c. by-key {k = 67} (c .before .before .byte-at .ensures) (c .before .match .keys3) (asked (c .ended .ensures) refl refl (omega arith) tt))
@@ -64,6 +70,7 @@ call-of-spec =
     (λ c. by-key {k = 68} (c .before .before .byte-at .ensures) (c .before .match .keys13) (c .dose .ensures))
     (λ c. by-key {k = 72} (c .before .before .byte-at .ensures) (c .before .match .keys14) (c .on .ensures))
     (λ c. by-key {k = 108} (c .before .before .byte-at .ensures) (c .before .match .keys15) (subst (λ (n : ℕ). Asks (now (c .before .before .before .before .args .line)) (bytesCall (aloneCall n) (drop 1 (now (c .before .before .before .before .args .line)))) (c .alone2 .result)) (c .before .match .keys15) (c .alone2 .ensures)))
-    (λ c. by-key {k = 117} (c .before .before .byte-at .ensures) (c .before .match .keys16) (subst (λ (n : ℕ). Asks (now (c .before .before .before .before .args .line)) (roomAt 4294967295 (roomCall n) (drop 1 (now (c .before .before .before .before .args .line)))) (c .room4 .result)) (c .before .match .keys16) (c .room4 .ensures)))
-    (λ c. by-key {k = 106} (c .before .before .byte-at .ensures) (c .before .match .keys17) (subst (λ (n : ℕ). Asks (now (c .before .before .before .before .args .line)) (roomAt 2000 (roomCall n) (drop 1 (now (c .before .before .before .before .args .line)))) (c .room5 .result)) (c .before .match .keys17) (c .room5 .ensures)))
-    returns-18)
+    (λ c. by-key {k = 109} (c .before .before .byte-at .ensures) (c .before .match .keys16) (subst (λ (n : ℕ). Asks (now (c .before .before .before .before .args .line)) (bytesCall (aloneCall n) (drop 1 (now (c .before .before .before .before .args .line)))) (c .alone3 .result)) (c .before .match .keys16) (c .alone3 .ensures)))
+    (λ c. by-key {k = 117} (c .before .before .byte-at .ensures) (c .before .match .keys17) (subst (λ (n : ℕ). Asks (now (c .before .before .before .before .args .line)) (roomAt 4294967295 (roomCall n) (drop 1 (now (c .before .before .before .before .args .line)))) (c .room4 .result)) (c .before .match .keys17) (c .room4 .ensures)))
+    (λ c. by-key {k = 106} (c .before .before .byte-at .ensures) (c .before .match .keys18) (subst (λ (n : ℕ). Asks (now (c .before .before .before .before .args .line)) (roomAt 2000 (roomCall n) (drop 1 (now (c .before .before .before .before .args .line)))) (c .room5 .result)) (c .before .match .keys18) (c .room5 .ensures)))
+    returns-19)

@@ -1,6 +1,7 @@
 use mathlib.Core.Path.{sym, ap, _∙_}
 use mathlib.Core.List.{[], _∷_}
 use native.Mathlib.Omega.{arith}
+use Rattle.journal.specs.declared.Form.the-variants.{New}
 use Rattle.journal.specs.declared.Line.{Line}
 use Rattle.journal.specs.Line.{inRange}
 use Rattle.clock.specs.Clock.{counts}
@@ -24,7 +25,7 @@ dose-line-requires : tie.Need-dose-line-requires
 dose-line-requires c κs = search needs
 
 put-line-requires : tie.Need-put-line-requires
-put-line-requires c κs = let a = c .before .before .before .before .before .args in let p = c .before .before .before .before .before .pre in (ap inRange (c .before .dose-line .ensures) ∙ dose-in-range (a .k .hour) (a .dose) (c .before .before .if1 .left) (p .1), omega (arith, p .2))
+put-line-requires c κs = let a = c .before .before .before .before .before .args in let p = c .before .before .before .before .before .pre in (ap (inRange New) (c .before .dose-line .ensures) ∙ dose-in-range (a .k .hour) (a .dose) (c .before .before .if1 .left) (p .1), omega (arith, p .2))
 
 one-more-requires : tie.Need-one-more-requires
 one-more-requires c κs = search needs

@@ -1,13 +1,15 @@
 use mathlib.Core.Path.{_≡_, sym, ap, _∙_}
-use mathlib.Core.List.{List, []}
+use mathlib.Core.List.{List}
 use Prim.Native.Nat.{ℕ, _≤_, _<_}
 use denote.Ref.{now}
 use lib.ListN.{length, drop, drop-of-length-le}
 use lib.Seq.{drop-cons}
 use Rattle.laws.specs.Decimal.{good}
 use Rattle.text.specs.Scan.{leads}
+use Rattle.journal.specs.Line.{versionText}
 use Rattle.clock.specs.Clock.{note, withStage, withHour, refuse, firstOf}
-use Rattle.clock.specs.Marking.{writes-as, writes-none}
+use Rattle.clock.specs.Marking.{writes-as}
+use Rattle.clock.proofs.Writing.{version-writes}
 use Rattle.clock.specs.declared.Clock.{Clock}
 use Rattle.clock.specs.declared.Stage.the-variants.{Recording}
 use borrow.Author.Needs.{needs}
@@ -19,7 +21,7 @@ followed : (k : Clock) (h : ℕ) (s : List ℕ) (end : ℕ) → end < length s �
 unfolding firstOf
 followed k h s end m = ap (λ (l : List ℕ). firstOf k (good h l)) (drop-cons s end 0 m)
 
-alone : (k : Clock) (h : ℕ) (s : List ℕ) (end : ℕ) → length s ≤ end → firstOf k (good h (drop end s)) ≡ note (withStage Recording (withHour h k)) []
+alone : (k : Clock) (h : ℕ) (s : List ℕ) (end : ℕ) → length s ≤ end → firstOf k (good h (drop end s)) ≡ note (withStage Recording (withHour h k)) versionText
 unfolding firstOf
 alone k h s end m = ap (λ (l : List ℕ). firstOf k (good h l)) (drop-of-length-le s {i = end} m)
 
@@ -56,12 +58,20 @@ returns-2 c =
     let h = c .before .before .before .before .before .before .hour in
     writes-as (ap (firstOf (a .k)) (c .before .before .before .before .before .before .before .before .number-at .ensures .reads ∙ ap (leads (now (a .line))) (h .given .1)) ∙ followed (a .k) (h .given .0 .0) (now (a .line)) (h .given .0 .1 .0) (c .before .before .before .before .if1 .taken)) (c .before .before .refuse2 .ensures)
 
+put-version-requires : tie.Need-put-version-requires
+put-version-requires c κs = search needs
+
+same-length-3 : tie.Need-same-length-3
+same-length-3 c = search needs
+
 returns-3 : tie.Need-returns-3
 unfolding withStage withHour
 returns-3 c =
-    let a = c .before .before .before .before .before .before .before .args in
-    let h = c .before .before .hour in
-    writes-none (sym (ap (firstOf (a .k)) (c .before .before .before .before .number-at .ensures .reads ∙ ap (leads (now (a .line))) (h .given .1)) ∙ alone (a .k) (h .given .0 .0) (now (a .line)) (h .given .0 .1 .0) (c .if1 .left)))
+    let a = c .before .before .before .before .before .before .before .before .before .before .before .args in
+    let h = c .before .before .before .before .before .before .hour in
+    version-writes (c .before .before .before .before .before .before .before .before .before .before .before .pre)
+    (sym (ap (firstOf (a .k)) (c .before .before .before .before .before .before .before .before .number-at .ensures .reads ∙ ap (leads (now (a .line))) (h .given .1)) ∙ alone (a .k) (h .given .0 .0) (now (a .line)) (h .given .0 .1 .0) (c .before .before .before .before .if1 .left)))
+    (c .before .before .put-version .ensures)
 
 pub first-hour-spec : {M : Type 1} → statement M
 first-hour-spec =
@@ -76,4 +86,6 @@ first-hour-spec =
     refuse-requires-2
     same-length-2
     returns-2
+    put-version-requires
+    same-length-3
     returns-3)

@@ -1,7 +1,7 @@
 use mathlib.Core.Path.{sym, ap, _∙_}
 use mathlib.Core.Bool.{and-true}
 use borrow.Author.Tests.{le-leb, lt-leb}
-use Rattle.journal.specs.Line.{inRange, within, mostOfD}
+use Rattle.journal.specs.Line.{inRange, productMost, within, mostOfD}
 use Rattle.clock.specs.Clock.{doseIn}
 use Rattle.clock.specs.Marking.{fitsLine}
 use Rattle.clock.proofs.Writing.{other-fits}
@@ -25,7 +25,11 @@ returns-3 c = sym (ap fitsLine (c .before .before .before .before .before .heard
 
 returns-4 : tie.Need-returns-4
 unfolding fitsLine doseIn inRange within mostOfD
-returns-4 c = sym (ap fitsLine (c .before .before .before .before .before .before .heard .given .1) ∙ rw (le-leb _ _ (c .before .before .before .if1 .left), le-leb _ _ (c .before .if2 .left)) (and-true _))
+returns-4 c = sym (ap fitsLine (c .before .before .before .before .before .before .before .heard .given .1) ∙ rw (le-leb _ _ (c .before .before .before .before .if1 .left), le-leb _ _ (c .before .before .if2 .left), lt-leb _ _ (c .if3 .taken)))
+
+returns-5 : tie.Need-returns-5
+unfolding fitsLine doseIn inRange productMost within mostOfD
+returns-5 c = sym (ap fitsLine (c .before .before .before .before .before .before .before .before .heard .given .1) ∙ rw (le-leb _ _ (c .before .before .before .before .before .if1 .left), le-leb _ _ (c .before .before .before .if2 .left), le-leb _ _ (c .before .if3 .left)))
 
 pub fits-spec : {M : Type 1} → statement M
-fits-spec = tie.close (tie.spec enum-known-heard returns returns-2 returns-3 returns-4)
+fits-spec = tie.close (tie.spec enum-known-heard returns returns-2 returns-3 returns-4 returns-5)

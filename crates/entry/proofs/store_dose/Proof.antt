@@ -1,22 +1,27 @@
 -- Each byte of a D line has room behind those before it.
+use mathlib.Core.Path.{_≡_, sym}
 use mathlib.Core.List.{List, [], _∷_, _++_, append-assoc}
-use Prim.Native.Nat.{ℕ}
+use Prim.Native.Nat.{ℕ, _+_}
 use native.Mathlib.Omega.{arith}
 use denote.Ref.{now}
 use lib.ListN.{length, length-append}
 use borrow.Author.Needs.{needs}
 use Rattle.laws.specs.Decimal.{decimal}
 use Rattle.text.specs.Scan.{TAB}
-use Rattle.journal.specs.Line.{letterD, fieldsText, textOf}
-use Rattle.journal.specs.LineLaws.{dose-length}
+use Rattle.journal.specs.Line.{letterD, textOf}
+use Rattle.journal.specs.LineLaws.{productText, dose-length}
 use Rattle.entry.specs.Store.{Stores}
 use Rattle.journal.specs.declared.Line.the-variants.{Dose}
-use Rattle.entry.proofs.Storing.{stores-then, room-for}
+use Rattle.entry.proofs.Storing.{stores-then, room-for, stores-as, dose-text}
 use Rattle.entry.proofs.store_dose.Statement.{statement}
 use Rattle.entry.proofs.store_dose.Tie as tie
 
 abbrev size : tie.Start → ℕ
-size c = length (textOf (Dose (c .args .hour) (c .args .count) (c .args .amount) (c .args .settled)))
+size c = length (textOf (c .args .form) (Dose (c .args .hour) (c .args .count) (c .args .amount) (c .args .settled) (c .args .product)))
+
+-- how many bytes the line takes
+dose-size : (c : tie.Start) → size c ≡ 6 + length (decimal (c .args .hour)) + length (decimal (c .args .count)) + length (decimal (c .args .amount)) + length (decimal (c .args .settled)) + length (productText (c .args .form) (c .args .product))
+dose-size c = dose-length (c .args .form) (c .args .hour) (c .args .count) (c .args .amount) (c .args .settled) (c .args .product)
 
 -- the text so far, and what has been stored
 abbrev root-letter : tie.After-store-byte → tie.Start
@@ -64,45 +69,63 @@ text-settled c = text-amount (c .before .before .before .before) ++ TAB ∷ deci
 settled : (c : tie.After-store-field4) → Stores (now (root-settled c .args .out)) 0 (text-settled c) (c .store-field4 .last .0) (c .store-field4 .result)
 settled c = stores-then (amount (c .before .before .before .before)) (c .store-field4 .ensures)
 
+abbrev root-product : tie.After-store-product → tie.Start
+root-product c = root-settled (c .before .before .before .before)
+
+abbrev text-product : tie.After-store-product → List ℕ
+text-product c = text-settled (c .before .before .before .before) ++ productText (root-product c .args .form) (root-product c .args .product)
+
+product : (c : tie.After-store-product) → Stores (now (root-product c .args .out)) 0 (text-product c) (c .store-product .last .0) (c .store-product .result)
+product c = stores-then (settled (c .before .before .before .before)) (c .store-product .ensures)
+
 store-byte-requires : tie.Need-store-byte-requires
-store-byte-requires c κs = omega (arith, c .before .before .pre, dose-length (c .before .before .args .hour) (c .before .before .args .count) (c .before .before .args .amount) (c .before .before .args .settled))
+store-byte-requires c κs = omega (arith, c .before .before .pre, dose-size (c .before .before))
 
 store-field-requires : tie.Need-store-field-requires
 store-field-requires c κs =
     let a = c .before .before .before in
     let s = root-letter a in
-    room-for _ (size s) (letter a) (omega (arith, dose-length (s .args .hour) (s .args .count) (s .args .amount) (s .args .settled))) (s .pre)
+    room-for _ (size s) (letter a) (omega (arith, dose-size s)) (s .pre)
 
 store-field-requires-2 : tie.Need-store-field-requires-2
 store-field-requires-2 c κs =
     let a = c .before .before .before in
     let s = root-hour a in
-    room-for _ (size s) (hour a) (simp length-append (omega (arith, dose-length (s .args .hour) (s .args .count) (s .args .amount) (s .args .settled)))) (s .pre)
+    room-for _ (size s) (hour a) (simp length-append (omega (arith, dose-size s))) (s .pre)
 
 store-field-requires-3 : tie.Need-store-field-requires-3
 store-field-requires-3 c κs =
     let a = c .before .before .before in
     let s = root-count a in
-    room-for _ (size s) (count a) (simp length-append (omega (arith, dose-length (s .args .hour) (s .args .count) (s .args .amount) (s .args .settled)))) (s .pre)
+    room-for _ (size s) (count a) (simp length-append (omega (arith, dose-size s))) (s .pre)
 
 store-field-requires-4 : tie.Need-store-field-requires-4
 store-field-requires-4 c κs =
     let a = c .before .before .before in
     let s = root-amount a in
-    room-for _ (size s) (amount a) (simp length-append (omega (arith, dose-length (s .args .hour) (s .args .count) (s .args .amount) (s .args .settled)))) (s .pre)
+    room-for _ (size s) (amount a) (simp length-append (omega (arith, dose-size s))) (s .pre)
+
+store-product-requires : tie.Need-store-product-requires
+store-product-requires c κs =
+    let a = c .before .before .before in
+    let s = root-settled a in
+    room-for _ (size s) (settled a) (simp length-append (omega (arith, dose-size s))) (s .pre)
 
 store-byte-requires-2 : tie.Need-store-byte-requires-2
 store-byte-requires-2 c κs =
     let a = c .before .before .before in
-    let s = root-settled a in
-    room-for _ (size s) (settled a) (simp length-append (omega (arith, dose-length (s .args .hour) (s .args .count) (s .args .amount) (s .args .settled)))) (s .pre)
+    let s = root-product a in
+    room-for _ (size s) (product a) (simp length-append (omega (arith, dose-size s))) (s .pre)
 
 same-length : tie.Need-same-length
 same-length c = search needs
 
 returns : tie.Need-returns
-unfolding textOf fieldsText
-returns c = simp append-assoc at (stores-then (settled (c .before .before .before .before .before .before)) (c .before .before .store-byte2 .ensures))
+returns c =
+    let a = c .before .before .before .before .before .before in
+    let s = root-product a in
+    stores-as (sym (dose-text (s .args .form) (s .args .hour) (s .args .count) (s .args .amount) (s .args .settled) (s .args .product)))
+    (simp append-assoc at (stores-then (product a) (c .before .before .store-byte2 .ensures)))
 
 pub store-dose-spec : {M : Type 1} → statement M
 store-dose-spec =
@@ -113,6 +136,7 @@ store-dose-spec =
     store-field-requires-2
     store-field-requires-3
     store-field-requires-4
+    store-product-requires
     store-byte-requires-2
     same-length
     returns)

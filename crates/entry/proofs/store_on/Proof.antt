@@ -10,13 +10,14 @@ use Rattle.text.specs.Scan.{TAB}
 use Rattle.journal.specs.Line.{letterH, fieldsText, textOf}
 use Rattle.journal.specs.LineLaws.{on-length}
 use Rattle.entry.specs.Store.{Stores}
+use Rattle.journal.specs.declared.Form.the-variants.{Old}
 use Rattle.journal.specs.declared.Line.the-variants.{On}
 use Rattle.entry.proofs.Storing.{stores-then, room-for}
 use Rattle.entry.proofs.store_on.Statement.{statement}
 use Rattle.entry.proofs.store_on.Tie as tie
 
 abbrev size : tie.Start → ℕ
-size c = length (textOf (On (c .args .hour)))
+size c = length (textOf Old (On (c .args .hour)))
 
 -- the text so far, and what has been stored
 abbrev root-letter : tie.After-store-byte → tie.Start
@@ -38,19 +39,19 @@ hour : (c : tie.After-store-field) → Stores (now (root-hour c .args .out)) 0 (
 hour c = stores-then (letter (c .before .before .before .before)) (c .store-field .ensures)
 
 store-byte-requires : tie.Need-store-byte-requires
-store-byte-requires c κs = omega (arith, c .before .before .pre, on-length (c .before .before .args .hour))
+store-byte-requires c κs = omega (arith, c .before .before .pre, on-length Old (c .before .before .args .hour))
 
 store-field-requires : tie.Need-store-field-requires
 store-field-requires c κs =
     let a = c .before .before .before in
     let s = root-letter a in
-    room-for _ (size s) (letter a) (omega (arith, on-length (s .args .hour))) (s .pre)
+    room-for _ (size s) (letter a) (omega (arith, on-length Old (s .args .hour))) (s .pre)
 
 store-byte-requires-2 : tie.Need-store-byte-requires-2
 store-byte-requires-2 c κs =
     let a = c .before .before .before in
     let s = root-hour a in
-    room-for _ (size s) (hour a) (simp length-append (omega (arith, on-length (s .args .hour)))) (s .pre)
+    room-for _ (size s) (hour a) (simp length-append (omega (arith, on-length Old (s .args .hour)))) (s .pre)
 
 same-length : tie.Need-same-length
 same-length c = search needs

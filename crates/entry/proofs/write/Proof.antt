@@ -18,15 +18,15 @@ use Rattle.entry.proofs.write.Statement.{statement}
 use Rattle.entry.proofs.write.Tie as tie
 
 -- the line does not fit
-too-short : (c : tie.Then2) → writeOf (c .before .before .before .before .before .args .line) (length (now (c .before .before .before .before .before .args .out))) ≡ refused R8 []
+too-short : (c : tie.Then2) → writeOf (c .before .before .before .before .before .args .form) (c .before .before .before .before .before .args .line) (length (now (c .before .before .before .before .before .args .out))) ≡ refused R8 []
 too-short c =
-    write-short _ _ (so (c .before .before .before .in-range .ensures) (not-false _ (c .before .before .if1 .left))) (omega (arith, c .before .text-len .ensures, c .if2 .taken))
+    write-short _ _ _ (so (c .before .before .before .in-range .ensures) (not-false _ (c .before .before .if1 .left))) (omega (arith, c .before .text-len .ensures, c .if2 .taken))
 
 in-range-requires : tie.Need-in-range-requires
 in-range-requires c κs = search needs
 
 returns : tie.Need-returns
-returns c = fills-refused (write-range _ _ (so (c .before .in-range .ensures) (not-true _ (c .if1 .taken)))) _
+returns c = fills-refused (write-range _ _ _ (so (c .before .in-range .ensures) (not-true _ (c .if1 .taken)))) _
 
 text-len-requires : tie.Need-text-len-requires
 text-len-requires c κs = search needs
@@ -44,12 +44,12 @@ returns-3 : tie.Need-returns-3
 unfolding told leaves
 returns-3 c =
     let a = c .before .before .before .before .before .before .before .before .before .args in
-    let h : length (textOf (a .line)) ≤ length (now (a .out)) = omega (arith, c .before .before .before .before .before .text-len .ensures, c .before .before .before .before .if2 .left) in
-    let e = write-fits (a .line) (length (now (a .out))) (so (c .before .before .before .before .before .before .before .in-range .ensures) (not-false _ (c .before .before .before .before .before .before .if1 .left))) h in
+    let h : length (textOf (a .form) (a .line)) ≤ length (now (a .out)) = omega (arith, c .before .before .before .before .before .text-len .ensures, c .before .before .before .before .if2 .left) in
+    let e = write-fits (a .form) (a .line) (length (now (a .out))) (so (c .before .before .before .before .before .before .before .in-range .ensures) (not-false _ (c .before .before .before .before .before .before .if1 .left))) h in
     let s = c .before .before .store-line .ensures in
     record {
       says = ap (λ (n : ℕ). done n) (s .next ∙ zero-add _) ∙ sym (ap (told length) e);
-      left = s .left ∙ sets-over (now (a .out)) (textOf (a .line)) h ∙ sym (ap (λ (w : Answer (List ℕ)). leaves w (now (a .out))) e);
+      left = s .left ∙ sets-over (now (a .out)) (textOf (a .form) (a .line)) h ∙ sym (ap (λ (w : Answer (List ℕ)). leaves w (now (a .out))) e);
     }
 
 pub write-spec : {M : Type 1} → statement M

@@ -36,13 +36,13 @@ unfolding askOf told
 returns c =
     let a = c .before .before .before .before .before .before .before .args in
     let f = found (c .before) in
-    ap (λ (x : HourAnswer). done x) (c .hour-among .ensures ∙ among-hour f (counts-tell f (c .before .before .before .before .before .tallies .ensures)) (a .hour)) ∙ sym (ap (told (λ (ls : List Line). hourOf ls (a .hour))) (f .journal))
+    ap (λ (x : HourAnswer). done x) (c .hour-among .ensures ∙ among-hour f (counts-tell f (c .before .before .before .before .before .tallies .ensures)) (a .hour)) ∙ sym (ap (told (λ (ls : List Line). hourOf (a .products) ls (a .hour))) (f .journal))
 
 returns-2 : tie.Need-returns-2
 unfolding askOf
 returns-2 c =
     let a = c .before .before .before .before .before .before .args in
-    refused-told summaryOf (λ (ls : List Line). hourOf ls (a .hour)) (journalOf (now (a .bytes))) (c .before .judged2 .given .0 .0)
+    refused-told summaryOf (λ (ls : List Line). hourOf (a .products) ls (a .hour)) (journalOf (now (a .bytes))) (c .before .judged2 .given .0 .0)
     (sym (ap saysJudged (c .before .judged2 .given .1)) ∙ c .before .before .before .before .tallies .ensures .judged)
 
 pub hour-of-spec : {M : Type 1} → statement M

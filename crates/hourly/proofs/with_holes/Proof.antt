@@ -2,7 +2,7 @@ use Prim.Native.Nat.{_-_}
 use native.Mathlib.Omega.{arith}
 use borrow.Author.Needs.{needs}
 use Rattle.hourly.specs.Tally.{withHole}
-use Rattle.hourly.proofs.Marking.{Setting, setting-none, setting-more, setting-all}
+use Rattle.hourly.proofs.Settling.{Setting, setting-none, setting-more, setting-all}
 use Rattle.hourly.proofs.with_holes.Statement.{statement}
 use Rattle.hourly.proofs.with_holes.Tie as tie
 

@@ -1,23 +1,9 @@
-use mathlib.Core.Path.{_≡_, sym, ap, _∙_}
-use mathlib.Core.List.{List}
-use Prim.Native.Nat.{ℕ, _≤_}
-use native.Mathlib.Omega.{arith}
+use mathlib.Core.Path.{sym}
 use borrow.Author.Needs.{needs}
-use lib.ListN.{length, length-append}
 use lib.Seq.{length-take-le}
-use Rattle.paper.specs.Answer.{done, told, bytesIn}
-use Rattle.report.specs.Contracts.{Holds}
-use Rattle.report.specs.declared.Printout.{Printout}
+use Rattle.report.specs.Contracts.{holds-inside}
 use Rattle.hours.proofs.main.Statement.{statement}
 use Rattle.hours.proofs.main.Tie as tie
-
--- the report stands inside its array
-inside : (text : List ℕ) (r : Printout) → Holds text r → r .len ≤ length (r .bytes)
-unfolding told bytesIn
-inside text r h =
-    let says : done (r .len) ≡ done (length text) = h .says in
-    let n : r .len ≡ length text = cc in
-    omega (arith, ap length (h .holds) ∙ length-append text _)
 
 slice-aggregate-read-full : tie.Need-slice-aggregate-read-full
 slice-aggregate-read-full c = search needs
@@ -29,12 +15,12 @@ report-requires : tie.Need-report-requires
 report-requires c κs = search needs
 
 array-share-prefix-out : tie.Need-array-share-prefix-out
-array-share-prefix-out c = inside _ (c .before .report .result) (c .before .report .ensures .holds)
+array-share-prefix-out c = holds-inside _ (c .before .report .result) (c .before .report .ensures .holds)
 
 slice-aggregate-write-all : tie.Need-slice-aggregate-write-all
 slice-aggregate-write-all c =
     let r = c .before .before .report in
-    sym (length-take-le (r .result .len) (r .result .bytes) (inside _ (r .result) (r .ensures .holds)))
+    sym (length-take-le (r .result .len) (r .result .bytes) (holds-inside _ (r .result) (r .ensures .holds)))
 
 write-all-requires : tie.Need-write-all-requires
 write-all-requires c κs = search needs

@@ -8,10 +8,11 @@ use lib.ListN.{length, drop, getD}
 use borrow.Author.Needs.{needs}
 use Rattle.laws.specs.Decimal.{bad}
 use Rattle.text.specs.Scan.{LF}
-use Rattle.journal.specs.Line.{mostOfD, holds, noLine, placed, lineOf, lineAt}
+use Rattle.journal.specs.Line.{holds, noLine, placed, lineOf, lineAt}
 use Rattle.journal.specs.LineLaws.{Stands}
-use Rattle.journal.specs.Fields.{fieldsAfter, lineFrom}
+use Rattle.journal.specs.Fields.{mostOf, fieldsAfter, lineFrom}
 use Rattle.journal.specs.FieldLaws.{Fielded, letter-none, letter-inside, fielded-none, fielded-more, fielded-bad, fielded-torn, fielded-line}
+use Rattle.journal.specs.declared.Form.{Form}
 use Rattle.journal.specs.declared.Line.{Line}
 use Rattle.journal.proofs.line_at.Statement.{statement}
 use Rattle.journal.proofs.line_at.Tie as tie
@@ -23,13 +24,13 @@ abbrev μ-loop : tie.MeasureT-loop
 μ-loop bytes at fields got₀ k₀ p₀ got k p = fields - k
 
 -- no line stands there
-none : (s : List ℕ) (at : ℕ) → lineOf (drop at s) ≡ bad → noLine ≡ lineAt s at
+none : (f : Form) (s : List ℕ) (at : ℕ) → lineOf f (drop at s) ≡ bad → noLine ≡ lineAt f s at
 unfolding lineAt placed
-none s at e = sym (ap (placed (length s)) e)
+none f s at e = sym (ap (placed (length s)) e)
 
 -- what the letter asks for
-asked : (c : tie.After-fields-after Inv-loop μ-loop) → c .fields-after .result ≡ fieldsAfter (getD (now (c .before .before .before .args .bytes)) (c .before .before .before .args .at) 0)
-asked c = c .fields-after .ensures ∙ ap fieldsAfter (c .before .byte-at .ensures)
+asked : (c : tie.After-fields-after Inv-loop μ-loop) → c .fields-after .result ≡ fieldsAfter (c .before .before .before .args .form) (getD (now (c .before .before .before .args .bytes)) (c .before .before .before .args .at) 0)
+asked c = c .fields-after .ensures ∙ ap (fieldsAfter (c .before .before .before .args .form)) (c .before .byte-at .ensures)
 
 byte-at-requires : tie.Need-byte-at-requires Inv-loop μ-loop
 byte-at-requires c κs = search needs
@@ -38,13 +39,13 @@ fields-after-requires : tie.Need-fields-after-requires Inv-loop μ-loop
 fields-after-requires c κs = search needs
 
 returns : tie.Need-returns Inv-loop μ-loop
-returns c = let a = c .before .before .before .before .args in none (now (a .bytes)) (a .at) (letter-none (now (a .bytes)) (a .at) _ (asked (c .before)) (c .if1 .taken))
+returns c = let a = c .before .before .before .before .args in none (a .form) (now (a .bytes)) (a .at) (letter-none (a .form) (now (a .bytes)) (a .at) _ (asked (c .before)) (c .if1 .taken))
 
 add-p : tie.Need-add-p Inv-loop μ-loop
-add-p c = let a = c .before .before .before .before .args in omega (arith, letter-inside (now (a .bytes)) (a .at) _ (asked (c .before)) (c .if1 .left))
+add-p c = let a = c .before .before .before .before .args in omega (arith, letter-inside (a .form) (now (a .bytes)) (a .at) _ (asked (c .before)) (c .if1 .left))
 
 loop-holds : tie.Need-loop-holds Inv-loop μ-loop
-loop-holds c = let a = c .before .before .before .before .args in fielded-none (now (a .bytes)) (a .at) _ _ (asked (c .before)) (c .if1 .left) refl
+loop-holds c = let a = c .before .before .before .before .args in fielded-none (a .form) (now (a .bytes)) (a .at) _ _ (asked (c .before)) (c .if1 .left) refl
 
 mul-field-at : tie.Need-mul-field-at Inv-loop μ-loop
 mul-field-at c = let l = c .before .loop .inv in omega (arith, c .loop-test .taken, l .most)
@@ -62,10 +63,10 @@ enum-told : tie.Need-enum-told Inv-loop μ-loop
 enum-told c = search needs
 
 returns-2 : tie.Need-returns-2 Inv-loop μ-loop
-unfolding mostOfD
+unfolding mostOf
 returns-2 c =
     let a = c .before .before .before .before .before .before .before .before .before .args in
-    none (now (a .bytes)) (a .at) (fielded-bad (c .before .before .before .before .loop .inv) (c .before .before .before .loop-test .taken) (c .before .before .field-at .ensures) (c .enum-told .given .1))
+    none (a .form) (now (a .bytes)) (a .at) (fielded-bad (c .before .before .before .before .loop .inv) (a .form) (asked (c .before .before .before .before .before .before)) (c .before .before .before .loop-test .taken) (c .before .before .field-at .ensures) (c .enum-told .given .1))
 
 mul-got : tie.Need-mul-got Inv-loop μ-loop
 mul-got c = let l = c .before .before .before .before .before .loop .inv in omega (arith, c .before .before .before .before .loop-test .taken, l .most, l .size)
@@ -80,7 +81,7 @@ loop-less : tie.Need-loop-less Inv-loop μ-loop
 loop-less c = omega (arith, c .before .before .before .before .loop-test .taken)
 
 loop-again : tie.Need-loop-again Inv-loop μ-loop
-unfolding mostOfD
+unfolding mostOf
 loop-again c = fielded-more (c .before .before .before .before .before .loop .inv) (c .before .before .before .before .loop-test .taken) (c .before .before .before .field-at .ensures) (c .before .v .given .1)
 
 byte-at-requires-2 : tie.Need-byte-at-requires-2 Inv-loop μ-loop
@@ -89,17 +90,17 @@ byte-at-requires-2 c κs = search needs
 returns-3 : tie.Need-returns-3 Inv-loop μ-loop
 returns-3 c =
     let a = c .before .before .before .before .before .before .before .before .args in
-    none (now (a .bytes)) (a .at) (fielded-torn (c .before .before .before .loop .inv) (c .before .before .loop-test .left) (λ e. c .if2 .taken (c .before .byte-at2 .ensures ∙ e)))
+    none (a .form) (now (a .bytes)) (a .at) (fielded-torn (c .before .before .before .loop .inv) (a .form) (asked (c .before .before .before .before .before)) (c .before .before .loop-test .left) (λ e. c .if2 .taken (c .before .byte-at2 .ensures ∙ e)))
 
 line-from-requires : tie.Need-line-from-requires Inv-loop μ-loop
 line-from-requires c κs = search needs
 
 -- the fields make the line, and its LF stands behind them
-made : (c : tie.After-line-from Inv-loop μ-loop) → Stands (now (c .before .before .before .before .before .before .before .before .before .args .bytes)) (c .before .before .before .before .before .before .before .before .before .args .at) (lineFrom (c .before .before .before .before .before .before .fields-after .result) (c .before .before .before .before .loop .got)) (c .before .before .before .before .loop .p + 1)
-made c = fielded-line (c .before .before .before .before .loop .inv) (c .before .before .before .loop-test .left) (sym (c .before .before .byte-at2 .ensures) ∙ c .before .if2 .left)
+made : (c : tie.After-line-from Inv-loop μ-loop) → Stands (c .before .before .before .before .before .before .before .before .before .args .form) (now (c .before .before .before .before .before .before .before .before .before .args .bytes)) (c .before .before .before .before .before .before .before .before .before .args .at) (lineFrom (c .before .before .before .before .before .before .fields-after .result) (c .before .before .before .before .loop .got)) (c .before .before .before .before .loop .p + 1)
+made c = fielded-line (c .before .before .before .before .loop .inv) _ (asked (c .before .before .before .before .before .before)) (c .before .before .before .loop-test .left) (sym (c .before .before .byte-at2 .ensures) ∙ c .before .if2 .left)
 
-add-t22 : tie.Need-add-t22 Inv-loop μ-loop
-add-t22 c = omega (arith, made c .inside)
+add-t23 : tie.Need-add-t23 Inv-loop μ-loop
+add-t23 c = omega (arith, made c .inside)
 
 returns-4 : tie.Need-returns-4 Inv-loop μ-loop
 returns-4 c = ap (λ (l : Line). holds l (c .before .before .before .before .loop .p + 1)) (c .line-from .ensures) ∙ sym (made c .is)
@@ -129,5 +130,5 @@ line-at-spec =
     byte-at-requires-2
     returns-3
     line-from-requires
-    add-t22
+    add-t23
     returns-4)

@@ -1,76 +1,62 @@
-use mathlib.Core.Path.{_≡_, refl, sym, ap, _∙_}
-use mathlib.Core.List.{List, [], _∷_}
-use Prim.Native.Nat.{ℕ, _≤_, _<_}
-use Rattle.laws.specs.Decimal.{good}
-use Rattle.paper.specs.Answer.{done, refused}
-use Rattle.paper.specs.Numbers.{R10}
-use native.Mathlib.Omega.{arith}
-use denote.Ref.{now}
-use lib.ListN.{length}
-use Rattle.journal.specs.declared.Line.{Line}
-use Rattle.journal.specs.Line.{holds, lineAt, lineOf, oneLine, whole, placed}
-use Rattle.journal.specs.Says.{saysAt}
-use Rattle.journal.specs.LineLaws.{line-shorter, placed-none, placed-good}
+use mathlib.Core.Path.{_≡_, sym, _∙_}
+use mathlib.Core.Bool.{true, false}
+use mathlib.Core.List.{List}
+use Prim.Native.Nat.{ℕ}
 use borrow.Author.Needs.{needs}
+use Rattle.laws.specs.Pick.{pick-t, pick-f, so}
+use Rattle.paper.specs.Answer.{done}
+use Rattle.journal.specs.Line.{lineOf, isVersion, version, whole, oneLine}
+use Rattle.journal.specs.declared.Form.{Form}
+use Rattle.journal.specs.declared.Form.the-variants.{Old, New}
 use Rattle.journal.proofs.read_line.Statement.{statement}
 use Rattle.journal.proofs.read_line.Tie as tie
 
--- a line by itself has nothing behind it
-read-more : (s : List ℕ) (k : ℕ) (l : Line) → holds l k ≡ placed (length s) (lineOf s) → k < length s → whole (lineOf s) ≡ refused R10 (1 ∷ [])
-unfolding whole
-read-more s k l e h = let x = placed-good (length s) k l (lineOf s) e in ap whole (x .1) ∙ go (x .0) (omega (arith, x .2))
-  where
-    go : (rest : List ℕ) → 0 < length rest → whole (good l rest) ≡ refused R10 (1 ∷ [])
-    go [] h = absurd (omega arith)
-    go (b ∷ bs) h = refl
+-- what a line by itself is in each form
+old-line : (f : Form) (s : List ℕ) → f ≡ Old → whole (lineOf f s) ≡ oneLine f s
+unfolding oneLine
+old-line f s e = rw e
 
-read-all : (s : List ℕ) (k : ℕ) (l : Line) → holds l k ≡ placed (length s) (lineOf s) → length s ≤ k → whole (lineOf s) ≡ done l
-unfolding whole
-read-all s k l e h =
-    let x = placed-good (length s) k l (lineOf s) e in
-    ap whole (x .1) ∙ go (x .0) (omega (arith, x .2, line-shorter s l (x .0) (x .1)))
-  where
-    go : (rest : List ℕ) → length rest ≡ 0 → whole (good l rest) ≡ done l
-    go [] h = refl
-    go (b ∷ bs) h = absurd (omega arith)
+new-version : (f : Form) (s : List ℕ) → f ≡ New → isVersion s ≡ true → done version ≡ oneLine f s
+unfolding oneLine
+new-version f s e v = rw e (sym (pick-t _ _ _ v))
 
-abbrev S : tie.After-known-told → List ℕ
-S c = now (c .before .before .before .before .before .args .bytes)
-
-abbrev line : tie.After-known-told → Line
-line c = c .before .line .given .0 .0
-
-abbrev next : tie.After-known-told → ℕ
-next c = c .before .line .given .0 .1 .0
-
--- what the reader at a place answered
-at-line : (c : tie.After-known-told) → holds (line c) (next c) ≡ placed (length (S c)) (lineOf (S c))
-unfolding lineAt
-at-line c = ap saysAt (sym (c .before .line .given .1)) ∙ c .before .before .before .line-at .ensures
-
-line-at-requires : tie.Need-line-at-requires
-line-at-requires c κs = search needs
-
-enum-known-line : tie.Need-enum-known-line
-enum-known-line c = search needs
+new-dated : (f : Form) (s : List ℕ) → f ≡ New → isVersion s ≡ false → whole (lineOf f s) ≡ oneLine f s
+unfolding oneLine
+new-dated f s e v = rw e (sym (pick-f _ _ _ v))
 
 enum-told : tie.Need-enum-told
 enum-told c = search needs
 
+read-dated-requires : tie.Need-read-dated-requires
+read-dated-requires c κs = search needs
+
+enum-told-2 : tie.Need-enum-told-2
+enum-told-2 c = search needs
+
+is-version-requires : tie.Need-is-version-requires
+is-version-requires c κs = search needs
+
 returns : tie.Need-returns
-unfolding oneLine whole lineAt
-returns c =
-    let s = now (c .before .before .before .before .args .bytes) in
-    sym (ap whole (placed-none (length s) (lineOf s) (sym (c .before .before .line-at .ensures) ∙ ap saysAt (c .enum-told .given .1))))
+returns c = new-version _ _ (c .before .before .enum-told2 .given .1) (so (c .before .is-version .ensures) (c .if1 .taken))
+
+read-dated-requires-2 : tie.Need-read-dated-requires-2
+read-dated-requires-2 c κs = search needs
 
 returns-2 : tie.Need-returns-2
-unfolding oneLine
-returns-2 c = sym (read-more (S (c .before)) (next (c .before)) (line (c .before)) (at-line (c .before)) (omega (arith, c .if1 .taken)))
+returns-2 c = c .read-dated .ensures ∙ old-line _ _ (c .before .enum-told .given .1)
 
 returns-3 : tie.Need-returns-3
-unfolding oneLine
-returns-3 c = sym (read-all (S (c .before)) (next (c .before)) (line (c .before)) (at-line (c .before)) (omega (arith, c .if1 .left)))
+returns-3 c = c .read-dated2 .ensures ∙ new-dated _ _ (c .before .before .before .enum-told2 .given .1) (so (c .before .before .is-version .ensures) (c .before .if1 .left))
 
 pub read-line-spec : {M : Type 1} → statement M
 read-line-spec =
-    tie.close (tie.spec line-at-requires enum-known-line enum-told returns returns-2 returns-3)
+    tie.close
+    (tie.spec
+    enum-told
+    read-dated-requires
+    enum-told-2
+    is-version-requires
+    returns
+    read-dated-requires-2
+    returns-2
+    returns-3)

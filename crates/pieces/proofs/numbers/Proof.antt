@@ -9,7 +9,7 @@ abbrev Inv-loop : tie.InvT-loop
 Inv-loop out₀ at numbers count minus₀ p₀ i₀ out minus p i = length out ≡ length out₀
 
 abbrev μ-loop : tie.MeasureT-loop
-μ-loop out₀ at numbers count minus₀ p₀ i₀ out minus p i = 4 - i
+μ-loop out₀ at numbers count minus₀ p₀ i₀ out minus p i = 5 - i
 
 pub numbers-spec : {M : Type 1} → statement M
 numbers-spec =

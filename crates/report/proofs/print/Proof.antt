@@ -21,8 +21,8 @@ use Rattle.report.proofs.print.Tie as tie
 found : (c : tie.After-known-told) → Found (now (c .before .before .before .before .before .before .before .args .bytes)) (c .before .judged .given .0 .0)
 found c = found-of (now (c .before .before .before .before .before .before .before .args .bytes)) (c .before .judged .given .0 .0) (sym (c .before .before .before .before .tallies .ensures .judged) ∙ ap saysJudged (c .before .judged .given .1))
 
-printed : (c : tie.After-known-told) → Prints (now (c .before .before .before .before .before .before .before .args .bytes)) (c .before .judged .given .0 .0) (c .before .before .before .before .tallies .result .table)
-printed c = prints (now (c .before .before .before .before .before .before .before .args .bytes)) (c .before .judged .given .0 .0) (c .before .before .before .before .tallies .result .table) (found c) (counts-tell (found c) (c .before .before .before .before .tallies .ensures))
+printed : (c : tie.After-known-told) → Prints (c .before .before .before .before .before .before .before .args .products) (now (c .before .before .before .before .before .before .before .args .bytes)) (c .before .judged .given .0 .0) (c .before .before .before .before .tallies .result .table)
+printed c = prints _ (now (c .before .before .before .before .before .before .before .args .bytes)) (c .before .judged .given .0 .0) (c .before .before .before .before .tallies .result .table) (found c) (counts-tell (found c) (c .before .before .before .before .tallies .ensures))
 
 tallies-requires : tie.Need-tallies-requires
 tallies-requires c κs = search needs
@@ -48,7 +48,7 @@ returns-2 : tie.Need-returns-2
 unfolding printOf
 returns-2 c =
     let a = c .before .before .before .before .before .before .before .args in
-    refused-fills summaryOf (λ (ls : List Line). inRoom [] (length (now (a .out))) (hoursText ls)) (journalOf (now (a .bytes))) (c .before .judged2 .given .0 .0) (now (a .out))
+    refused-fills summaryOf (λ (ls : List Line). inRoom [] (length (now (a .out))) (hoursText (a .products) ls)) (journalOf (now (a .bytes))) (c .before .judged2 .given .0 .0) (now (a .out))
     (sym (ap saysJudged (c .before .judged2 .given .1)) ∙ c .before .before .before .before .tallies .ensures .judged)
 
 pub print-spec : {M : Type 1} → statement M

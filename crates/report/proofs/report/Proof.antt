@@ -8,7 +8,8 @@ use lib.ListN.{length, take}
 use lib.Seq.{length-take-le}
 use Rattle.report.specs.Contracts.{Holds, PrintsHours}
 use Rattle.report.specs.declared.Printed.{Printed}
-use Rattle.report.proofs.Reporting.{text-holds, never-short, refused-line, seen-is, reports}
+use Rattle.report.specs.Report.{seen-is}
+use Rattle.report.proofs.Reporting.{text-holds, never-short, refused-line, reports}
 use Rattle.report.proofs.report.Statement.{statement}
 use Rattle.report.proofs.report.Tie as tie
 
@@ -50,9 +51,9 @@ returns c =
     let k = c .before .before .before .before .before .before .before .before .smaller in
     let z = c .before .before .before .before .before .before .before .before .before .no-bytes in
     let p = c .before .before .before .before .print in
-    reports bytes (take (k .result) bytes) (a .n) _ size (seen-is bytes (a .n) (k .result) size (k .ensures))
-    (text-holds (take (k .result) bytes) (z .result) (p .last .1 .0) (z .ensures) (c .before .printed .given .0 .0)
-    (subst (λ (x : Printed). PrintsHours (take (k .result) bytes) x (z .result) (p .last .1 .0)) (c .before .printed .given .1) (p .ensures)))
+    reports (a .products) bytes (take (k .result) bytes) (a .n) _ size (seen-is bytes (a .n) (k .result) size (k .ensures))
+    (text-holds (a .products) (take (k .result) bytes) (z .result) (p .last .1 .1 .0) (z .ensures) (c .before .printed .given .0 .0)
+    (subst (λ (x : Printed). PrintsHours (a .products) (take (k .result) bytes) x (z .result) (p .last .1 .1 .0)) (c .before .printed .given .1) (p .ensures)))
 
 returns-2 : tie.Need-returns-2
 returns-2 c =
@@ -62,20 +63,21 @@ returns-2 c =
     let k = c .before .before .before .before .before .before .before .before .before .smaller in
     let z = c .before .before .before .before .before .before .before .before .before .before .no-bytes in
     let p = c .before .before .before .before .before .print in
-    reports bytes (take (k .result) bytes) (a .n) _ size (seen-is bytes (a .n) (k .result) size (k .ensures))
+    reports (a .products) bytes (take (k .result) bytes) (a .n) _ size (seen-is bytes (a .n) (k .result) size (k .ensures))
     (subst (λ (l : List ℕ). Holds l (c .refusal-report .result))
-    (refused-line (take (k .result) bytes) (z .result) (p .last .1 .0) (z .ensures) (c .before .before .printed2 .given .0 .0)
-    (subst (λ (x : Printed). PrintsHours (take (k .result) bytes) x (z .result) (p .last .1 .0)) (c .before .before .printed2 .given .1) (p .ensures)))
+    (refused-line (a .products) (take (k .result) bytes) (z .result) (p .last .1 .1 .0) (z .ensures) (c .before .before .printed2 .given .0 .0)
+    (subst (λ (x : Printed). PrintsHours (a .products) (take (k .result) bytes) x (z .result) (p .last .1 .1 .0)) (c .before .before .printed2 .given .1) (p .ensures)))
     (c .refusal-report .ensures))
 
 returns-3 : tie.Need-returns-3
 returns-3 c =
-    let bytes = c .before .before .before .before .before .before .before .before .before .args .bytes .now in
+    let a = c .before .before .before .before .before .before .before .before .before .args in
+    let bytes = a .bytes .now in
     let k = c .before .before .before .before .before .before .before .smaller in
     let z = c .before .before .before .before .before .before .before .before .no-bytes in
     let p = c .before .before .before .print in
-    never-short (take (k .result) bytes) (z .result) (p .last .1 .0) (z .ensures)
-    (subst (λ (x : Printed). PrintsHours (take (k .result) bytes) x (z .result) (p .last .1 .0)) (c .enum-told .given .1) (p .ensures))
+    never-short (a .products) (take (k .result) bytes) (z .result) (p .last .1 .1 .0) (z .ensures)
+    (subst (λ (x : Printed). PrintsHours (a .products) (take (k .result) bytes) x (z .result) (p .last .1 .1 .0)) (c .enum-told .given .1) (p .ensures))
 
 pub report-spec : {M : Type 1} → statement M
 report-spec =

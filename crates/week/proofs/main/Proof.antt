@@ -19,11 +19,14 @@ inside text r h =
     let n : r .len ≡ length text = cc in
     omega (arith, ap length (h .holds) ∙ length-append text _)
 
-slice-aggregate-read-head : tie.Need-slice-aggregate-read-head
-slice-aggregate-read-head c = search needs
+slice-aggregate-read-heading : tie.Need-slice-aggregate-read-heading
+slice-aggregate-read-heading c = search needs
 
-read-head-requires : tie.Need-read-head-requires
-read-head-requires c κs = search needs
+read-heading-requires : tie.Need-read-heading-requires
+read-heading-requires c κs = search needs
+
+slice-aggregate-first-in : tie.Need-slice-aggregate-first-in
+slice-aggregate-first-in c = search needs
 
 first-in-requires : tie.Need-first-in-requires
 first-in-requires c κs = search needs
@@ -55,8 +58,9 @@ pub main-spec : {M : Type 1} → statement M
 main-spec =
     tie.close
     (tie.spec
-    slice-aggregate-read-head
-    read-head-requires
+    slice-aggregate-read-heading
+    read-heading-requires
+    slice-aggregate-first-in
     first-in-requires
     slice-aggregate-read-journal
     read-journal-requires

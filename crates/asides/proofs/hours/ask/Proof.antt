@@ -15,7 +15,7 @@ figures-requires c κs =
     let asked = c .before .before .before .before .before .before .before .hour-of in
     subst (λ (h : Hour). Numbered (done (saysHour h))) (c .before .before .found2 .given .1)
     (subst (λ (a : Asked). Numbered (saysAsked a)) (c .before .before .before .before .before .found .given .1)
-    (subst Numbered (sym (asked .ensures)) (ask-numbered (now (start .args .bytes)) (start .args .hour))))
+    (subst Numbered (sym (asked .ensures)) (ask-numbered _ (now (start .args .bytes)) (start .args .hour))))
 
 pub ask-spec : {M : Type 1} → statement M
 ask-spec =

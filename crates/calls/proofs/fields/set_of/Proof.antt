@@ -1,11 +1,11 @@
 use mathlib.Core.Path.{refl}
-use Rattle.settings.specs.Cases.{setOf}
+use Rattle.calls.specs.Call.{setWith}
 use borrow.Author.Needs.{needs}
 use Rattle.calls.proofs.fields.set_of.Statement.{statement}
 use Rattle.calls.proofs.fields.set_of.Tie as tie
 
 returns : tie.Need-returns
-unfolding setOf
+unfolding setWith
 returns c = refl
 
 pub set-of-spec : {M : Type 1} → statement M

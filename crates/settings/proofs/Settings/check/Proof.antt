@@ -15,10 +15,10 @@ use Rattle.settings.proofs.Settings.check.Statement.{statement}
 use Rattle.settings.proofs.Settings.check.Tie as tie
 
 abbrev Inv-loop : tie.InvT-loop
-Inv-loop values ranges i₀ i = (i ≤ 17) × ((s : Settings) → values ≡ map valueOf (table s) → ranges ≡ map rangeOf (table s) → firstBad s ≡ fromPlace s i)
+Inv-loop values ranges i₀ i = (i ≤ 18) × ((s : Settings) → values ≡ map valueOf (table s) → ranges ≡ map rangeOf (table s) → firstBad s ≡ fromPlace s i)
 
 abbrev μ-loop : tie.MeasureT-loop
-μ-loop values ranges i₀ i = 17 - i
+μ-loop values ranges i₀ i = 18 - i
 
 values-requires : tie.Need-values-requires Inv-loop μ-loop
 values-requires c κs = search needs
@@ -56,7 +56,7 @@ module _ (c : tie.Joined1 Inv-loop μ-loop) where
   abbrev i : ℕ
   i = c .before .before .before .before .loop .i
 
-  below : i < 17
+  below : i < 18
   below = c .before .before .before .loop-test .taken
 
   out : Out (rowAt s i)
@@ -80,7 +80,7 @@ loop-less c = omega arith
 loop-again : tie.Need-loop-again Inv-loop μ-loop
 loop-again c =
     let d = c .before .before .before .before .before .before in
-    let h : d .loop .i < 17 = omega arith in (
+    let h : d .loop .i < 18 = omega arith in (
       omega arith,
       λ s v r. rw add-one (d .loop .inv .1 s v r ∙ passed s (d .loop .i) h (in-at s (d .loop .i) h v r (c .before .before .if1 .left) (c .if2 .left))),
     )

@@ -1,0 +1,5 @@
+pub mod Holes
+pub mod HoleLaws
+pub mod Marks
+pub mod MarkLaws
+pub mod Contracts
