@@ -11,7 +11,8 @@ python3 tests/compare.py product [SEEDS]            products before such journal
 python3 tests/compare.py renew [SEEDS]              old journals to new, and back
 python3 tests/compare.py restore [SEEDS]            new journals to old, and back
 
-Each runs the stored cases first, then input from the seeds 1 to SEEDS. The
+Several may be named in one command; they share the two processes. Each runs the
+stored cases first, then input from the seeds 1 to SEEDS. The
 journals are of every kind that the generator knows: small and empty ones, the
 largest (65,536 bytes), a month (744 hours), thousands of doses in one hour,
 holes in the counts, one byte too many, and every kind of malformed line, of
@@ -336,13 +337,17 @@ def status(every, programs):
 
 
 def chosen(words):
-    """What is compared and how much of it."""
-    if not words:
-        return SOME
-    if words[0] not in SOME or len(words) - 1 > len(SOME[words[0]]):
-        sys.exit(__doc__)
-    given = tuple(map(int, words[1:]))
-    return {words[0]: given + SOME[words[0]][len(given):]}
+    """What is compared and how much of it: each kind, its numbers behind it."""
+    kinds, kind = {}, None
+    for word in words:
+        if word in SOME and word not in kinds:
+            kind = word
+            kinds[kind] = ()
+        elif kind and word.isdigit() and len(kinds[kind]) < len(SOME[kind]):
+            kinds[kind] += (int(word),)
+        else:
+            sys.exit(__doc__)
+    return {kind: given + SOME[kind][len(given):] for kind, given in kinds.items()} or SOME
 
 
 def main(words):
