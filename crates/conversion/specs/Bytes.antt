@@ -5,11 +5,14 @@ use Prim.Native.Nat.{ℕ, suc, _+_}
 use lib.Dec.{eqb, leb}
 use lib.ListN.{drop}
 use Rattle.laws.specs.Pick.{pick}
+use Rattle.paper.specs.Answer.{Answer, refused}
+use Rattle.paper.specs.Numbers.{R18}
 use Rattle.text.specs.Scan.{LF, TAB}
 use Rattle.journal.specs.Journal.{formOf, headText}
 use Rattle.journal.specs.JournalLaws.{headBytes}
 use Rattle.journal.specs.declared.Form.{Form}
 use Rattle.journal.specs.declared.Form.the-variants.{Old, New}
+use Rattle.conversion.specs.Conversion.{handed}
 
 -- the tabs of a line after one byte more
 unfoldable pub tabsAfter : ℕ → ℕ → ℕ
@@ -47,3 +50,9 @@ lineAfter n b = pick (eqb b LF) (suc n) n
 unfoldable pub otherFrom : ℕ → ℕ → List ℕ → ℕ
 otherFrom n t [] = 0
 otherFrom n t (b ∷ bs) = let more = otherFrom (lineAfter n b) (tabsAfter t b) bs in pick (isOther t b) n more
+
+-- to the old form: R18 with that line, else the journal's bytes
+unfoldable pub backFrom : List ℕ → ℕ → Answer (List ℕ)
+backFrom s room =
+    let other = otherFrom 2 0 (drop 4 s) in
+    pick (eqb other 0) (handed room (bytesOf Old s)) (refused R18 (other ∷ []))
