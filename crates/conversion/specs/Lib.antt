@@ -5,3 +5,4 @@ pub mod Says
 pub mod Contracts
 pub mod Forms
 pub mod Trips
+pub mod Sizes
