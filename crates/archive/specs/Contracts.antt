@@ -5,6 +5,10 @@ use Prim.Native.Nat.{ℕ, _≤_}
 use native.Mathlib.Omega.{arith}
 use lib.ListN.{length, length-append, take}
 use Rattle.paper.specs.Answer.{done, told, bytesIn, Hands, hands-one}
+use Rattle.paper.specs.Numbers.{R8, R18}
+use Rattle.report.specs.Report.{refusalText, refusalOf}
+use Rattle.conversion.specs.declared.Converted.{Converted}
+use Rattle.conversion.specs.declared.Converted.the-variants as C
 use Rattle.archive.specs.Archive.{renewPrint, restorePrint}
 use Rattle.archive.specs.declared.Printout.{Printout}
 
@@ -25,6 +29,13 @@ holds-inside text r h =
     let says : done (r .len) ≡ done (length text) = h .says in
     let n : r .len ≡ length text = cc in
     omega (arith, ap length (h .holds) ∙ length-append text _)
+
+-- what is printed for an answer: the journal that stands in the buffer, or the line of the refusal
+abbrev pub Shows : Converted → List ℕ → Printout → Type 0
+Shows (C.Journal n) out r = r ≡ record { bytes = out; len = n }
+Shows (C.Refused q) out r = Holds (refusalOf q) r
+Shows (C.R18 n) out r = Holds (refusalText R18 n) r
+Shows C.R8 out r = Holds (refusalText R8 0) r
 
 -- what a program prints for the first n bytes, and so for any journal of which they are all, or as many as were asked for
 pub record Prints (rule : List ℕ → List ℕ) (bytes : List ℕ) (n : ℕ) (r : Printout) : Type 0 where

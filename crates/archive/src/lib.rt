@@ -5,7 +5,7 @@ ghost use mathlib.Core.Path.{_≡_};
 ghost use Prim.Native.Nat.{min};
 ghost use lib.ListN.{replicate};
 ghost use Rattle.report.specs.Report.{refusalText, refusalOf};
-ghost use Rattle.archive.specs.Contracts.{Holds, PrintsRenewed, PrintsRestored};
+ghost use Rattle.archive.specs.Contracts.{Holds, Shows, PrintsRenewed, PrintsRestored};
 
 // What is printed: its bytes, how many they are, and 0 behind them. A journal in the other form has no more.
 pub struct Printout {
@@ -47,6 +47,18 @@ fn smaller(a: usize, b: usize) -> usize
     b
 }
 
+// What is printed for an answer: the journal that stands in the buffer, or the line of the refusal.
+fn shown(converted: Converted, out: [u8; journal::ROOM]) -> Printout
+    ensures { λ r. ⌜ Shows converted out r ⌝ }
+{
+    match converted {
+        Converted::Journal(len) => Printout { bytes: out, len },
+        Converted::Refused(refusal) => refusal_report(refusal),
+        Converted::R18(line) => refusal_line(18, line as u64),
+        Converted::R8 => refusal_line(8, 0),
+    }
+}
+
 // What renew prints for an old journal, which the first n of the bytes read are.
 pub fn renewed(bytes: &[u8; journal::READ], n: usize) -> Printout
     ensures { λ r. ⌜ PrintsRenewed (now (bytes .entry)) n r ⌝ }
@@ -55,12 +67,7 @@ pub fn renewed(bytes: &[u8; journal::READ], n: usize) -> Printout
     let size = smaller(n, journal::READ);
     let all: &[u8] = bytes;
     let converted = conversion::renew(&all[..size], &mut out);
-    match converted {
-        Converted::Journal(len) => Printout { bytes: out, len },
-        Converted::Refused(refusal) => refusal_report(refusal),
-        Converted::R18(line) => refusal_line(18, line as u64),
-        Converted::R8 => refusal_line(8, 0),
-    }
+    shown(converted, out)
 }
 
 // What restore prints for a new journal, which the first n of the bytes read are.
@@ -71,10 +78,5 @@ pub fn restored(bytes: &[u8; journal::READ], n: usize) -> Printout
     let size = smaller(n, journal::READ);
     let all: &[u8] = bytes;
     let converted = conversion::restore(&all[..size], &mut out);
-    match converted {
-        Converted::Journal(len) => Printout { bytes: out, len },
-        Converted::Refused(refusal) => refusal_report(refusal),
-        Converted::R18(line) => refusal_line(18, line as u64),
-        Converted::R8 => refusal_line(8, 0),
-    }
+    shown(converted, out)
 }
