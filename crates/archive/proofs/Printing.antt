@@ -1,5 +1,5 @@
 -- From a conversion's answer to what is printed. Assumes nothing.
-use mathlib.Core.Path.{_≡_, refl, sym, ap, _∙_, subst}
+use mathlib.Core.Path.{_≡_, sym, ap, _∙_, subst}
 use mathlib.Core.List.{List, [], _∷_}
 use Prim.Native.Nat.{ℕ, _≤_, min}
 use native.Mathlib.Omega.{arith}
@@ -10,9 +10,8 @@ use Rattle.paper.specs.AnswerLaws.{refused-done, fault-done, fault-refused, han
 use Rattle.paper.specs.Numbers.{R8, R18}
 use Rattle.text.specs.Put.{Puts}
 use Rattle.text.specs.PutLaws.{room-is, puts-fit}
-use Rattle.journal.specs.Says.{saysRefusal, namesOf, refusal-names}
-use Rattle.journal.specs.declared.Refusal.{Refusal}
-use Rattle.report.specs.Report.{refusalText, refusalOf, seen-is}
+use Rattle.journal.specs.Says.{namesOf, refusal-names}
+use Rattle.report.specs.Report.{refusalText, seen-is}
 use Rattle.conversion.specs.Conversion.{renewedOf, restoredOf}
 use Rattle.conversion.specs.Says.{saysConverted}
 use Rattle.conversion.specs.Contracts.{Renews, Restores}

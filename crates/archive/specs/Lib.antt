@@ -1,2 +1,3 @@
 pub mod Archive
 pub mod Contracts
+pub mod Trips

@@ -8,7 +8,7 @@ use native.Mathlib.Numerals.{add-one}
 use lib.Dec.{T, eqb, leb}
 use lib.ListN.{length, getD, drop, drop-of-length-le, length-append}
 use lib.Seq.{drop-cons}
-use borrow.Author.Tests.{eq-eqb, ne-eqb, le-leb, lt-leb, eqb-true, eqb-false}
+use borrow.Author.Tests.{ne-eqb, le-leb, lt-leb, eqb-true, eqb-false}
 use Rattle.laws.specs.Pick.{pick, pick-t, pick-f, pick-all}
 use Rattle.laws.specs.Tests.{each, both-left, both-right}
 use Rattle.laws.specs.Decimal.{decimal, digitsOf, glyph, isDigit}

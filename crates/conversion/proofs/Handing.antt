@@ -9,7 +9,7 @@ use lib.Seq.{sets, length-sets}
 use borrow.Author.Tests.{eq-eqb, ne-eqb}
 use Rattle.laws.specs.Pick.{pick, pick-t, pick-f}
 use Rattle.laws.specs.Over.{sets-append}
-use Rattle.paper.specs.Answer.{Answer, done, refused, fault, told, onDone, inRoom, Fills}
+use Rattle.paper.specs.Answer.{Answer, done, refused, fault, told, onDone, Fills}
 use Rattle.paper.specs.AnswerLaws.{refused-done, fault-done, told-refused, fills-refused, fills-none, fills-text}
 use Rattle.paper.specs.Numbers.{R8, R13, R18}
 use Rattle.text.specs.Put.{Puts}
@@ -28,7 +28,7 @@ use Rattle.hourly.specs.declared.Judged.{Judged}
 use Rattle.hourly.specs.declared.Judged.the-variants as J
 use Rattle.hourly.specs.declared.Summary.{Summary}
 use Rattle.conversion.specs.Conversion.{readAs, goesBack, handed, renewedOf, restoredOf}
-use Rattle.conversion.specs.Forms.{Holding, read-holding, holding-read, holding-text, holding-range, Zeros, old-zero, handed-short, handed-long}
+use Rattle.conversion.specs.Forms.{Holding, read-holding, holding-read, holding-text, holding-range, old-zero, handed-short, handed-long}
 use Rattle.conversion.specs.Bytes.{bytesTo, bytesOf, otherFrom, backFrom}
 use Rattle.conversion.proofs.Bytewise.{lines-new, lines-old, lines-back}
 

@@ -1,6 +1,6 @@
 -- What one byte becomes, by the test that is made. Assumes nothing.
 use mathlib.Core.Path.{_≡_, refl, sym, ap, subst}
-use mathlib.Core.Bool.{Bool, true, false, _&&_}
+use mathlib.Core.Bool.{true, false, _&&_}
 use mathlib.Core.List.{List, [], _∷_}
 use Prim.Native.Nat.{ℕ, _+_, _≤_, _<_}
 use native.Mathlib.Omega.{arith}
@@ -8,7 +8,7 @@ use lib.Dec.{eqb, leb}
 use lib.ListN.{length}
 use lib.Seq.{sets}
 use borrow.Author.Tests.{le-leb, lt-leb}
-use Rattle.laws.specs.Pick.{pick, pick-t, pick-f}
+use Rattle.laws.specs.Pick.{pick-t, pick-f}
 use Rattle.text.specs.Scan.{LF, TAB}
 use Rattle.text.specs.Put.{Puts}
 use Rattle.text.specs.PutLaws.{room-is, fit-puts}

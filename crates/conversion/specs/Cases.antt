@@ -1,16 +1,14 @@
 -- The conversion's rules on bytes (document 02, W5). Assumes nothing.
 use mathlib.Core.Path.{_≡_, refl}
-use mathlib.Core.List.{List, [], _∷_, _++_}
-use Prim.Native.Nat.{ℕ}
+use mathlib.Core.List.{[], _∷_, _++_}
 use Rattle.laws.specs.Pick.{pick}
 use Rattle.laws.specs.Decimal.{decimal, digitsOf, glyph, numberAt, digitsFrom, isDigit}
-use Rattle.paper.specs.Answer.{Answer, done, refused, told, onDone, inRoom}
+use Rattle.paper.specs.Answer.{done, refused, told, onDone, inRoom}
 use Rattle.paper.specs.Numbers.{R8, R10, R11, R12, R18}
 use Rattle.text.specs.Scan.{expect, onGood}
 use Rattle.journal.specs.Line.{versionText, versioned, lineOf, textOf, doseFields, fieldsText, fieldsAt, doseFrom, onFrom, mostOfD, mostOfH}
 use Rattle.journal.specs.Journal.{hourIn, closes, outOfOrder, tooFar, noPast, pastAfter, ordered, onLine, readFrom, formOf, bodyOf, journalOf, linesText, headText, journalText, example}
 use Rattle.journal.specs.declared.Form.the-variants.{Old, New}
-use Rattle.journal.specs.declared.Line.{Line}
 use Rattle.journal.specs.declared.Line.the-variants.{Dose, On}
 use Rattle.conversion.specs.Conversion.{isForm, readAs, productIn, goesBack, handed, renewedOf, restoredOf}
 

@@ -6,3 +6,4 @@ pub mod Contracts
 pub mod Forms
 pub mod Trips
 pub mod Sizes
+pub mod Calls

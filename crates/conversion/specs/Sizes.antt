@@ -1,12 +1,9 @@
 -- How many bytes each direction adds or takes, and so which journals can go. Assumes nothing.
 use mathlib.Core.Path.{_≡_, refl, sym, ap, _∙_}
-use mathlib.Core.List.{List, [], _∷_, _++_}
+use mathlib.Core.List.{List, [], _∷_}
 use Prim.Native.Nat.{ℕ, suc, _+_, _*_, _≤_, _<_}
 use native.Mathlib.Omega.{arith}
-use lib.Dec.{leb}
 use lib.ListN.{length, length-append}
-use borrow.Author.Tests.{le-leb}
-use Rattle.laws.specs.Pick.{pick-t}
 use Rattle.laws.specs.Decimal.{decimal, digitsOf, glyph}
 use Rattle.laws.specs.DecimalLaws.{decimal-some}
 use Rattle.paper.specs.Answer.{Answer, done, refused, onDone, inRoom}
@@ -15,7 +12,6 @@ use Rattle.journal.specs.Line.{versionText, textOf}
 use Rattle.journal.specs.LineLaws.{productText, dose-length, on-length}
 use Rattle.journal.specs.Journal.{linesText, headText, journalText}
 use Rattle.journal.specs.JournalLaws.{each-map}
-use Rattle.journal.specs.declared.Form.{Form}
 use Rattle.journal.specs.declared.Form.the-variants.{Old, New}
 use Rattle.journal.specs.declared.Line.{Line}
 use Rattle.journal.specs.declared.Line.the-variants.{Dose, On}

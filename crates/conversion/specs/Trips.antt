@@ -1,20 +1,16 @@
 -- There and back: Old to new to old gives the same bytes, and so does new to old to new where it isn't refused; the lines, and so the hours, are the same on both sides. Assumes nothing.
 use mathlib.Core.Path.{_≡_, sym, ap, _∙_, subst}
 use mathlib.Core.List.{List, []}
-use Prim.Native.Nat.{ℕ, _≤_}
-use lib.ListN.{length}
+use Prim.Native.Nat.{ℕ}
 use Rattle.paper.specs.Answer.{Answer, done, told, onDone, inRoom}
 use Rattle.paper.specs.AnswerLaws.{on-done}
-use Rattle.journal.specs.Line.{inRange}
 use Rattle.journal.specs.LineLaws.{range-either}
 use Rattle.journal.specs.Journal.{journalOf, journalText}
-use Rattle.journal.specs.JournalLaws.{Each, each-map}
-use Rattle.journal.specs.Order.{Ordered, journal-ordered}
-use Rattle.journal.specs.declared.Form.{Form}
+use Rattle.journal.specs.JournalLaws.{each-map}
+use Rattle.journal.specs.Order.{journal-ordered}
 use Rattle.journal.specs.declared.Form.the-variants.{Old, New}
 use Rattle.journal.specs.declared.Line.{Line}
-use Rattle.hourly.specs.Hours.{HourAnswer, hourOf, askOf}
-use Rattle.hourly.specs.Text.{hoursText}
+use Rattle.hourly.specs.Hours.{hourOf, askOf}
 use Rattle.hourly.specs.declared.Products.{Products}
 use Rattle.conversion.specs.Conversion.{readAs, goesBack, handed, renewedOf, restoredOf}
 use Rattle.conversion.specs.Forms.{Holding, read-holding, holding-read, holding-text, holding-range, text-holding, Zeros, old-zero, zeros-old, goes-zeros, goes-done, handed-short, handed-done}

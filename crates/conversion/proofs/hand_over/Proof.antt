@@ -1,10 +1,7 @@
 use mathlib.Core.Path.{_≡_, ap}
-use Prim.Native.Nat.{ℕ, _+_}
 use native.Mathlib.Omega.{arith}
 use denote.Ref.{now}
 use lib.ListN.{drop, length-drop}
-use Rattle.journal.specs.Journal.{formOf}
-use Rattle.journal.specs.JournalLaws.{headBytes}
 use Rattle.journal.specs.declared.Head.{Head}
 use Rattle.conversion.proofs.Bytewise.{bytes-most, head-most}
 use Rattle.conversion.proofs.Handing.{Sized, over-long, over-room, lines-room, handed-over}

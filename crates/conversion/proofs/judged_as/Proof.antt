@@ -6,12 +6,11 @@ use denote.Ref.{now}
 use lib.ListN.{length}
 use borrow.Author.Tests.{lt-ltb, le-ltb, not-true, not-false}
 use Rattle.laws.specs.Pick.{pick-t, pick-f}
-use Rattle.paper.specs.Answer.{Answer, refused, told}
+use Rattle.paper.specs.Answer.{refused, told}
 use Rattle.paper.specs.Numbers.{R10, R13}
 use Rattle.journal.specs.Journal.{formOf, journalOf}
 use Rattle.journal.specs.declared.Form.{Form}
 use Rattle.journal.specs.declared.Head.{Head}
-use Rattle.journal.specs.declared.Line.{Line}
 use Rattle.hourly.specs.Tally.{summaryOf}
 use Rattle.conversion.specs.Conversion.{isForm, readAs}
 use borrow.Author.Needs.{needs}

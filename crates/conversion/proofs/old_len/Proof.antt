@@ -1,10 +1,5 @@
-use mathlib.Core.Path.{_≡_, sym, ap, _∙_}
-use mathlib.Core.List.{List, [], _∷_}
-use Prim.Native.Nat.{ℕ, _≤_, _<_}
-use native.Mathlib.Omega.{arith}
-use lib.Dec.{leb}
+use mathlib.Core.Path.{_≡_, sym, ap}
 use lib.ListN.{length}
-use Rattle.conversion.specs.Bytes.{oldPiece}
 use Rattle.conversion.proofs.Pieces.{old-kept, old-gone}
 use borrow.Author.Needs.{needs}
 use Rattle.conversion.proofs.old_len.Statement.{statement}

@@ -1,5 +1,5 @@
 use mathlib.Core.Path.{_≡_, ap}
-use mathlib.Core.List.{List, []}
+use mathlib.Core.List.{[]}
 use native.Mathlib.Omega.{arith}
 use lib.ListN.{length}
 use Rattle.journal.specs.declared.Form.{Form}

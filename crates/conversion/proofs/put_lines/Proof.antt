@@ -1,8 +1,7 @@
 use mathlib.Core.Path.{_≡_, refl, sym, ap, _∙_}
-use mathlib.Core.List.{List, _++_}
+use mathlib.Core.List.{List}
 use Prim.Native.Nat.{ℕ, _+_, _-_, _≤_, _<_}
 use native.Mathlib.Omega.{arith}
-use denote.Ref.{now}
 use lib.ListN.{length, getD, drop, length-append}
 use lib.Seq.{sets}
 use Rattle.laws.specs.Over.{sets-append}

@@ -1,7 +1,7 @@
 use mathlib.Core.Path.{sym, ap, _∙_}
 use denote.Ref.{now}
 use lib.ListN.{length}
-use Rattle.journal.specs.declared.Form.the-variants.{Old, New}
+use Rattle.journal.specs.declared.Form.the-variants.{Old}
 use Rattle.hourly.specs.Says.{saysJudged}
 use Rattle.conversion.proofs.Handing.{fills-as, found, renewed, renew-refused}
 use borrow.Author.Needs.{needs}
