@@ -110,11 +110,11 @@ goes-done n (l ∷ ls) next y e =
 
 pub handed-short : (room : ℕ) (text : List ℕ) → length text ≤ 65536 → handed room text ≡ inRoom [] room text
 unfolding handed
-handed-short room text h = pick-f _ _ _ (le-ltb 65536 (length text) h)
+handed-short room text h = pick-f _ _ _ (le-ltb _ _ h)
 
 pub handed-long : (room : ℕ) (text : List ℕ) → 65536 < length text → handed room text ≡ refused R13 []
 unfolding handed
-handed-long room text h = pick-t _ _ _ (lt-ltb 65536 (length text) h)
+handed-long room text h = pick-t _ _ _ (lt-ltb _ _ h)
 
 pub handed-done : (room : ℕ) (text y : List ℕ) → handed room text ≡ done y → (length text ≤ 65536) × (y ≡ text)
 unfolding handed inRoom

@@ -17,7 +17,7 @@ slice-aggregate-restore : tie.Need-slice-aggregate-restore
 slice-aggregate-restore c =
     let bytes = c .before .before .before .before .args .bytes .now in
     let size : length bytes ≡ 65537 = search needs in
-    sym (length-take-le (c .before .before .smaller .result) bytes (omega (arith, c .before .before .smaller .ensures)))
+    sym (length-take-le _ bytes (omega (arith, c .before .before .smaller .ensures)))
 
 slice-aggregate-restore-2 : tie.Need-slice-aggregate-restore-2
 slice-aggregate-restore-2 c = search needs
