@@ -1,5 +1,5 @@
-"""Makes input for `replay`, `record`, `slave`, `hours`, `week` and `product`
-from a seed.
+"""Makes input for `replay`, `record`, `slave`, `hours`, `week`, `product`, `renew`
+and `restore` from a seed.
 
 python3 -m second.generate replay SEED [LINES]
 python3 -m second.generate record SEED [HOURS]      a weigher at work
@@ -10,13 +10,15 @@ python3 -m second.generate slave SEED [FRAMES]       reads of `slave`, a line of
 python3 -m second.generate journal SEED [KIND]
 python3 -m second.generate week SEED KIND           a first hour and such a journal
 python3 -m second.generate product SEED KIND        a product and such a journal
-python3 -m second.generate kinds
+python3 -m second.generate renew SEED KIND          a journal, most of the old form
+python3 -m second.generate restore SEED KIND        a journal, most of the new form
+python3 -m second.generate kinds [renew|restore]
 """
 
 import random
 import sys
 
-from second import box, calls, hopper, journals, weigher
+from second import both_forms, box, calls, hopper, journals, weigher
 from second.replay import Replay
 
 MINUTE = 7500       # ticks
@@ -180,7 +182,8 @@ MADE = {'replay': replay, 'record': record, 'minutes': minutes, 'ends': ends,
 def main(words):
     write = sys.stdout.buffer.write
     if words[:1] == ['kinds']:
-        write(''.join(kind + '\n' for kind in journals.KINDS).encode())
+        kinds = both_forms.KINDS[words[1]] if words[1:] else journals.KINDS
+        write(''.join(kind + '\n' for kind in kinds).encode())
     elif words and words[0] in MADE:
         for text in MADE[words[0]](*map(int, words[1:])):
             write(text)
@@ -191,6 +194,8 @@ def main(words):
         write(journals.week(random.Random(int(words[1])), words[2]))
     elif words[:1] == ['product']:
         write(journals.one_product(random.Random(int(words[1])), words[2]))
+    elif words and words[0] in both_forms.KINDS:
+        write(both_forms.make(random.Random(int(words[1])), words[0], words[2]))
     else:
         sys.exit(__doc__)
 

@@ -274,19 +274,19 @@ def in_new_form(make_old):
     return lambda rng: renewed(rng, make_old(rng))
 
 
-def new_exact(rng, size=journal.LONGEST):
-    """Of exactly so many bytes, in one hour; the last five doses take what is
-    left."""
+def new_exact(rng, size=journal.LONGEST, least=100, most=255):
+    """Of exactly so many bytes, in one hour, with products of one length; the last
+    five doses take what is left."""
     hour, count, text = rng.randint(100, 999), rng.randint(100000, 900000), journal.V
     line = b'D\t%d\t%d\t%d\t1\t%d\n'
-    longest = len(line % (hour, count, 1800000, 255))
+    longest = len(line % (hour, count, 1800000, most))
     left = size - len(text) - len(h(hour))
     while left > 5 * longest:
-        text += line % (hour, count, rng.randint(1000000, 1800000), rng.randint(100, 255))
+        text += line % (hour, count, rng.randint(1000000, 1800000), rng.randint(least, most))
         left, count = left - longest, count + 1
     for n in range(5, 0, -1):
         digits = 7 - (longest - left // n)
-        text += line % (hour, count, 10 ** (digits - 1), 255)
+        text += line % (hour, count, 10 ** (digits - 1), most)
         left, count = left - longest + 7 - digits, count + 1
     return text + h(hour)
 

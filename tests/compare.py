@@ -8,8 +8,11 @@ python3 tests/compare.py record [SEEDS [HOURS]]     hours of ticks, and their ho
 python3 tests/compare.py slave [SEEDS [FRAMES]]     MODBUS frames, each a read
 python3 tests/compare.py week [SEEDS]               first hours before such journals
 python3 tests/compare.py product [SEEDS]            products before such journals
+python3 tests/compare.py renew [SEEDS]              old journals to new, and back
+python3 tests/compare.py restore [SEEDS]            new journals to old, and back
 
-Each runs the stored cases first, then input from the seeds 1 to SEEDS. The
+Several may be named in one command; they share the two processes. Each runs the
+stored cases first, then input from the seeds 1 to SEEDS. The
 journals are of every kind that the generator knows: small and empty ones, the
 largest (65,536 bytes), a month (744 hours), thousands of doses in one hour,
 holes in the counts, one byte too many, and every kind of malformed line, of
@@ -19,7 +22,10 @@ that are no call, a script of every call after a first hour, and first lines
 that are no hour. What `record` prints goes through `hours` too. `slave` is given
 what each read brings as a packet of its own. `week` is given every kind of
 journal behind first hours in and beside it, and behind lines that are none;
-`product` likewise.
+`product` likewise. `renew` and `restore` are given all of these and more: each
+refusal in the first, a middle and the last line, products in them, results of
+65,536 bytes and of one more. What one prints goes through the other, which must
+print the journal again unless it was refused.
 
 At the first difference it prints the output line of both and the input line
 that it answers, and ends with status 1. It does so too where a task fails, and
@@ -43,18 +49,22 @@ import traceback
 ROOT = os.path.dirname(os.path.dirname(os.path.abspath(__file__)))
 sys.path.insert(0, ROOT)
 
-from second import (calls, generate, hours, journals, product, record,  # noqa: E402
-                    replay, slave, week)
+from second import (both_forms, calls, generate, hours, journals, product,  # noqa: E402
+                    record, renew, replay, restore, slave, week)
 
 AT_A_TIME = 2
 SOME = {'replay': (4, 20000), 'journals': (10,), 'record': (1, 2), 'slave': (20, 200),
-        'week': (10,), 'product': (10,)}
+        'week': (10,), 'product': (10,), 'renew': (10,), 'restore': (10,)}
 NEEDED = {'replay': ['replay'], 'journals': ['hours'], 'record': ['record', 'hours'],
-          'slave': ['slave'], 'week': ['week'], 'product': ['product']}
+          'slave': ['slave'], 'week': ['week'], 'product': ['product'],
+          'renew': ['renew', 'restore'], 'restore': ['restore', 'renew']}
 SUMMARY = {'replay': '%d scripts, %d answers', 'hours': '%d journals, %d lines of hours',
            'record': '%d scripts, %d lines of journal',
            'slave': '%d scripts, %d rows of replies', 'week': '%d sheets, %d lines',
-           'product': '%d journals, %d lines of hours'}
+           'product': '%d journals, %d lines of hours',
+           'renew': '%d journals, %d lines', 'restore': '%d journals, %d lines'}
+# What a program prints goes through another one.
+THEN = {'record': 'hours', 'renew': 'restore', 'restore': 'renew'}
 
 
 # The programs.
@@ -119,6 +129,8 @@ SECOND = {
     'slave': lambda data: rows(slave.in_packets(data)),
     'week': lambda data: week.printed(io.BytesIO(data)),
     'product': lambda data: product.printed(io.BytesIO(data)),
+    'renew': renew.printed,
+    'restore': restore.printed,
 }
 
 
@@ -171,7 +183,8 @@ STORED = {'replay': ['tests/cases/*.replay', 'crates/replay/stdin'],
           'journals': ['tests/cases/*.journal'],
           'record': ['tests/cases/*.record', 'crates/record/stdin', 'samples/*.record'],
           'slave': ['tests/cases/*.slave'], 'week': ['tests/cases/*.week'],
-          'product': ['tests/cases/*.product']}
+          'product': ['tests/cases/*.product'], 'renew': ['tests/cases/*.renew'],
+          'restore': ['tests/cases/*.restore']}
 BAD_FIRST_LINES = 10        # a seed
 
 
@@ -213,6 +226,13 @@ def seeded_after(name, seed):
         yield name, case, make(random.Random(seed), kind)
 
 
+def seeded_turned(name, seed):
+    """Journals for `renew` or `restore`."""
+    for kind in both_forms.KINDS[name]:
+        case = 'second.generate %s %d %s' % (name, seed, kind)
+        yield name, case, both_forms.make(random.Random(seed), name, kind)
+
+
 def seeded_calls(seed):
     """A script of every call after a first hour, and bad first lines."""
     rng = random.Random(seed)
@@ -231,17 +251,24 @@ def seeded_calls(seed):
 Task = collections.namedtuple('Task', 'name make words inputs')
 
 
-def one(programs, name, case, data, counts):
-    """The first difference of one input. What `record` prints is a journal,
-    which goes through `hours`."""
-    theirs = SECOND[name](data)
+def step(programs, name, case, data, theirs, counts):
+    """Whether one program prints the same as theirs."""
     ours = PRINTED.get(name, printed)(programs[name], data)
-    told = difference(name, case, data, ours, theirs)
     inputs, lines = counts.get(name, (0, 0))
     counts[name] = inputs + 1, lines + theirs.count(b'\n')
-    if name == 'record' and not told:
-        return one(programs, 'hours', 'the journal of ' + case, theirs, counts)
-    return told
+    return difference(name, case, data, ours, theirs)
+
+
+def one(programs, name, case, data, counts):
+    """The first difference of one input. What `record` prints goes through `hours`,
+    what `renew` and `restore` print back to what it was."""
+    theirs = SECOND[name](data)
+    told = step(programs, name, case, data, theirs, counts)
+    if told or name not in THEN:
+        return told
+    back = name != 'record' and theirs[:1] != b'R'
+    return step(programs, THEN[name], 'the journal of ' + case, theirs,
+                data if back else SECOND[THEN[name]](theirs), counts)
 
 
 def compared(programs, task):
@@ -270,6 +297,8 @@ def tasks(kind, seeds, *size):
             yield Task(name, seeded_journals, (seed,), len(journals.KINDS))
         elif kind in ('week', 'product'):
             yield Task(name, seeded_after, (name, seed), len(journals.KINDS))
+        elif kind in both_forms.KINDS:
+            yield Task(name, seeded_turned, (name, seed), len(both_forms.KINDS[kind]))
         else:
             yield Task(name, seeded_calls, (seed,), 1 + BAD_FIRST_LINES)
             yield Task(name, seeded, (name, 'record', seed, *size), 1)
@@ -282,8 +311,8 @@ def expected(every):
     number = collections.Counter()
     for task in every:
         number[task.name] += task.inputs
-        if task.name == 'record':
-            number['hours'] += task.inputs
+        if task.name in THEN:
+            number[THEN[task.name]] += task.inputs
     return number
 
 
@@ -308,13 +337,17 @@ def status(every, programs):
 
 
 def chosen(words):
-    """What is compared and how much of it."""
-    if not words:
-        return SOME
-    if words[0] not in SOME or len(words) - 1 > len(SOME[words[0]]):
-        sys.exit(__doc__)
-    given = tuple(map(int, words[1:]))
-    return {words[0]: given + SOME[words[0]][len(given):]}
+    """What is compared and how much of it: each kind, its numbers behind it."""
+    kinds, kind = {}, None
+    for word in words:
+        if word in SOME and word not in kinds:
+            kind = word
+            kinds[kind] = ()
+        elif kind and word.isdigit() and len(kinds[kind]) < len(SOME[kind]):
+            kinds[kind] += (int(word),)
+        else:
+            sys.exit(__doc__)
+    return {kind: given + SOME[kind][len(given):] for kind, given in kinds.items()} or SOME
 
 
 def main(words):

@@ -92,18 +92,33 @@ def seen(*words):
     return done.returncode, b'0 differ' in done.stdout
 
 
-# The second implementation of `slave` as a program, run in packets.
-SLAVE = [sys.executable, '-c', 'import sys; sys.path.insert(0, sys.argv[1]); '
-         'from second import slave; slave.main()',
-         os.path.dirname(os.path.dirname(os.path.abspath(__file__)))]
+def second(name):
+    """The second implementation of a program, as one."""
+    return [sys.executable, '-c', 'import sys; sys.path.insert(0, sys.argv[1]); '
+            'from second import %s; %s.main()' % (name, name),
+            os.path.dirname(os.path.dirname(os.path.abspath(__file__)))]
 
 
 def packets():
     """Whether each read of a program brings one packet."""
     import compare
     for _, case, data in compare.stored('slave', 'slave'):
-        if compare.replied(SLAVE, data) != compare.SECOND['slave'](data):
+        if compare.replied(second('slave'), data) != compare.SECOND['slave'](data):
             print('packets of ' + case)
+            return 1
+    return 0
+
+
+def back():
+    """Whether a journal that does not come back as it was is told, and no other."""
+    import compare
+    nothing = [sys.executable, '-c', '']
+    for data, restore, wanted in ((b'H\t5\n', second('restore'), True), (b'', nothing, True),
+                                  (b'H\t5\n', nothing, False), (b'x\n', nothing, False),
+                                  (b'x\n', second('restore'), True)):
+        programs = {'renew': second('renew'), 'restore': restore}
+        if (compare.one(programs, 'renew', 'a journal', data, {}) is None) != wanted:
+            print('back from %r' % data)
             return 1
     return 0
 
@@ -114,12 +129,12 @@ def main():
         wanted[change, '50', 'good'] = 1, False
     for tasks in list(TASKS)[1:]:
         wanted['none', '50', tasks] = 1, False
-    failed = packets()
+    failed = packets() + back()
     for words, answer in wanted.items():
         if seen(*words) != answer:
             failed += 1
             print('%s, hour %s, tasks %s: %r, not %r' % (*words, seen(*words), answer))
-    print('%d comparisons, %d failed' % (len(wanted) + 1, failed))
+    print('%d comparisons, %d failed' % (len(wanted) + 2, failed))
     return 1 if failed else 0
 
 

@@ -13,8 +13,8 @@ ROOT = os.path.dirname(os.path.dirname(os.path.abspath(__file__)))
 CASES = os.path.join(ROOT, 'tests', 'cases')
 sys.path.insert(0, ROOT)
 
-from second import (frames, generate, hopper, journal, journals, modbus,  # noqa: E402
-                    replay)
+from second import (both_forms, frames, generate, hopper, journal, journals,  # noqa: E402
+                    modbus, replay)
 from second.calls import checked, framed, line  # noqa: E402
 from second.replay import Replay  # noqa: E402
 from second.settings import DEFAULT, Settings  # noqa: E402
@@ -1653,6 +1653,82 @@ def product_cases():
     write('one-byte-over.product', b'07\n' + exact + b'\n')
 
 
+def refused(head, begun):
+    """Refused at the first, a middle and the last line, or just not; `begun` is a
+    journal of the hours 10 to 13, `head` what it begins with."""
+    h = journals.h
+    return {
+        'refused-10-first': head + b'H\t010\n' + h(10), 'refused-10': begun + b'x\n' + h(9),
+        'refused-10-last': begun + b'H\n', 'no-lf': begun[:-1], 'empty-line': begun + b'\n',
+        'refused-11-second': head + h(10) + h(10) + h(754), 'refused-11': begun + h(13) + h(800),
+        'refused-11-last': begun + h(12), 'refused-12-second': head + h(10) + h(754) + h(3),
+        'refused-12': begun + h(754) + b'x\n', 'refused-12-last': begun + h(754),
+        'span': begun + h(753), 'cr': begun.replace(b'\n', b'\r\n'),
+        'v-again': begun + V, 'five-fields': begun + journals.d(14, 4, 5),
+        'six-fields': begun + b'D\t14\t4\t5\t1\t0\n',
+    }
+
+
+def to_renew():
+    """Journals for the way to the new form, by what they show."""
+    d, h, mill = journals.d, journals.h, of_counts('10 1 2 H, 11 H, 12 3, 13 H')
+    return dict(refused(b'', mill), **{
+        'mill': mill, 'empty': b'', 'h-alone': h(10), 'd-alone': d(10, 1, 500),
+        'month': read('month.journal'), 'h-lines': b''.join(map(h, range(744))),
+        'least': d(0, 0, 0, 0) + h(0), 'greatest': d(9999999, 999999, 1800000) + h(9999999),
+        'a-hole': read('hole-across-idle-hours.journal'), 'lf-alone': b'\n',
+        'leading-zero': b'D\t10\t01\t500\t1\n', 'v-alone': V, 'v-no-lf': V[:-1],
+        'new': new_journals()['mill'], 'new-with-0': of_products('10 1/0 H'),
+        'new-order': BAD_JOURNALS['order-after-v'], 'new-malformed': V + b'x\n',
+        'v-and-old': V + mill, 'v-3': b'V\t3\n' + mill, 'lf-and-v': b'\n' + V,
+        'new-without-v': of_products('10 1/0 H')[len(V):],
+    })
+
+
+def to_restore():
+    """Journals for the way to the old form, by what they show."""
+    h, mill = journals.h, of_products('10 1/0 2/0 H, 11 H, 12 3/0, 13 H')
+    made = dict(refused(V, mill), **{
+        'mill': mill, 'v-alone': V, 'h-alone': V + h(10),
+        'h-lines': V + b''.join(map(h, range(9999256, 10000000))), 'empty': b'',
+        'old': read('mill.journal'), 'old-h-alone': h(10),
+        'old-order': read('refused-11.journal'), 'old-malformed': read('refused-10.journal'),
+        'v-3': b'V\t3\n' + h(10), 'v-no-lf': V[:-1], 'v-cr': b'V\t2\r\n', 'v-later': h(10) + V,
+        'v-twice': V + V, 'lf-alone': b'\n', 'lf-and-v': b'\n' + V, 'without-v': mill[len(V):],
+        'old-behind-v': V + read('mill.journal'), 'h-with-0': V + b'H\t10\t0\n',
+        'product-00': mill + b'D\t14\t4\t5\t1\t00\n', 'product-256': mill +
+        b'D\t14\t4\t5\t1\t256\n', 'product-in-11': mill + b'D\t13\t4\t5\t1\t7\n',
+    })
+    other = refused(V, of_products('10 1/0 2/7 H, 11 H, 12 3/7, 13 H'))
+    made.update({'product-and-' + name: data for name, data in other.items()
+                 if b'\t7\n' in data})
+    made.update({name: of_products(text) for name, text in {
+        'd-alone': '10 1/0', 'least': '0 0/0 H', 'greatest': '9999999 999999/0 H',
+        'a-hole': '10 1/0 H, 11 H, 12 5/0 H, 13 6/0 H',
+        'product-first': '10 1/7 2/0 H, 11 3/0 H', 'product': '10 1/0 H, 11 2/7 3/0 H',
+        'product-last': '10 1/0 H, 11 2/0 3/255', 'product-alone': '10 1/1',
+        'products': '10 1/0 2/9 3/7 H, 11 4/9 H', 'every-product': '10 1/7 2/7 H, 11 3/7 H',
+        'product-1': '10 1/0 2/1 H', 'product-10': '10 1/0 2/10 H',
+        'product-100': '10 1/0 2/100 H', 'product-255': '10 1/255 H',
+    }.items()})
+    return made
+
+
+def turned_cases():
+    """Journals of one form, to be turned into the other; the longest by what is
+    too long."""
+    for name, data in to_renew().items():
+        write('%s.renew' % name, data)
+    for name, data in to_restore().items():
+        write('%s.restore' % name, data)
+    for kind, name in (('renew', 'result-exact'), ('renew', 'result-over'),
+                       ('renew', 'result-over-refused'), ('renew', 'exact'), ('renew', 'over'),
+                       ('renew', 'new-exact'), ('renew', 'new-over'), ('restore', 'zero-exact'),
+                       ('restore', 'zero-over'), ('restore', 'exact'), ('restore', 'over'),
+                       ('restore', 'new-exact'), ('restore', 'new-over')):
+        write('%s.%s' % (name, kind), both_forms.make(random.Random(1), kind, name))
+
+
 def of_counts(text):
     """A journal by its hours: `10 1 2 H` is hour 10 with doses 1 and 2 and an
     H."""
@@ -1831,6 +1907,7 @@ def main():
     slave_cases()
     week_cases()
     product_cases()
+    turned_cases()
     for case in (settings_case, al0_case, al1_case, al2_case, al3_case,
                  faults_case, line_case, frames_case, modbus_case, wild_case,
                  why_case, product_case, fields_case,

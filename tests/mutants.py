@@ -707,6 +707,115 @@ MUTANTS = [
     ('the smallest amount for the largest', 'hours.py',
      'float(max(amounts))', 'float(min(amounts))'),
 
+    # From one form to the other.
+    ('no look at the form', 'forms.py', 'if data.startswith(journal.V) != new:', 'if False:'),
+    ('a new journal renewed', 'forms.py',
+     'if data.startswith(journal.V) != new:', 'if new and not data.startswith(journal.V):'),
+    ('an old journal restored', 'forms.py',
+     'if data.startswith(journal.V) != new:', 'if data.startswith(journal.V) and not new:'),
+    ('the empty journal is new', 'forms.py',
+     'data.startswith(journal.V) != new', '(not data or data.startswith(journal.V)) != new'),
+    ('the empty journal is of either form', 'forms.py',
+     'if data.startswith(journal.V) != new:', 'if data and data.startswith(journal.V) != new:'),
+    ('V alone is old', 'forms.py',
+     'data.startswith(journal.V) != new',
+     '(data.startswith(journal.V) and data != journal.V) != new'),
+    ('any V line is the new form', 'forms.py',
+     'data.startswith(journal.V) != new', "data.startswith(b'V') != new@"
+     'return journal.read_all(data)@'
+     "return journal.read_all(journal.V + data[data.find(b'\\n') + 1:] if new else data)"),
+    ('the form told by a D line', 'forms.py',
+     'data.startswith(journal.V) != new',
+     "(b'\\nD' in data and data.startswith(journal.V)) != new"),
+    ('the other form refused without a line', 'forms.py', 'Refused(10, 1)', 'Refused(10, 0)'),
+    ('the other form refused at line 2', 'forms.py', 'Refused(10, 1)', 'Refused(10, 2)'),
+    ('the other form is R18', 'forms.py', 'Refused(10, 1)', 'Refused(18, 1)'),
+    ('R10 to R12 of the lines before the form', 'forms.py',
+     '    if data.startswith(journal.V) != new:\n',
+     '    journal.read_all(data)\n    if data.startswith(journal.V) != new:\n'),
+    ('the form before R13', 'forms.py',
+     '    if len(data) > journal.LONGEST:\n        raise Refused(13, 0)\n    if data',
+     '    if data'),
+    ('R13 at 65,536 bytes to turn', 'forms.py',
+     'len(data) > journal.LONGEST', 'len(data) >= journal.LONGEST'),
+    ('no R13 of the result', 'forms.py', 'if len(made) > journal.LONGEST:', 'if False:'),
+    ('R13 of a result of 65,536 bytes', 'forms.py',
+     'len(made) > journal.LONGEST', 'len(made) >= journal.LONGEST'),
+    ('a result of 65,537 bytes', 'forms.py',
+     'len(made) > journal.LONGEST', 'len(made) > journal.LONGEST + 1'),
+    ('R13 of the result without V', 'forms.py',
+     'len(made) > journal.LONGEST', 'len(made) - 4 > journal.LONGEST'),
+    ('R13 of the result before the lines', 'forms.py',
+     '    made = ', "    if 4 + len(data) + 2 * data.count(b'D') > journal.LONGEST:\n"
+     '        raise Refused(13, 0)\n    made = '),
+    ('R13 of the result with its line', 'forms.py',
+     '        raise Refused(13, 0)\n    return made',
+     "        raise Refused(13, data.count(b'\\n'))\n    return made"),
+    ('the result cut at 65,536 bytes', 'forms.py',
+     '    if len(made) > journal.LONGEST:\n        raise Refused(13, 0)\n    return made',
+     '    return made[:journal.LONGEST]'),
+    ('R8 for a long result', 'forms.py',
+     '        raise Refused(13, 0)\n    return made',
+     '        raise Refused(8, 0)\n    return made'),
+    ('no V in front', 'forms.py', 'made = journal.V + text', 'made = text'),
+    ('no V in front of nothing', 'forms.py',
+     'made = journal.V + text', "made = data and journal.V + text"),
+    ('no V in front of H lines', 'forms.py',
+     'made = journal.V + text', "made = (journal.V if b'D' in data or not data else b'') + text"),
+    ('product 1 put in', 'forms.py',
+     'text(read(data, False))', 'text([line[:5] + (1,) * (len(line) - 5) if len(line) > 5 else line'
+     ' for line in read(data, False)])'),
+    ('no product put in', 'forms.py',
+     'text(read(data, False))', 'text([line[:5] for line in read(data, False)])'),
+    ('a product in H lines too', 'forms.py',
+     'text(read(data, False))', 'text([(line + (0,))[:6] for line in read(data, False)])'),
+    ('the product before settled', 'forms.py',
+     'text(read(data, False))', 'text([line[:4] + line[5:] + line[4:5] for line in '
+     'read(data, False)])'),
+    ('V kept', 'forms.py',
+     'return text(line[:5] for', 'return journal.V + text(line[:5] for'),
+    ('the product kept', 'forms.py', 'text(line[:5] for', 'text(line for'),
+    ('settled lost', 'forms.py', 'text(line[:5] for', 'text(line[:4] for'),
+    ('the last line lost', 'forms.py',
+     'text(line[:5] for line in lines)', 'text(line[:5] for line in lines[:-1])'),
+    ('V alone not restored', 'forms.py',
+     '    lines = read(data, True)\n',
+     '    lines = read(data, True)\n    if not lines: raise Refused(10, 1)\n'),
+    ('any product goes back', 'forms.py', "if line[0] == 'D' and line[5] != 0:", 'if False:'),
+    ('lines of other products left out', 'forms.py',
+     '            raise Refused(18, at)\n    return text(line[:5] for line in lines)',
+     '            pass\n    return text(line[:5] for line in lines if line[5:] in ((), (0,)))'),
+    ('product 1 goes back', 'forms.py', 'line[5] != 0', 'line[5] > 1'),
+    ('product 255 goes back', 'forms.py', 'line[5] != 0', '0 < line[5] < 255'),
+    ('a product that ends in 0 goes back', 'forms.py', 'line[5] != 0', 'line[5] % 10 != 0'),
+    ('one product goes back', 'forms.py',
+     'line[5] != 0:', 'line[5] != 0 and len({line[5:] for line in lines} - {()}) > 1:'),
+    ('R18 of the first D line alone', 'forms.py',
+     'raise Refused(18, at)', 'raise Refused(18, at)@line[5] != 0:@line[5] != 0 and at == 2:'),
+    ('R18 of the last line forgotten', 'forms.py',
+     'enumerate(lines, 2)', 'enumerate(lines[:-1], 2)'),
+    ('R18 with the last such line', 'forms.py',
+     'enumerate(lines, 2)', 'reversed(list(enumerate(lines, 2)))'),
+    ('V not counted by R18', 'forms.py', 'enumerate(lines, 2)', 'enumerate(lines, 1)'),
+    ('D lines counted by R18', 'forms.py',
+     'enumerate(lines, 2)', "enumerate([line for line in lines if line[0] == 'D'], 2)"),
+    ('R18 without its line', 'forms.py', 'Refused(18, at)', 'Refused(18, 0)'),
+    ('R10 for R18', 'forms.py', 'Refused(18, at)', 'Refused(10, at)'),
+    ('R18 before a later R10, R11 or R12', 'forms.py',
+     '    lines = read(data, True)\n',
+     '    begun = data\n    while True:\n        try:\n'
+     '            lines = read(begun, True)\n            break\n'
+     '        except Refused as refused:\n            if refused.detail[0] < 2: raise\n'
+     "            begun = b''.join(begun.splitlines(True)[:refused.detail[0] - 1])\n"
+     "    if not any(line[5:] not in ((), (0,)) for line in lines): read(data, True)\n"),
+    ('R18 in a line that is out of order', 'forms.py',
+     '    lines = read(data, True)\n',
+     '    try:\n        lines = read(data, True)\n    except Refused as refused:\n'
+     '        cells = data.splitlines()[max(refused.detail[0], 1) - 1:][:1]\n'
+     "        if refused.number == 11 and cells and cells[0].count(b'\\t') == 5 and "
+     "cells[0][-2:] != b'\\t0':\n            raise Refused(18, refused.detail[0])\n"
+     '        raise\n'),
+
     # Holes in the dose numbers.
     ('no hole', 'hours.py', 'if in_hole or not has_h:', 'if not has_h:'),
     ('only the later hour missing', 'hours.py',
@@ -1048,6 +1157,7 @@ FIRST = {
     'journal.py': ('.journal', 'journal.'), 'hours.py': ('.journal', '.product'),
     'replay.py': ('malformed.',), 'record.py': ('.record',),
     'week.py': ('.week',), 'product.py': ('.product',),
+    'forms.py': ('.renew', '.restore'),
 }
 
 
@@ -1091,7 +1201,8 @@ def cases(first):
 def outputs(first=()):
     """Name and output of each case. An hour of the lines of `record` has 100
     ticks too, since no case has 450,000."""
-    from second import hours, journals, product, record, replay, slave, week
+    from second import (hours, journals, product, record, renew, replay, restore, slave,
+                        week)
     for name, data in cases(first):
         if name.endswith('.journal'):
             yield name, hours.printed(data)
@@ -1099,6 +1210,10 @@ def outputs(first=()):
             yield name, week.printed(io.BytesIO(data))
         elif name.endswith('.product'):
             yield name, product.printed(io.BytesIO(data))
+        elif name.endswith('.renew'):
+            yield name, renew.printed(data)
+        elif name.endswith('.restore'):
+            yield name, restore.printed(data)
         elif name.endswith('.slave'):
             yield name, slave.in_packets(data)
         elif name.endswith('.record'):

@@ -12,9 +12,9 @@ ROOT = os.path.dirname(os.path.dirname(os.path.abspath(__file__)))
 CASES = os.path.join(ROOT, 'tests', 'cases')
 sys.path.insert(0, ROOT)
 
-from second import (boundary, fields, frames, generate, hours,  # noqa: E402
-                    journal, journals, modbus, product, record, replay, settings,
-                    slave, week, weigher)
+from second import (both_forms, boundary, fields, frames, generate, hours,  # noqa: E402
+                    journal, journals, modbus, product, record, renew, replay,
+                    restore, settings, slave, week, weigher)
 from second.box import Box, mean  # noqa: E402
 from second.refusal import Refused  # noqa: E402
 from second.settings import DEFAULT, Settings  # noqa: E402
@@ -362,6 +362,93 @@ def product_checks():
          b'10\tI\n11\tI\n12\tX\n13\tI\n')
 
 
+# What is refused of the stored journals on their way to the other form; the others
+# are not.
+NOT_RENEWED = {
+    'v-alone': 'R 10 1', 'v-no-lf': 'R 10 1', 'v-3': 'R 10 1', 'v-and-old': 'R 10 1',
+    'new': 'R 10 1', 'new-with-0': 'R 10 1', 'new-order': 'R 10 1', 'new-malformed': 'R 10 1',
+    'new-without-v': 'R 10 1', 'new-exact': 'R 10 1', 'lf-and-v': 'R 10 1', 'lf-alone': 'R 10 1',
+    'leading-zero': 'R 10 1', 'cr': 'R 10 1', 'refused-10-first': 'R 10 1', 'refused-10': 'R 10 7',
+    'refused-10-last': 'R 10 7', 'no-lf': 'R 10 6', 'empty-line': 'R 10 7', 'v-again': 'R 10 7',
+    'six-fields': 'R 10 7', 'refused-11-second': 'R 11 2', 'refused-11': 'R 11 7',
+    'refused-11-last': 'R 11 7', 'refused-12-second': 'R 12 2', 'refused-12': 'R 12 7',
+    'refused-12-last': 'R 12 7', 'exact': 'R 13 0', 'over': 'R 13 0', 'new-over': 'R 13 0',
+    'result-over': 'R 13 0', 'result-over-refused': 'R 12 2623',
+}
+NOT_RESTORED = {
+    'empty': 'R 10 1', 'old': 'R 10 1', 'old-h-alone': 'R 10 1', 'old-order': 'R 10 1',
+    'old-malformed': 'R 10 1', 'exact': 'R 10 1', 'without-v': 'R 10 1', 'v-3': 'R 10 1',
+    'v-no-lf': 'R 10 1', 'v-cr': 'R 10 1', 'v-later': 'R 10 1', 'lf-alone': 'R 10 1',
+    'lf-and-v': 'R 10 1', 'cr': 'R 10 1', 'v-twice': 'R 10 2', 'old-behind-v': 'R 10 2',
+    'h-with-0': 'R 10 2', 'refused-10-first': 'R 10 2', 'refused-10': 'R 10 8',
+    'refused-10-last': 'R 10 8', 'no-lf': 'R 10 7', 'empty-line': 'R 10 8', 'v-again': 'R 10 8',
+    'five-fields': 'R 10 8', 'product-00': 'R 10 8', 'product-256': 'R 10 8',
+    'refused-11-second': 'R 11 3', 'refused-11': 'R 11 8', 'refused-11-last': 'R 11 8',
+    'product-in-11': 'R 11 8', 'refused-12-second': 'R 12 3', 'refused-12': 'R 12 8',
+    'refused-12-last': 'R 12 8', 'over': 'R 13 0', 'new-over': 'R 13 0', 'zero-over': 'R 13 0',
+    'product-and-refused-10': 'R 10 8', 'product-and-refused-10-last': 'R 10 8',
+    'product-and-no-lf': 'R 10 7', 'product-and-empty-line': 'R 10 8',
+    'product-and-v-again': 'R 10 8', 'product-and-five-fields': 'R 10 8',
+    'product-and-refused-11': 'R 11 8', 'product-and-refused-11-last': 'R 11 8',
+    'product-and-refused-12': 'R 12 8', 'product-and-refused-12-last': 'R 12 8',
+    'product-and-six-fields': 'R 18 3', 'product-and-span': 'R 18 3', 'product-first': 'R 18 2',
+    'product': 'R 18 4', 'product-last': 'R 18 5', 'product-alone': 'R 18 2',
+    'products': 'R 18 3', 'every-product': 'R 18 2', 'product-1': 'R 18 3',
+    'product-10': 'R 18 3', 'product-100': 'R 18 3', 'product-255': 'R 18 2',
+    'new-exact': 'R 18 2',
+}
+
+
+def turned_checks():
+    """Document 02, W5, by hand."""
+    old, new = b'D\t10\t1\t500\t1\nH\t10\n', b'V\t2\nD\t10\t1\t500\t1\t0\nH\t10\n'
+    same('renew', program('renew', old), new)
+    same('restore', program('restore', new), old)
+    same('renew nothing', program('renew', b''), b'V\t2\n')
+    same('restore V', program('restore', b'V\t2\n'), b'')
+    same('renew R13', program('renew', b'x' * 65537), b'R\t13\t0\n')
+    same('restore R18', program('restore', b'V\t2\nD\t10\t1\t500\t1\t7\n'), b'R\t18\t2\n')
+    for turn, back, ending, wanted in ((renew, restore, '.renew', NOT_RENEWED),
+                                       (restore, renew, '.restore', NOT_RESTORED)):
+        stored = {name[:-len(ending)] for name in os.listdir(CASES) if name.endswith(ending)}
+        same('stored' + ending, set(wanted) - stored, set())
+        for name in stored:
+            data = case(name + ending)
+            if name in wanted:
+                told = wanted[name].replace(' ', '\t').encode() + b'\n'
+                same(name + ending, turn.printed(data), told)
+            else:
+                there_and_back(name + ending, data, turn, back)
+    for name, size in (('result-exact', 65536), ('result-over', 65537)):
+        data = case(name + '.renew')
+        same(name, len(journal.V) + len(data) + 2 * data.count(b'D'), size)
+    generated_turned_checks()
+
+
+def there_and_back(name, data, turn, back):
+    """The same bytes come back, and the hours agree on both sides."""
+    turned = turn.printed(data)
+    same('back from ' + name, back.printed(turned), data)
+    same('hours of ' + name, hours.printed(turned), hours.printed(data))
+
+
+def generated_turned_checks():
+    """A journal of the right form is refused as by the hour program, and one that is
+    not refused comes back."""
+    for name, turn, back in (('renew', renew, restore), ('restore', restore, renew)):
+        seen = set()
+        for kind in both_forms.KINDS[name]:
+            data = both_forms.make(random.Random(1), name, kind)
+            told, read = turn.printed(data), hours.printed(data)
+            seen.add(told.split(b'\t')[1] if told[:1] == b'R' else b'')
+            if told[:1] != b'R':
+                there_and_back('%s of %s' % (name, kind), data, turn, back)
+            elif read[:1] == b'R' and data.startswith(journal.V) == (turn is restore):
+                same('%s of %s' % (name, kind), told, read)
+        same('refusals of ' + name, seen, {b'', b'10', b'11', b'12', b'13'} | (
+            {b'18'} if name == 'restore' else set()))
+
+
 # An example of the lines that the requests add, and their answers.
 EXAMPLE = (
     ('M 010300040002 8', 'R 17 A5A5A5A5A5A5A5A5'),
@@ -593,6 +680,7 @@ def main():
     journal_checks()
     week_checks()
     product_checks()
+    turned_checks()
     replay_checks()
     record_checks()
     weigher_checks()

@@ -71,6 +71,10 @@ R16 = 16
 abbrev pub R17 : ℕ
 R17 = 17
 
+-- a D line with a product other than 0, which has no place in an old journal (document 02)
+abbrev pub R18 : ℕ
+R18 = 18
+
 -- an output number outside 1..4 (document 02)
 abbrev pub R19 : ℕ
 R19 = 19
@@ -89,6 +93,6 @@ F21 = 21
 
 -- each refusal has the number of its row, each fault the number of its name
 pub numbers :
-    R1 ∷ R2 ∷ R3 ∷ R4 ∷ R5 ∷ R6 ∷ R7 ∷ R8 ∷ R9 ∷ R10 ∷ R11 ∷ R12 ∷ R13 ∷ R14 ∷ R15 ∷ R16 ∷ R17 ∷ R19 ∷ R21 ∷ F14 ∷ F21 ∷ []
-    ≡ 1 ∷ 2 ∷ 3 ∷ 4 ∷ 5 ∷ 6 ∷ 7 ∷ 8 ∷ 9 ∷ 10 ∷ 11 ∷ 12 ∷ 13 ∷ 14 ∷ 15 ∷ 16 ∷ 17 ∷ 19 ∷ 21 ∷ 14 ∷ 21 ∷ []
+    R1 ∷ R2 ∷ R3 ∷ R4 ∷ R5 ∷ R6 ∷ R7 ∷ R8 ∷ R9 ∷ R10 ∷ R11 ∷ R12 ∷ R13 ∷ R14 ∷ R15 ∷ R16 ∷ R17 ∷ R18 ∷ R19 ∷ R21 ∷ F14 ∷ F21 ∷ []
+    ≡ 1 ∷ 2 ∷ 3 ∷ 4 ∷ 5 ∷ 6 ∷ 7 ∷ 8 ∷ 9 ∷ 10 ∷ 11 ∷ 12 ∷ 13 ∷ 14 ∷ 15 ∷ 16 ∷ 17 ∷ 18 ∷ 19 ∷ 21 ∷ 14 ∷ 21 ∷ []
 numbers = refl
