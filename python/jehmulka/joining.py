@@ -44,7 +44,7 @@ def fitting(lines: Sequence[Line], start: int, room: int, span: int) -> int:
 def seam_of(lines: Sequence[Line], start: int, end: int) -> int:
     """Where to cut, at `end` or before: behind the last H line, else between two hours; an hour is never cut in two."""
     for place in range(end, start, -1):
-        if lines[place - 1].count is None:
+        if lines[place - 1].dose is None:
             return place
     for place in range(end, start, -1):
         if lines[place - 1].hour < lines[place].hour:
@@ -86,7 +86,7 @@ def seam_holes(lines: Sequence[Line], parts: Sequence[Part]) -> Iterator[Tuple[i
     """The first and last hour of each hole across a seam: the first D line behind it is held against the last before it."""
     before: Optional[Tuple[int, int]] = None
     for start, end in parts:
-        doses = [(line.hour, line.count) for line in lines[start:end] if line.count is not None]
+        doses = [(line.hour, line.dose) for line in lines[start:end] if line.dose is not None]
         if doses and before is not None and not follows(before[1], doses[0][1]):
             yield before[0], doses[0][0]
         before = doses[-1] if doses else before

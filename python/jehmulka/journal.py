@@ -17,11 +17,11 @@ NEW = {b'D': OLD[b'D'] + (255,), b'H': (LAST_HOUR,)}
 
 
 class Line(NamedTuple):
-    """A line with an hour; its count where it is a D line."""
+    """A line with an hour; the count of its dose where it is a D line."""
 
     text: bytes
     hour: int
-    count: Optional[int]
+    dose: Optional[int]
 
 
 class Journal(NamedTuple):
@@ -38,7 +38,7 @@ def journal_of(data: bytes) -> Journal:
     lines: List[Line] = []
     for at, text in enumerate(texts[1 if head else 0:], 2 if head else 1):
         line = line_of(text, at, bool(head))
-        if lines and line.hour < lines[-1].hour + (lines[-1].count is None):
+        if lines and line.hour < lines[-1].hour + (lines[-1].dose is None):
             raise Refused(11, at)
         lines.append(line)
     return Journal(head, lines)
