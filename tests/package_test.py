@@ -1,5 +1,6 @@
 """Checks of the Python package in python/, with the second implementation as the other opinion:
-python3 tests/package_test.py
+python3 tests/package_test.py             every check
+python3 tests/package_test.py NAME ...    these checks, as reading or join
 
 What needs pandas or pip is left out where they are not installed, and the output says so."""
 
@@ -292,13 +293,13 @@ def seam_checks():
     parts = joining.parts_of(journal.journal_of(long))
     same('each as long as may be', [(s // 2, e // 2) for s, e in parts],
          [(s, min(s + 744, 5000)) for s in range(0, 5000, 744)])
-    same('no hole at its seams', b'X' in joined_text(long), False)
-    same('the uncut one', joined_text(long), uncut(long))
+    same('the uncut one', answered(joined_text, long), uncut(long))
+    same('no hole at its seams', b'X' in uncut(long), False)
     new = b'V\t2\n' + re.sub(rb'(D.*)', rb'\1\t7', long)
     heads = []
-    jehmulka.hours_of(io.BytesIO(new), run=lambda name, data: heads.append(data[:4]) or second_run(name, data))
+    answered(jehmulka.hours_of, io.BytesIO(new), None, lambda name, data: heads.append(data[:4]) or second_run(name, data))
     same('each part with its V', heads, [b'V\t2\n'] * len(parts))
-    same('the same of the new form', joined_text(new), uncut(long))
+    same('the same of the new form', answered(joined_text, new), uncut(long))
     dense = b''.join(b'D\t9\t%d\t1\t1\n' % n for n in range(100, 6100)) + b'H\t9\nH\t10\n'
     same('one hour too long', answered(joined_text, b'H\t3\n' + dense), ('R', 13, 0))
     same('the hour is a part', joining.parts_of(journal.journal_of(b'H\t3\n' + dense)), [(0, 1), (1, 6002), (6002, 6003)])
@@ -314,6 +315,34 @@ def seam_checks():
     order = long + b'H\t4999\nH\t4000\n'
     same('an hour that goes back', answered(joined_text, order), ('R', 11, 10001))
     same('an hour again at a seam', answered(joined_text, b'H\t1\nD\t1\t1\t1\t1\n', ), ('R', 11, 2))
+
+
+def full_hour(hour, first, size):
+    """An hour of exactly so many bytes, in the new form: doses and its H."""
+    left, lines = size - len(b'H\t%d\n' % hour), []
+    bare = len(b'D\t%d\t%d\t\t1\t7\n' % (hour, first))
+    while left:
+        digits = 7 if left > 4 * (bare + 7) else left // -(-left // (bare + 7)) - bare
+        lines.append(b'D\t%d\t%d\t%d\t1\t7\n' % (hour, first + len(lines), 10 ** (digits - 1)))
+        left -= bare + digits
+    return lines + [b'H\t%d\n' % hour]
+
+
+def full_checks():
+    """Parts of exactly as many bytes as the program takes."""
+    count, hours = 100000, []
+    for hour in range(10, 26):
+        hours.append(full_hour(hour, count, 4096))
+        count += len(hours[-1]) - 1
+    body = b''.join(b''.join(lines) for lines in hours)
+    same('16 hours', len(body), 65536)
+    parts = joining.parts_of(journal.journal_of(b'V\t2\n' + body))
+    same('V takes room', parts, [(0, sum(map(len, hours[:15]))), (sum(map(len, hours[:15])), sum(map(len, hours)))])
+    same('joined', answered(joined_text, b'V\t2\n' + body), uncut(b'V\t2\n' + body))
+    less = b'V\t2\n' + b''.join(map(b''.join, hours[:15])) + b''.join(full_hour(25, count, 4092))
+    same('as many as it takes', (len(less), len(joining.parts_of(journal.journal_of(less)))), (65536, 1))
+    old = journals.exact(random.Random(1))
+    same('of the old form', (len(old), len(joining.parts_of(journal.journal_of(old)))), (65536, 1))
 
 
 def archive_checks():
@@ -414,7 +443,7 @@ def pandas_checks():
     same('categories', list(frame['kind'].cat.categories), ['measured', 'idle', 'missing'])
     same('missing is not known', [list(frame[name].isna()) for name in ('doses', 'sum', 'mean')],
          [[False, False, True, False]] * 2 + [[False, True, True, True]])
-    same('idle is 0', [int(frame[name][1]) for name in ('doses', 'sum')], [0, 0])
+    same('idle is 0', [str(frame[name][1]) for name in ('doses', 'sum')], ['0', '0'])
     same('the sum of all', (int(frame['sum'].sum()), frame['sum'].sum(skipna=False) is pandas.NA), (998, True))
     same('time', frame['time'][0].isoformat(), '1970-01-01T10:00:00+00:00')
     east = jehmulka.table(hours, datetime(2026, 1, 1, tzinfo=timezone(timedelta(hours=5, minutes=30))))
@@ -442,7 +471,7 @@ def drawn(hours, **named):
     """A picture's rows of cells: what fills each, and its words."""
     tree = ElementTree.fromstring(jehmulka.picture(hours, **named))
     rows = [row for row in tree.iter(SVG + 'g') if row.get('role') == 'row'][1:]
-    return tree, [[(cell.get('fill'), cell.find(SVG + 'title').text) for cell in row.iter(SVG + 'rect')]
+    return tree, [[(cell.get('fill'), cell.findtext(SVG + 'title', '')) for cell in row.iter(SVG + 'rect')]
                   for row in rows], [row.findall(SVG + 'text') for row in rows]
 
 
@@ -501,7 +530,7 @@ def edge_checks():
     point = drawn(reading.parse_hours(MILL), point=2)
     same('scaled', (point[1][0][10][1][18:], point[2][0][1].text), ('measured, sum 9.98, doses 2', 'at least 9.98 (21 missing)'))
     title = 'Mill <1> & "2"'
-    same('a title', drawn(year[:1], title=title)[0].find(SVG + 'title').text, title)
+    same('a title', '<title>Mill &lt;1&gt; &amp; "2"</title>' in jehmulka.picture(year[:1], title=title), True)
     same('no title', type(raised(jehmulka.picture, year[:1], title='a\0b')), ValueError)
 
 
@@ -624,15 +653,19 @@ def wheel_checks():
         same('py.typed', os.path.exists(os.path.join(target, 'jehmulka', 'py.typed')), True)
 
 
-def main():
-    for check in (reading_checks, refusal_checks, malformed_checks, value_checks, week_checks, journal_checks, join_checks,
-                  every_seam_checks, seam_checks, archive_checks, run_checks, time_checks, csv_checks, pandas_checks,
-                  picture_checks, edge_checks, contrast_checks, week_picture_checks, command_checks, readme_checks,
-                  source_checks, wheel_checks):
-        check()
+CHECKS = [reading_checks, refusal_checks, malformed_checks, value_checks, week_checks, journal_checks, join_checks,
+          every_seam_checks, seam_checks, full_checks, archive_checks, run_checks, time_checks, csv_checks, pandas_checks,
+          picture_checks, edge_checks, contrast_checks, week_picture_checks, command_checks, readme_checks,
+          source_checks, wheel_checks]
+
+
+def main(names):
+    for check in CHECKS:
+        if not names or check.__name__[:-len('_checks')] in names:
+            check()
     print('%d checks, %d failed' % (checks, failed))
-    return 1 if failed else 0
+    return 1 if failed or not checks else 0
 
 
 if __name__ == '__main__':
-    sys.exit(main())
+    sys.exit(main(sys.argv[1:]))
