@@ -647,9 +647,9 @@ def wheel_checks():
             print('pip is not installed: the check of pip install is left out')
             return
         target = os.path.join(folder, 'there')
-        done = subprocess.run([sys.executable, '-m', 'pip', 'install', '--no-index', '--quiet', '--disable-pip-version-check',
-                               '--root-user-action=ignore', '--target', target, PACKAGE], stdout=subprocess.PIPE, stderr=subprocess.STDOUT)
-        same('pip install', (done.returncode, done.stdout.decode()), (0, ''))
+        done = subprocess.run([sys.executable, '-m', 'pip', 'install', '--no-index', '--target', target, PACKAGE],
+                              stdout=subprocess.PIPE, stderr=subprocess.STDOUT)
+        same('pip install', (done.returncode, done.stdout.decode() if done.returncode else ''), (0, ''))
         same('py.typed', os.path.exists(os.path.join(target, 'jehmulka', 'py.typed')), True)
 
 

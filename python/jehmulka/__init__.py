@@ -2,11 +2,10 @@
 
 An hour is measured, idle (nothing was dosed: 0) or missing (not known, never 0).
 
->>> import jehmulka
->>> hours = jehmulka.hours_of('mill.journal')       # runs the program
->>> hours = jehmulka.read_hours('mill.hours')       # reads what it printed
->>> frame = jehmulka.table(hours)                   # a pandas DataFrame
->>> svg = jehmulka.picture(hours)                   # days by 24 hours
+    hours = jehmulka.hours_of('mill.journal')       # runs the program
+    hours = jehmulka.read_hours('mill.hours')       # reads what it printed
+    frame = jehmulka.table(hours)                   # a pandas DataFrame
+    svg = jehmulka.picture(hours)                   # days by 24 hours
 """
 
 from .errors import Error, Failed, Malformed, Refused
