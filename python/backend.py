@@ -44,8 +44,8 @@ def record_of(files: Dict[str, bytes], name: str) -> bytes:
     """The wheel's list of files with their hashes."""
     lines = []
     for path, data in files.items():
-        digest = base64.urlsafe_b64encode(hashlib.sha256(data).digest()).rstrip(b'=').decode('ascii')
-        lines.append('%s,sha256=%s,%d\n' % (path, digest, len(data)))
+        digest = base64.urlsafe_b64encode(hashlib.sha256(data).digest()).rstrip(b'=')
+        lines.append('%s,sha256=%s,%d\n' % (path, digest.decode('ascii'), len(data)))
     return (''.join(lines) + name + ',,\n').encode('utf-8')
 
 

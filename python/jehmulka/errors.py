@@ -1,4 +1,4 @@
-"""What can go wrong: a refusal of a program, text that no program printed, a program that did not run."""
+"""What can go wrong: a refusal, text that no program printed, a program that did not run."""
 
 from __future__ import annotations
 
@@ -22,7 +22,7 @@ class Error(ValueError):
 
 
 class Refused(Error):
-    """A program refused its input: the number, the journal's line (0 for none) and the sentence."""
+    """A program refused its input: the number, the journal's line (0 for none), the sentence."""
 
     def __init__(self, number: int, line: int) -> None:
         Error.__init__(self, number, line)

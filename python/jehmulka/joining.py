@@ -18,7 +18,7 @@ Ask = Callable[[bytes], List[Hour]]
 
 
 def parts_of(journal: Journal, longest: int = LONGEST, span: int = SPAN) -> List[Part]:
-    """Parts that the program takes, one at least, each as long as may be. Only an hour that is too long by itself is not taken."""
+    """Parts that the program takes, but for an hour that is too long by itself; one at least."""
     parts: List[Part] = []
     start, lines = 0, journal.lines
     while start < len(lines):
@@ -42,7 +42,7 @@ def fitting(lines: Sequence[Line], start: int, room: int, span: int) -> int:
 
 
 def seam_of(lines: Sequence[Line], start: int, end: int) -> int:
-    """Where to cut, at `end` or before: behind the last H line, else between two hours; an hour is never cut in two."""
+    """Where to cut, at `end` or before: behind the last H line, else between two hours."""
     for place in range(end, start, -1):
         if lines[place - 1].dose is None:
             return place
@@ -55,7 +55,9 @@ def seam_of(lines: Sequence[Line], start: int, end: int) -> int:
 
 
 def joined(journal: Journal, parts: Sequence[Part], ask: Ask) -> List[Hour]:
-    """The hours of all parts, from the first line's to the last line's: those of a hole across a seam and those without a line are missing."""
+    """The hours of all parts, from the first line's to the last line's.
+
+    Those of a hole across a seam and those without any line are missing."""
     known: Dict[int, Hour] = {}
     for part in parts:
         known.update((hour.hour, hour) for hour in asked(journal, part, ask))
@@ -68,7 +70,9 @@ def joined(journal: Journal, parts: Sequence[Part], ask: Ask) -> List[Hour]:
 
 
 def asked(journal: Journal, part: Part, ask: Ask) -> List[Hour]:
-    """The hours of one part, which are those from its first line's to its last line's; a refusal names the line of the whole journal."""
+    """The hours of one part, from its first line's to its last line's.
+
+    A refusal names the line of the whole journal."""
     lines = journal.lines[part[0]:part[1]]
     try:
         hours = ask(journal.head + b''.join(line.text for line in lines))
@@ -78,12 +82,14 @@ def asked(journal: Journal, part: Part, ask: Ask) -> List[Hour]:
         raise
     wanted = range(lines[0].hour, lines[-1].hour + 1) if lines else range(0)
     if [hour.hour for hour in hours] != list(wanted):
-        raise Failed('the program printed other hours than those from the first line of the journal to the last')
+        raise Failed('the program printed other hours than the journal has')
     return hours
 
 
 def seam_holes(lines: Sequence[Line], parts: Sequence[Part]) -> Iterator[Tuple[int, int]]:
-    """The first and last hour of each hole across a seam: the first D line behind it is held against the last before it."""
+    """The first and last hour of each hole across a seam.
+
+    The first D line behind a seam is held against the last one before it."""
     before: Optional[Tuple[int, int]] = None
     for start, end in parts:
         doses = [(line.hour, line.dose) for line in lines[start:end] if line.dose is not None]

@@ -57,5 +57,5 @@ def line_of(text: bytes, at: int, new: bool) -> Line:
 
 
 def follows(before: int, count: int) -> bool:
-    """Whether a count follows that of the D line before: by one, 0 after 999,999, and a 1 always."""
+    """Whether a count follows the one before: by one, 0 after 999,999, and a 1 always."""
     return count == (before + 1) % COUNTS or count == 1

@@ -18,7 +18,7 @@ Runner = Callable[[str, bytes], bytes]
 
 
 def repository(root: Union[str, 'os.PathLike[str]', None] = None) -> Runner:
-    """Runs `./run NAME` of the repository: that at `root`, else at $JEHMULKA, else the one that this package lies in."""
+    """Runs `./run NAME` of the repository at `root`, at $JEHMULKA, or around this package."""
     folder = Path(root or os.environ.get('JEHMULKA') or Path(__file__).resolve().parents[2])
     command = folder / 'run'
 
@@ -34,7 +34,8 @@ def repository(root: Union[str, 'os.PathLike[str]', None] = None) -> Runner:
     return run
 
 
-def hours_of(source: Source, product: Optional[int] = None, run: Optional[Runner] = None) -> List[Hour]:
+def hours_of(source: Source, product: Optional[int] = None,
+             run: Optional[Runner] = None) -> List[Hour]:
     """The hours of a journal of any length, over all products or of one."""
     runner = run or repository()
 
@@ -48,6 +49,8 @@ def hours_of(source: Source, product: Optional[int] = None, run: Optional[Runner
 
 
 def week_of(source: Source, first: int, run: Optional[Runner] = None) -> List[Day]:
-    """The seven days from a first hour on. A journal that is too long for the program is refused: take `days_of` of its hours."""
+    """The seven days from a first hour on.
+
+    A journal that is too long for the program is refused: take `days_of` of its hours."""
     runner = run or repository()
     return parse_week(runner('week', b'%d\n' % first + bytes_of(source)))

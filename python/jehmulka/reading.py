@@ -41,7 +41,7 @@ def read_week(source: Source) -> List[Day]:
 
 
 def parse_hours(data: bytes) -> List[Hour]:
-    """The hours of what `hours` or `product` printed; none of an empty text, as an empty journal has none."""
+    """The hours of what `hours` or `product` printed; none of an empty text."""
     lines = lines_of(data)
     raise_refusal(lines, OF_HOURS)
     hours: List[Hour] = []

@@ -11,7 +11,8 @@ INK, LINE, PLAIN = '#1a1a1a', '#767676', '#ffffff'
 HATCHED, SHADED = 'url(#jehmulka-missing)', 'url(#jehmulka-sums)'
 HATCH = ('<pattern id="jehmulka-missing" width="6" height="6" patternUnits="userSpaceOnUse">'
          '<rect width="6" height="6" fill="#ffffff"/>'
-         '<path d="M-1,1 l2,-2 M0,6 l6,-6 M5,7 l2,-2" stroke="#1a1a1a" stroke-width="1.2"/></pattern>')
+         '<path d="M-1,1 l2,-2 M0,6 l6,-6 M5,7 l2,-2" stroke="#1a1a1a" stroke-width="1.2"/>'
+         '</pattern>')
 
 
 def shade(amount: int, greatest: int) -> str:
@@ -34,8 +35,7 @@ def element(name: str, *inside: str, **attributes: Union[str, int]) -> str:
 
 def words(text: str) -> str:
     """Text that stands in an element."""
-    if any(ord(letter) < 32 or ord(letter) in (0x7f, 0xfffe, 0xffff) or 0xd800 <= ord(letter) < 0xe000
-           for letter in text):
+    if not text.isprintable():
         raise ValueError('no picture has such a character: %r' % text)
     return escape(text)
 
@@ -45,11 +45,12 @@ def text(place: Tuple[int, int], told: str, **attributes: Union[str, int]) -> st
     return element('text', words(told), x=place[0], y=place[1], **attributes)
 
 
-def box(place: Tuple[int, int], size: Tuple[int, int], fill: str, told: str = '', **attributes: Union[str, int]) -> str:
+def box(place: Tuple[int, int], size: Tuple[int, int], fill: str, told: str = '',
+        **attributes: Union[str, int]) -> str:
     """A rectangle, with the words that a screen reader finds and a pointer shows."""
     inside = element('title', words(told)) if told else ''
-    return element('rect', inside, x=place[0], y=place[1], width=size[0], height=size[1], fill=fill,
-                   stroke=LINE, **attributes)
+    return element('rect', inside, x=place[0], y=place[1], width=size[0], height=size[1],
+                   fill=fill, stroke=LINE, **attributes)
 
 
 def document(size: Tuple[int, int], title: str, summary: str, *inside: str) -> str:

@@ -17,7 +17,10 @@ COLUMNS = ['time', 'hour', 'kind', 'doses', 'sum', 'mean']
 
 
 def table(hours: Iterable[Hour], origin: datetime = EPOCH) -> pandas.DataFrame:
-    """One row an hour. Doses and sum are nullable whole numbers: 0 where idle, <NA> where missing; an hour without a dose has no mean."""
+    """A DataFrame of one row an hour.
+
+    Doses and sum are nullable whole numbers: 0 where idle, <NA> where missing. An hour without a
+    dose has no mean."""
     try:
         import pandas
     except ImportError as error:
@@ -27,11 +30,12 @@ def table(hours: Iterable[Hour], origin: datetime = EPOCH) -> pandas.DataFrame:
     try:
         time = pandas.DatetimeIndex(times, dtype='datetime64[ns, UTC]')
     except pandas.errors.OutOfBoundsDatetime as error:
-        raise ValueError('the hours lie past 2262, where pandas has no time: give the origin of their count') from error
+        raise ValueError('hours past 2262 have no time in pandas: give their origin') from error
     return pandas.DataFrame({
         'time': time,
         'hour': pandas.array([row.hour for row in rows], dtype='int64'),
-        'kind': pandas.Categorical([row.kind.value for row in rows], [kind.value for kind in Kind]),
+        'kind': pandas.Categorical([row.kind.value for row in rows],
+                                   [kind.value for kind in Kind]),
         'doses': pandas.array([row.doses for row in rows], dtype='Int64'),
         'sum': pandas.array([row.sum for row in rows], dtype='Int64'),
         'mean': pandas.array([row.mean for row in rows], dtype='Float64'),
@@ -39,7 +43,7 @@ def table(hours: Iterable[Hour], origin: datetime = EPOCH) -> pandas.DataFrame:
 
 
 def scale(frame: pandas.DataFrame, point: int) -> pandas.DataFrame:
-    """A copy of a table with sum and mean divided by 10 to the decimal point, as nullable floats."""
+    """A copy of a table with sum and mean divided by 10 to the decimal point."""
     scaled(0, point)
     divisor = float(10 ** point)
     return frame.assign(sum=frame['sum'].astype('Float64') / divisor, mean=frame['mean'] / divisor)
@@ -59,4 +63,5 @@ def cells_of(hour: Hour, origin: datetime, point: int) -> List[Any]:
     """One row of the CSV."""
     total = None if hour.sum is None else scaled(hour.sum, point)
     mean = None if hour.mean is None else hour.mean / 10 ** point
-    return [time_of(hour.hour, origin).isoformat(), hour.hour, hour.kind.value, hour.doses, total, mean]
+    time = time_of(hour.hour, origin).isoformat()
+    return [time, hour.hour, hour.kind.value, hour.doses, total, mean]

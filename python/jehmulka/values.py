@@ -48,7 +48,8 @@ class Hour:
             if reason:
                 raise ValueError(reason)
         elif figures != ((0, 0, None) if self.kind is Kind.IDLE else (None, None, None)):
-            raise ValueError('an hour that is %s has no such figures: %r' % (self.kind.value, figures))
+            raise ValueError('an hour that is %s has no such figures: %r'
+                             % (self.kind.value, figures))
 
 
 def why_not_measured(doses: Optional[int], total: Optional[int], mean: Optional[float]) -> str:
@@ -81,7 +82,7 @@ def missing(hour: int) -> Hour:
 
 @dataclass(frozen=True)
 class Day:
-    """One day: its measured hours, and the sum over them, which is not known where none was measured and one is missing."""
+    """One day: how many hours were measured, and the sum over them; an unknown day has none."""
 
     number: int
     kind: DayKind
@@ -99,7 +100,9 @@ class Day:
 
 
 def day_of(number: int, hours: Iterable[Hour]) -> Day:
-    """A day of its hours: worked with any measured, a holiday if all 24 are idle, else unknown. One that is not among them is missing."""
+    """A day of its hours: worked with any measured, a holiday if all 24 are idle, else unknown.
+
+    An hour of the day that is not among them is missing."""
     seen = list(hours)
     if len(seen) > HOURS_OF_A_DAY:
         raise ValueError('a day has 24 hours, not %d' % len(seen))
@@ -125,5 +128,6 @@ def days_of(hours: Iterable[Hour], first: int, count: int = DAYS_OF_A_WEEK) -> L
     """So many days from a first hour on, as the week sheet has them."""
     known = by_number(hours)
     begins = range(first, first + count * HOURS_OF_A_DAY, HOURS_OF_A_DAY)
-    return [day_of(number, (known[hour] for hour in range(begin, begin + HOURS_OF_A_DAY) if hour in known))
+    return [day_of(number, (known[hour] for hour in range(begin, begin + HOURS_OF_A_DAY)
+                            if hour in known))
             for number, begin in enumerate(begins)]
