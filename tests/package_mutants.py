@@ -100,6 +100,7 @@ MUTANTS = [
     # Times, table and picture.
     ('a time without a zone', 'times.py', 'if not isinstance(origin.tzinfo, timezone):',
      'if False:', 'time'),
+    ('an hour without a date', 'times.py', 'except OverflowError:', 'except KeyError:', 'time'),
     ('a month of every year', 'times.py', '(time.year, time.month) == (begin.year, begin.month)',
      'time.month == begin.month', 'time'),
     ('a point of 4', 'times.py', 'range(4)', 'range(5)', 'time'),

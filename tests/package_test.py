@@ -459,6 +459,8 @@ def time_checks():
     zone = timezone(timedelta(hours=2))
     same('another origin', jehmulka.time_of(30, datetime(2026, 1, 1, tzinfo=zone)).isoformat(),
          '2026-01-02T06:00:00+02:00')
+    late = datetime(9999, 12, 31, tzinfo=timezone.utc)
+    same('past all dates', type(raised(jehmulka.time_of, 24, late)), ValueError)
     same('no zone', type(raised(jehmulka.time_of, 1, datetime(1970, 1, 1))), ValueError)
     same('scaled', [str(jehmulka.scaled(4987, point)) for point in range(4)],
          ['4987', '498.7', '49.87', '4.987'])

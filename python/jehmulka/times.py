@@ -18,7 +18,10 @@ def time_of(hour: int, origin: datetime = EPOCH) -> datetime:
     """When an hour begins, where hour 0 begins at the origin, in the origin's zone."""
     if not isinstance(origin.tzinfo, timezone):
         raise ValueError('the origin needs a zone of a fixed offset, as timezone.utc')
-    return origin + timedelta(hours=hour)
+    try:
+        return origin + timedelta(hours=hour)
+    except OverflowError:
+        raise ValueError('hour %d from %s on has no date' % (hour, origin)) from None
 
 
 def told_time(hour: int, origin: datetime) -> str:
