@@ -10,12 +10,8 @@ use Rattle.paper.specs.Answer.{Answer, done, refused, fault, told, onDone}
 use Rattle.paper.specs.Numbers.{R3, R15}
 use Rattle.settings.specs.Table.{firstBad}
 use Rattle.settings.specs.declared.Settings.{Settings}
-use Rattle.dosing.proofs.Phase.{the-type as phase-type}
-use Rattle.dosing.specs.declared.Phase.{Phase}
-use Rattle.dosing.specs.declared.Phase.the-variants.{Ready, Coarse, Fine, Hold, Settle, Discharge, Load, Calm, DoseCoarse, DoseFine, DoseSettle}
 use Rattle.controller.specs.Calls.{isReady, storedBad, restartOf, noController, controllerIn, taken, after, settingsAnswer, settingsOf, resetOf}
 use Rattle.controller.specs.State.{restarted}
-use Rattle.controller.specs.Tick.{atReady}
 use Rattle.controller.specs.Sound.{Sound}
 use Rattle.paper.specs.AnswerLaws.{refused-done, fault-done, told-refused}
 use Rattle.controller.specs.Keeps.{restart-sound, settings-sound, reset-sound}
@@ -28,21 +24,6 @@ use Rattle.controller.specs.declared.ResetAnswer.{ResetAnswer}
 use Rattle.controller.specs.declared.RestartAnswer.{RestartAnswer}
 use Rattle.controller.specs.declared.RestartAnswer.the-variants as N
 use Rattle.controller.proofs.RestartAnswer.{the-type as restart-type}
-
--- the phases that are not Ready
-pub not-ready : (p : Phase) → OneOf (1 ∷ 2 ∷ 3 ∷ 4 ∷ 5 ∷ 6 ∷ 7 ∷ 8 ∷ 9 ∷ 10 ∷ []) (tagOf phase-type p) → false ≡ atReady p
-unfolding atReady
-not-ready Ready h = absurd (miss (1 ∷ 2 ∷ 3 ∷ 4 ∷ 5 ∷ 6 ∷ 7 ∷ 8 ∷ 9 ∷ 10 ∷ []) 0 tt h)
-not-ready (Coarse w0) h = refl
-not-ready (Fine w0) h = refl
-not-ready Hold h = refl
-not-ready (Settle w0 n) h = refl
-not-ready (Discharge w0 wS settled) h = refl
-not-ready Load h = refl
-not-ready (Calm n) h = refl
-not-ready (DoseCoarse wH) h = refl
-not-ready (DoseFine wH) h = refl
-not-ready (DoseSettle wH n) h = refl
 
 restarted-sound : (set : Settings) (count total : ℕ) (x : Answer Controller) → restartOf set count total ≡ x → told noValue x ≡ done tt → Sound (controllerIn x)
 unfolding told controllerIn

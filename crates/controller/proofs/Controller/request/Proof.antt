@@ -5,12 +5,12 @@ use Prim.Native.Nat.{ℕ}
 use borrow.Author.Needs.{needs}
 use Rattle.paper.specs.Answer.{done}
 use Rattle.message.specs.declared.Parts.{Parts}
-use Rattle.asking.specs.Asking.{askedBy, heardOf, addressOf, codeOf}
-use Rattle.asking.specs.Says.{saysHeard, saysAddressed, saysCoded}
+use Rattle.asking.specs.Asking.{askedBy, heardOf, addressOf, codeOf, timeOf}
+use Rattle.asking.specs.Says.{saysHeard, saysAddressed, saysCoded, saysTimed, saysZeroing, Times, Zeroes}
+use Rattle.readout.specs.Readout.{mayZero}
 use Rattle.controller.specs.Calls.{isReady}
-use Rattle.controller.specs.Line.{timely, timeOf, mayZero, askedOf}
+use Rattle.controller.specs.Line.{timely, askedOf}
 use Rattle.controller.specs.Says.{saysReply}
-use Rattle.controller.specs.Stages.{saysTimed, saysZeroing, Times, Zeroes}
 use Rattle.controller.specs.declared.Controller.{Controller}
 use Rattle.controller.proofs.Lines.{not-ours, not-known, not-timed, not-zeroable, is-asked, framed, refuses, unheard-refuses, no-room, sends}
 use Rattle.controller.proofs.Controller.request.Statement.{statement}
@@ -200,7 +200,7 @@ zeroed-by-requires : tie.Need-zeroed-by-requires
 zeroed-by-requires c κs = tt
 
 reply-of-requires : tie.Need-reply-of-requires
-reply-of-requires c κs = start (ends (c .before)) .pre
+reply-of-requires c κs = tt
 
 write-reply-requires : tie.Need-write-reply-requires
 write-reply-requires c κs = tt
