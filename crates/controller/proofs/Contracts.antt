@@ -19,9 +19,11 @@ use Rattle.controller.specs.Says.{saysSet, saysReset, saysRestart, noVal
 use Rattle.controller.specs.declared.Controller.{Controller}
 use Rattle.controller.proofs.SetAnswer.{the-type as set-type}
 use Rattle.controller.specs.declared.SetAnswer.{SetAnswer}
+use Rattle.controller.specs.declared.SetTo.{SetTo}
 use Rattle.controller.specs.declared.SetAnswer.the-variants as S
 use Rattle.controller.specs.declared.ResetAnswer.{ResetAnswer}
 use Rattle.controller.specs.declared.RestartAnswer.{RestartAnswer}
+use Rattle.controller.specs.declared.Restarted.{Restarted}
 use Rattle.controller.specs.declared.RestartAnswer.the-variants as N
 use Rattle.controller.proofs.RestartAnswer.{the-type as restart-type}
 
@@ -31,8 +33,8 @@ restarted-sound set count total (done c) e h = restart-sound set count total c e
 restarted-sound set count total (refused n vs) e h = refused-done h
 restarted-sound set count total (fault n vs) e h = fault-done h
 
-pub restarts : (set : Settings) (count total : ℕ) {next : Controller} {answer : RestartAnswer} → next ≡ controllerIn (restartOf set count total)
-    → saysRestart answer ≡ told noValue (restartOf set count total) → Restarts set count total (record { next = next; answer = answer })
+pub restarts : (set : Settings) (count total : ℕ) {r : Restarted} → r .next ≡ controllerIn (restartOf set count total)
+    → saysRestart (r .answer) ≡ told noValue (restartOf set count total) → Restarts set count total r
 restarts set count total n h =
     record { next = n; says = h; sound = λ d. subst Sound (sym n) (restarted-sound set count total (restartOf set count total) refl (sym h ∙ d)) }
 
@@ -76,8 +78,8 @@ pub set-answers : (c : Controller) (set : Settings) {ready : Bool} {checked : An
 unfolding settingsAnswer
 set-answers c set e f = ap₂ (λ (b : Bool) (a : Answer (Unit {0})). pick b a (refused R3 [])) e f
 
-pub sets : (c : Controller) (set : Settings) {next : Controller} {answer : SetAnswer} → Sound c → saysSet answer ≡ settingsAnswer c set
-    → next ≡ after (saysSet answer) (taken set c) c → Sets c set (record { next = next; answer = answer })
+pub sets : (c : Controller) (set : Settings) {r : SetTo} → Sound c → saysSet (r .answer) ≡ settingsAnswer c set
+    → r .next ≡ after (saysSet (r .answer)) (taken set c) c → Sets c set r
 unfolding settingsOf
 sets c set s e n =
     let m = n ∙ ap (λ (a : Answer (Unit {0})). after a (taken set c) c) e in

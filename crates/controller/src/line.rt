@@ -10,8 +10,12 @@ use asking::Sent;
 use asking::Timed;
 use asking::Zeroing;
 ghost use mathlib.Core.Path.{_≡_};
+ghost use Rattle.laws.specs.Pick.{pick};
+ghost use Rattle.dosing.specs.Rules.{units};
+ghost use Rattle.scale.specs.Scale.{filtered};
+ghost use Rattle.controller.specs.State.{withZ};
 ghost use Rattle.controller.specs.Calls.{isReady};
-ghost use Rattle.controller.specs.Line.{timely, zeroedBy};
+ghost use Rattle.controller.specs.Line.{timely};
 ghost use Rattle.controller.specs.Sound.{Sound};
 ghost use Rattle.controller.specs.Says.{Replies};
 ghost use Rattle.controller.specs.Stages.{unheard};
@@ -24,26 +28,25 @@ impl Controller {
     {
         let heard = asking::hear(bytes);
         let Heard::Request { place, parts } = heard else {
-            return refused(self, unread(heard));
+            return answered(self, false, unread(heard));
         };
         let form = parts.form;
         let operation = parts.operation;
         let Addressed::Ours = asking::address_stage(place, form, self.set.address, self.set.serial)
         else {
-            return refused(self, RequestAnswer::R5(place));
+            return answered(self, false, RequestAnswer::R5(place));
         };
         let Coded::Known = asking::code_stage(place, parts) else {
-            return refused(self, RequestAnswer::R7(place));
+            return answered(self, false, RequestAnswer::R7(place));
         };
         let timely = is_timely(self, operation);
         let zeroable = readout::may_zero(operation, self.set, self.window);
         let Timed::Allowed = asking::ready_stage(place, timely) else {
-            return refused(self, RequestAnswer::R3(place));
+            return answered(self, false, RequestAnswer::R3(place));
         };
         let Zeroing::Allowed = asking::zero_stage(place, zeroable) else {
-            return refused(self, RequestAnswer::R4(place));
+            return answered(self, false, RequestAnswer::R4(place));
         };
-        let next = zeroed_by(self, operation);
         let holds = readout::reply_of(
             operation,
             self.set,
@@ -55,19 +58,21 @@ impl Controller {
             self.alarm,
         );
         let Sent::Frame(len) = asking::write_reply(form, operation, holds, reply) else {
-            return refused(self, RequestAnswer::R8(place));
+            return answered(self, false, RequestAnswer::R8(place));
         };
-        Requested {
-            next,
-            answer: RequestAnswer::Sent { place, len },
-        }
+        answered(self, operation == 0xC0, RequestAnswer::Sent { place, len })
     }
 }
 
-// A refusal changes nothing.
-fn refused(c: Controller, answer: RequestAnswer) -> Requested
-    ensures { λ r. ⌜ (r .next ≡ c) × (r .answer ≡ answer) ⌝ }
+// A refusal changes nothing; C0 zeroes: Z becomes F, by p8.
+fn answered(mut c: Controller, zeroes: bool, answer: RequestAnswer) -> Requested
+    ensures { λ r. ⌜ (r .next ≡ pick zeroes (withZ (units (filtered (c .window) (c .set .p8))) c) c) × (r .answer ≡ answer) ⌝ }
 {
+    if zeroes {
+        let f = scale::mean_of(c.window, c.set.p8);
+        c.z = f;
+        return Requested { next: c, answer };
+    }
     Requested { next: c, answer }
 }
 
@@ -89,16 +94,4 @@ fn is_timely(c: Controller, operation: u8) -> bool
     let condition = c.condition;
     let phase = c.phase;
     (operation != 0xC0) | is_ready(condition, phase)
-}
-
-// C0 zeroes: Z becomes F, by p8.
-fn zeroed_by(mut c: Controller, operation: u8) -> Controller
-    ensures { λ r. ⌜ r ≡ zeroedBy c operation ⌝ }
-{
-    if operation != 0xC0 {
-        return c;
-    }
-    let f = scale::mean_of(c.window, c.set.p8);
-    c.z = f;
-    c
 }
