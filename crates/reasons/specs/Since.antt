@@ -22,9 +22,11 @@ use Rattle.scale.specs.Scale.{filtered}
 use Rattle.asking.specs.Asking.{Asked}
 use Rattle.counters.specs.Counters.{counters}
 use Rattle.controller.specs.State.{withZ, withCounters}
-use Rattle.controller.specs.Tick.{Result, Told, atReady, wOf, unstartedOf, step7, step8, tickOf}
+use Rattle.stepping.specs.Stepping.{atReady, unstartedOf}
+use Rattle.controller.specs.Tick.{Result, Told, wOf, step7, step8, tickOf}
 use Rattle.controller.specs.Calls.{readyIn, isReady, after, taken, settingsAnswer, settingsOf, resetAnswer, resetOf, linkOf}
-use Rattle.controller.specs.Line.{Replied, zeroable, askedOf, zeroedBy, replied, repliesTo, requestOf}
+use Rattle.readout.specs.Readout.{zeroable}
+use Rattle.controller.specs.Line.{Replied, askedOf, zeroedBy, replied, repliesTo, requestOf}
 use Rattle.controller.specs.Modbus.{modbusOf}
 use Rattle.controller.specs.ModbusLaws.{modbus-only}
 use Rattle.controller.specs.Sound.{Sound, Waited}

@@ -12,7 +12,8 @@ use Rattle.field.specs.declared.Weight.{Weight}
 use Rattle.dosing.specs.Rules.{units}
 use Rattle.dosing.specs.declared.Units.{Units}
 use Rattle.dosing.specs.declared.Gates.{Gates}
-use Rattle.scale.specs.Scale.{outside, filtered, filterOf, calmRun, calmAfter, stableOf, overCapacity, weightBy, showable}
+use Rattle.dosing.specs.declared.Seen.{Seen}
+use Rattle.scale.specs.Scale.{outside, filtered, filterOf, calmRun, calmAfter, stableOf, overCapacity, seenBy, weightBy, showable}
 use Rattle.scale.specs.declared.Weighed.{Weighed}
 use Rattle.scale.specs.declared.Weighed.the-variants as W
 
@@ -43,6 +44,9 @@ Steadies set s r = r ≡ stableOf set s
 -- w = F-Z
 abbrev pub Overs : Settings → Units → Units → Bool → Type 0
 Overs set f z r = r ≡ overCapacity set (f .v -ℤ z .v)
+
+abbrev pub Sees : Settings → Units → Units → ℕ → Bool → Seen → Type 0
+Sees set f z s start r = r ≡ seenBy set f z s start
 
 abbrev pub Weighs : Settings → Window → Units → ℕ → ℕ → Weighed → Type 0
 Weighs set window z s n r = saysWeighed r ≡ showable (weightBy set window z s n)
@@ -75,6 +79,9 @@ stable-determined set s a b p q = same p q
 
 pub over-determined : (set : Settings) (f z : Units) (a b : Bool) → Overs set f z a → Overs set f z b → a ≡ b
 over-determined set f z a b p q = same p q
+
+pub see-determined : (set : Settings) (f z : Units) (s : ℕ) (start : Bool) (a b : Seen) → Sees set f z s start a → Sees set f z s start b → a ≡ b
+see-determined set f z s start a b p q = same p q
 
 pub weigh-determined : (set : Settings) (window : Window) (z : Units) (s n : ℕ) (a b : Weighed) → Weighs set window z s n a → Weighs set window z s n b → a ≡ b
 weigh-determined set window z s n a b p q = weighed-one a b (same p q)

@@ -23,14 +23,14 @@ returns-2 c =
 enum-told : tie.Need-enum-told
 enum-told c = search needs
 
-step3-requires : tie.Need-step3-requires
-step3-requires c κs = (c .before .before .before .pre, c .enum-told .given .1)
+steps3to8-requires : tie.Need-steps3to8-requires
+steps3to8-requires c κs = record { sound = c .before .before .before .pre; clear = c .enum-told .given .1 }
 
 returns-3 : tie.Need-returns-3
 returns-3 c =
     let d = c .before .before .before .before in
     let a = d .args in
-    tick-clear (a .self) _ (a .inputs) (d .pre) (omega arith) (c .before .enum-told .given .1) (rw (toZ-ofZ (d .fits .sample)) at (c .step3 .ensures))
+    tick-clear (a .self) _ (a .inputs) (d .pre) (omega arith) (c .before .enum-told .given .1) (rw (toZ-ofZ (d .fits .sample)) at (c .steps3to8 .ensures))
 
 pub tick-spec : {M : Type 1} → statement M
-tick-spec = tie.close (tie.spec returns enum-known-condition returns-2 enum-told step3-requires returns-3)
+tick-spec = tie.close (tie.spec returns enum-known-condition returns-2 enum-told steps3to8-requires returns-3)
