@@ -55,18 +55,12 @@ askBy bad = nothing
 
 -- ---- what it makes of the controller
 
+-- the events of what is asked: none, or one
 unfoldable pub eventsIn : Ask → List Event
 eventsIn (event e) = e ∷ []
 eventsIn counters = []
 eventsIn (why k) = []
 eventsIn nothing = []
-
--- the events of a call: none, or one
-unfoldable pub eventFor : Call → List Event
-eventFor call = eventsIn (askOf call)
-
-unfoldable pub madeOf : Controller → Call → Controller
-madeOf c call = run c (eventFor call)
 
 -- the controller in use after a line
 unfoldable pub madeBy : Controller → Parsed Call → Controller
