@@ -1,4 +1,4 @@
--- The hours of a recording: an hour is measured exactly if it was seen in full and a dose completed in it, and then by the doses of its ticks, of the products that are asked for. Assumes nothing.
+-- The hours of a recording, for the products that are asked for: an hour that lies in no hole of the dose numbers is measured exactly if it was seen in full and a dose of them completed in it, and then by those doses; one that lies in a hole is missing. Assumes nothing.
 use mathlib.Core.Path.{_≡_, refl, sym, ap, ap₂, subst, _∙_}
 use mathlib.Core.Bool.{Bool, true, false, not, _&&_, _||_}
 use mathlib.Core.List.{List, [], _∷_, _++_, map, map-append, append-assoc, append-nil}
@@ -239,6 +239,7 @@ ask-product : (c : Controller) (a : Ask) → Sound c → AllOf (c .set .product)
 unfolding eventsIn records AllOf
 ask-product c (event e) s = rw append-nil (event-product c e s)
 ask-product c counters s = tt
+ask-product c (why k) s = tt
 ask-product c nothing s = tt
 
 set-only : (p : ℕ) (c : Controller) (h : Heard) → AllOf (c .set .product) (dosesIn (h ∷ [])) → whileSet p c h ≡ onlyOf p h

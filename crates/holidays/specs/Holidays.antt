@@ -1,4 +1,4 @@
--- The days of a recording: a day that was seen in full and in which no dose completed is a holiday, and no other day is. Assumes nothing.
+-- The days of a recording: a day is a holiday exactly if it was seen in full, no dose completed in it, and no hole of the dose numbers covers any of its hours. Assumes nothing.
 use mathlib.Core.Path.{_≡_, refl, sym, ap, _∙_}
 use mathlib.Core.Bool.{Bool, true, false, true≢false}
 use mathlib.Core.List.{List, [], _∷_, _++_}
@@ -16,6 +16,7 @@ use Rattle.counters.specs.declared.Record.{Record}
 use Rattle.controller.specs.Calls.{freshOf}
 use Rattle.series.specs.Events.{Event, run, handsBack, records}
 use Rattle.series.specs.Lines.{hourWith}
+use Rattle.series.specs.Products.{asked-all}
 use Rattle.weekly.specs.Week.{dayBy}
 use Rattle.weekly.specs.Day.{isIdle, isHoliday, dayOf}
 use Rattle.weekly.specs.Kinds.{holiday-exactly, all-exactly}
@@ -49,7 +50,8 @@ module _ (input : List ℕ) (s : Script input) (ls : List Line) (accepted : jour
 
   hour-quiet : (n : ℕ) → Exactly (isIdle (hourOf All ls (s .first + n)) ≡ true) (QuietAt n)
   hour-quiet n =
-      let e = ap isIdle (consumption input s ls accepted n) in
+      let all = ap (hourWith (inHole (s .first + n) ls) (seenInFull n (heardIn s))) (asked-all (dosesIn (hourLines n (heardIn s)))) in
+      let e = ap isIdle (consumption input s ls accepted All n ∙ all) in
       let q = quiet-exactly (inHole (s .first + n) ls) (seenInFull n (heardIn s)) (dosesIn (hourLines n (heardIn s))) in
       (λ h. q .0 (sym e ∙ h), λ h. e ∙ q .1 h)
 
