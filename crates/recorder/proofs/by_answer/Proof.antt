@@ -16,10 +16,12 @@ unfolding heardSaid saysAct
 returns-2 c = c .heard-restart .ensures ∙ sym (ap (λ (a : Answer). heardSaid (saysAct a)) (c .before .before .answer2 .given .1))
 
 returns-3 : tie.Need-returns-3
-returns-3 c = other-answer (c .before .args .answer) (c .match .keys3)
+unfolding heardSaid saysAct
+returns-3 c = sym (ap (λ (a : Answer). heardSaid (saysAct a)) (c .enum-told .given .1))
 
 pub by-answer-spec : {M : Type 1} → statement M
 by-answer-spec =
     tie.close
     (tie.spec
-    (λ c. search needs) (λ c κs. search needs) (λ c. search needs) (λ c κs. search needs) returns returns-2 returns-3)
+    (λ c. search needs) (λ c κs. search needs) (λ c. search needs) (λ c κs. search needs) (λ c. search needs)
+    returns returns-2 returns-3 (λ c. other-answer (c .before .args .answer) (c .match .keys4)))
