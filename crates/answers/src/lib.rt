@@ -1,7 +1,4 @@
 // The text of an answer to a call of a script.
-mod boxed;
-mod causes;
-
 use acts::Answer;
 use calls::Call;
 ghost use Prim.Native.Nat.{_≤_};
@@ -57,7 +54,7 @@ fn put_answer(out: &mut [u8], call: Call, said: Answer, bytes: &[u8], spare: &mu
         Answer::Aside => put_aside(out, call, bytes, spare),
         Answer::Request(_) => put_reply(out, call, said, spare),
         Answer::Modbus(_) => put_reply(out, call, said, spare),
-        Answer::Why(reason) => causes::line(out, reason),
+        Answer::Why(reason) => boxed::causes::line(out, reason),
         _ => pieces::line(out, boxed::words(said)),
     }
 }

@@ -70,7 +70,7 @@ fn put_reason(out: &mut [u8], reason: Reason) -> usize {
 }
 
 // Y and the reason, or R 19.
-pub(crate) fn line(out: &mut [u8], reason: Reason) -> usize {
+pub fn line(out: &mut [u8], reason: Reason) -> usize {
     if let Reason::R19 = reason {
         return pieces::line(out, values(reason));
     }

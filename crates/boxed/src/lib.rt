@@ -1,4 +1,6 @@
-// The answers of the box.
+// The answers of the box: their letter and numbers, and the text of a reason.
+pub mod causes;
+
 use acts::Answer;
 use controller::Fault;
 use controller::PollAnswer;
@@ -90,7 +92,7 @@ fn modbus(answer: PollAnswer) -> Words {
 }
 
 // What the box answered by a letter and numbers; ? where it answered otherwise.
-pub(crate) fn words(said: Answer) -> Words {
+pub fn words(said: Answer) -> Words {
     match said {
         Answer::Tick(ticked) => tick(ticked),
         Answer::Link => Words::none(b'A'),
