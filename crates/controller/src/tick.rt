@@ -15,13 +15,14 @@ use dosing::Seen;
 use dosing::Units;
 use settings::Settings;
 ghost use mathlib.Core.Path.{_≡_};
+ghost use mathlib.Core.Bool.{false};
 ghost use lib.IntN.{_-ℤ_};
 ghost use Rattle.paper.specs.Answer.{done};
 ghost use Rattle.dosing.specs.Rules.{units};
 ghost use Rattle.scale.specs.Scale.{stableOf};
 ghost use Rattle.counters.specs.Counters.{recordsOf};
-ghost use Rattle.controller.specs.State.{withInputs};
-ghost use Rattle.controller.specs.Tick.{unstartedOf, faulted, step7, steps6to8, steps4and5, step3};
+ghost use Rattle.controller.specs.State.{withInputs, withUnstarted};
+ghost use Rattle.controller.specs.Tick.{unstartedOf, faulted, step7, steps6to8, steps4and5};
 ghost use Rattle.controller.specs.Sound.{Sound};
 ghost use Rattle.controller.specs.Says.{Ticks, saysTick};
 ghost use Rattle.controller.specs.Parts.{Gives, Small, Takes};
@@ -45,7 +46,11 @@ impl Controller {
                 answer: TickAnswer::Fault(why),
             };
         }
-        step3(self, Units { v: sample }, inputs)
+        let x = Units { v: sample };
+        if scale::is_outside(x) {
+            return outside(self, inputs);
+        }
+        steps4and5(self, x, inputs)
     }
 }
 
@@ -69,6 +74,15 @@ fn faulted(why: Fault, c: Controller) -> Ticked
         next: stopped,
         answer: TickAnswer::Fault(why),
     }
+}
+
+// Step 3 on a sample outside -900,000..900,000: the inputs are kept, the sample is not, F21.
+fn outside(mut c: Controller, inputs: u8) -> Ticked
+    ensures { λ r. ⌜ Gives (faulted Fault.F21 (withUnstarted false (withInputs inputs c))) r ⌝ }
+{
+    c.inputs = inputs;
+    c.unstarted = false;
+    faulted(Fault::F21, c)
 }
 
 // The outputs, with the dose record if one completed.
@@ -156,31 +170,21 @@ fn steps6to8(mut c: Controller, start: bool, s: u32) -> Ticked
     }
 }
 
-// Steps 4 and 5, and those after: the sample and the inputs are kept, F, start and S.
+// Steps 4 and 5, and those after: the inputs and the sample are kept, F, start and S.
 fn steps4and5(mut c: Controller, x: Units, inputs: u8) -> Ticked
     requires { ⌜ Takes c x ⌝ }
-    ensures { λ r. ⌜ Gives (steps4and5 (withInputs inputs c) (x .v)) r ⌝ }
+    ensures { λ r. ⌜ Gives (steps4and5 (withUnstarted false (withInputs inputs c)) (x .v)) r ⌝ }
 {
     let sample = x.v;
     let window = c.window.push(sample);
-    let f = scale::mean_of(window, scale::filter_of(c.set, c.gates));
+    let held = window.held;
+    let n = scale::filter_of(c.set, c.gates);
+    let f = scale::mean_lent(&window.samples, held, n);
     let s = scale::calm_run(c.window.held == 0, f, c.f, c.s);
     let start = channels::start_of(c.set, c.link, inputs);
     c.window = window;
     c.f = f;
     c.inputs = inputs;
-    steps6to8(c, start, s)
-}
-
-// Step 3, and those after: the inputs are kept; a sample outside -900,000..900,000 is F21 and is not kept.
-fn step3(mut c: Controller, x: Units, inputs: u8) -> Ticked
-    requires { ⌜ Sound c × (c .condition ≡ Condition.Clear) ⌝ }
-    ensures { λ r. ⌜ Gives (step3 c (x .v) inputs) r ⌝ }
-{
     c.unstarted = false;
-    if scale::is_outside(x) {
-        c.inputs = inputs;
-        return faulted(Fault::F21, c);
-    }
-    steps4and5(c, x, inputs)
+    steps6to8(c, start, s)
 }
