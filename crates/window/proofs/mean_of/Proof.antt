@@ -73,7 +73,8 @@ mean-of-first-requires c κs =
     let f = c .before .before in
     let a = f .before .args in
     let k = c .before .fewest2 in
-    (some (k .result) (c .if1 .left), most (a .samples .now) (a .held) (a .n) (f .fewest .result) (k .result) (f .fewest .ensures) (k .ensures), long (a .samples .now) (a .held) (a .n) (f .fewest .result) (k .result) (f .fewest .ensures) (k .ensures))
+    let h : 0 < k .result = some (k .result) (c .if1 .left) in
+    (omega (arith, h), most (a .samples .now) (a .held) (a .n) (f .fewest .result) _ (f .fewest .ensures) (k .ensures), long (a .samples .now) (a .held) (a .n) (f .fewest .result) _ (f .fewest .ensures) (k .ensures))
 
 returns-2 : tie.Need-returns-2
 returns-2 c =
