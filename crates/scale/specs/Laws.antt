@@ -1,5 +1,5 @@
 -- Sizes: samples and F within 900,000, Z within 24,998, weights within 924,998, S within 4,032; and such a weight can always be shown. Assumes nothing.
-use mathlib.Core.Path.{_≡_, refl, sym}
+use mathlib.Core.Path.{_≡_, refl, sym, ap}
 use mathlib.Core.Bool.{Bool, true, false}
 use mathlib.Core.List.{List, [], _∷_}
 use Prim.Native.Nat.{ℕ, zero, suc, _+_, _≤_, _<_}
@@ -18,7 +18,7 @@ use Rattle.window.specs.declared.Window.{Window}
 use Rattle.window.specs.Mean.{meanOf}
 use Rattle.window.specs.Window.{samplesOf, emptyWindow, pushOf}
 use Rattle.window.specs.Range.{Within}
-use Rattle.window.specs.Laws.{samples-push, samples-empty, within-nil, within-cons, within-take}
+use Rattle.window.specs.Laws.{held-of, samples-push, samples-empty, within-nil, within-cons, within-take}
 use Rattle.window.specs.MeanLaws.{mean-within}
 use Rattle.field.specs.Field.{writable}
 use Rattle.field.specs.RoundTrip.{small-writable}
@@ -27,7 +27,7 @@ use Rattle.dosing.specs.Rules.{units}
 use Rattle.dosing.specs.declared.Units.{Units}
 use Rattle.dosing.specs.declared.Gates.{Gates}
 use Rattle.dosing.specs.declared.Seen.{Seen}
-use Rattle.scale.specs.Scale.{outside, filtered, none, calmRun, stableOf, calmAfter, netOf, seenBy, weightFrom, weightBy, showable}
+use Rattle.scale.specs.Scale.{outside, filtered, none, calmRun, stableOf, calmAfter, netOf, seenBy, weightFrom, weightBy, showable, filteredLent}
 
 -- ---- samples
 
@@ -62,6 +62,11 @@ empty-within = rw samples-empty (within-nil 900000)
 pub push-held : (w : Window) (x : ℤ) → pushOf w x .held ≤ 128
 unfolding pushOf
 push-held w x = pick-if (λ (n : ℕ). n ≤ 128) (ltb (w .held) 128) (λ a. omega (arith, ltb-true (w .held) 128 a)) (λ a. omega arith)
+
+-- a window that lends its samples is filtered as it stands
+pub lent-filtered : (w : Window) (n : ℕ) → length (w .samples) ≡ 128 → filteredLent (w .samples) (w .held) n ≡ filtered w n
+unfolding filteredLent filtered
+lent-filtered w n e = ap (λ (l : List ℤ). meanOf (take n l)) (held-of w e)
 
 -- no sample is held
 none-taken : (n : ℕ) (xs : List ℤ) → 0 < length xs → none (take n xs) ≡ eqb n 0

@@ -11,7 +11,7 @@ use Rattle.paper.specs.Answer.{Answer, done, refused}
 use Rattle.paper.specs.Numbers.{R16}
 use Rattle.settings.specs.declared.Settings.{Settings}
 use Rattle.window.specs.Mean.{meanOf}
-use Rattle.window.specs.Window.{samplesOf}
+use Rattle.window.specs.Window.{samplesOf, heldOf}
 use Rattle.window.specs.declared.Window.{Window}
 use Rattle.field.specs.Field.{writable}
 use Rattle.field.specs.declared.Weight.{Weight}
@@ -29,6 +29,10 @@ outside x = ltZ x (negsuc 899999) || ltZ (pos 900000) x
 -- F by a filter: the mean of the last n samples (of those held, if fewer)
 unfoldable pub filtered : Window → ℕ → ℤ
 filtered window n = meanOf (take n (samplesOf window))
+
+-- the same of samples that are lent
+unfoldable pub filteredLent : List ℤ → ℕ → ℕ → ℤ
+filteredLent samples held n = meanOf (take n (heldOf samples held))
 
 -- n is p7 if output 1 was open before the tick, else p8
 unfoldable pub filterOf : Settings → Gates → ℕ

@@ -10,7 +10,7 @@ ghost use mathlib.Core.Bool.{Bool};
 ghost use lib.IntN.{_-ℤ_};
 ghost use Rattle.dosing.specs.Rules.{units};
 ghost use Rattle.scale.specs.Scale.{netOf, showable};
-ghost use Rattle.scale.specs.Says.{Excludes, Means, Filters, Calms, Calmer, Steadies, Overs, Sees, Weighs, saysWeighed};
+ghost use Rattle.scale.specs.Says.{Excludes, Means, Filters, Calms, Calmer, Steadies, Overs, Sees, Weighs, saysWeighed, MeansLent};
 
 // A weight that a reply can show, or R16 for one that is beyond six digits or has a point above 7.
 pub enum Weighed {
@@ -47,12 +47,20 @@ pub fn is_outside(x: Units) -> bool
     (v < 0 - SAMPLE_MOST) | (SAMPLE_MOST < v)
 }
 
+// F of the samples lent, of which so many are held: the mean of the last n.
+pub fn mean_lent(samples: &[i32], held: usize, n: u32) -> Units
+    ensures { λ r. ⌜ MeansLent (now (samples .entry)) held n r ⌝ }
+{
+    let v = window::mean_of(samples, held, n as usize);
+    Units { v }
+}
+
 // F: the mean of the last n samples.
 pub fn mean_of(window: Window, n: u32) -> Units
     ensures { λ r. ⌜ Means window n r ⌝ }
 {
-    let v = window.mean(n as usize);
-    Units { v }
+    let held = window.held;
+    mean_lent(&window.samples, held, n)
 }
 
 // n: p7 if output 1 was open before the tick, else p8.
