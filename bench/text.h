@@ -98,7 +98,9 @@ static inline const unsigned char *number(const unsigned char *p, uint64_t most,
 {
     const unsigned char *start = p;
     uint64_t v = (uint64_t)*p++ - '0', d;
-    if (v - 1 < 9)
+    if (v > 9)
+        return NULL;
+    if (v)
         while ((d = (uint64_t)*p - '0') < 10) {
             v = 10 * v + d;
             p++;
