@@ -43,6 +43,14 @@ leadingBytes (a ∷ b ∷ l) = let more = (hexValue a * 16 + hexValue b) ∷ lea
 unfoldable pub carried : List ℕ → List ℕ
 carried s = leadingBytes (drop 2 s)
 
+-- n bytes stand before place p, and those from there on are the others
+abbrev pub Left : List ℕ → ℕ → ℕ → Type 0
+Left s p n = n + length (leadingBytes (drop p s)) ≡ length (carried s)
+
+-- eight bytes stand at place p, and the others behind them
+abbrev pub Digits16 : List ℕ → ℕ → Type 0
+Digits16 s p = length (leadingBytes (drop p s)) ≡ 8 + length (leadingBytes (drop (p + 16) s))
+
 -- the call of a letter that takes bytes, and the greatest number that it takes behind them
 unfoldable pub roomCall : ℕ → List ℕ → ℕ → Call
 roomCall letter bytes n =
