@@ -1,7 +1,9 @@
 // The phase rules of AL0 to AL3 as one step: no samples, no counters.
 use settings::Settings;
 ghost use mathlib.Core.Path.{_≡_};
+ghost use mathlib.Core.Bool.{not, _&&_};
 ghost use Prim.Native.Nat.{_+_, _-_};
+ghost use lib.Dec.{eqb};
 ghost use lib.IntN.{pos, negℤ, _-ℤ_};
 ghost use lib.Signed.{ltZ, leZ};
 ghost use Rattle.dosing.specs.Rules.{gates, shut, to, complete, reachedWf, reachedWc, notBelowZero, zeroed, full, coarseStage, fineStage, readyToFill, fill, hold, settleEnds, dischargeOpens, settle, amountOf, discharge, load, calm, doseCoarse, doseFine, doseSettle, readyToDose, ready};
@@ -262,14 +264,31 @@ fn ready_to_fill(set: Settings, t: Seen) -> Moved
     rests(Phase::Ready, t)
 }
 
-// AL0: start off during Fill closes both, Ready; this is looked at before the weight.
-fn fill(set: Settings, t: Seen, stage: Moved) -> Moved
-    ensures { λ r. ⌜ r ≡ fill set t stage ⌝ }
+// AL0: start off during Fill ends it.
+fn start_gone(set: Settings, t: Seen) -> bool
+    ensures { λ r. ⌜ r ≡ (eqb (set .algorithm) 0 && not (t .start)) ⌝ }
 {
-    if (set.algorithm == 0) & !t.start {
+    (set.algorithm == 0) & !t.start
+}
+
+// Fill, coarse stage: start off closes both, Ready; this is looked at before the weight.
+fn fill_coarse(set: Settings, w0: Units, t: Seen) -> Moved
+    ensures { λ r. ⌜ r ≡ fill set t (coarseStage set w0 t) ⌝ }
+{
+    if start_gone(set, t) {
         return rests(Phase::Ready, t);
     }
-    stage
+    coarse_stage(set, w0, t)
+}
+
+// The same in the fine stage.
+fn fill_fine(set: Settings, w0: Units, t: Seen) -> Moved
+    ensures { λ r. ⌜ r ≡ fill set t (fineStage set w0 t) ⌝ }
+{
+    if start_gone(set, t) {
+        return rests(Phase::Ready, t);
+    }
+    fine_stage(set, w0, t)
 }
 
 // AL0: it holds with both closed until start goes off, then Ready.
@@ -428,8 +447,8 @@ pub fn step(set: Settings, phase: Phase, seen: Seen) -> Moved
 {
     match phase {
         Phase::Ready => ready(set, seen),
-        Phase::Coarse { w0 } => fill(set, seen, coarse_stage(set, w0, seen)),
-        Phase::Fine { w0 } => fill(set, seen, fine_stage(set, w0, seen)),
+        Phase::Coarse { w0 } => fill_coarse(set, w0, seen),
+        Phase::Fine { w0 } => fill_fine(set, w0, seen),
         Phase::Hold => hold(seen),
         Phase::Settle { w0, n } => settle(set, w0, n, seen),
         Phase::Discharge { w0, ws, settled } => discharge(set, w0, ws, settled, seen),
