@@ -121,18 +121,18 @@ fn not_below_zero(a: Units, b: Units) -> u32
     if v < 0 { 0 } else { v as u32 }
 }
 
-// a-b of two settings; 0 where b is the greater.
-fn less(a: u32, b: u32) -> u32
-    ensures { λ r. ⌜ r ≡ a - b ⌝ }
+// D less a lead: the weight at which that lead shuts its gate; 0 where the lead is the greater.
+fn shuts_at(dose: u32, lead: u32) -> u32
+    ensures { λ r. ⌜ r ≡ dose - lead ⌝ }
 {
-    if b <= a { a - b } else { 0 }
+    if lead <= dose { dose - lead } else { 0 }
 }
 
 // x >= Wf
 fn reached_wf(set: Settings, x: Wide) -> bool
     ensures { λ r. ⌜ r ≡ reachedWf set (x .v) ⌝ }
 {
-    let wf = less(set.dose, set.pf);
+    let wf = shuts_at(set.dose, set.pf);
     at_least(x, wf)
 }
 
@@ -140,7 +140,7 @@ fn reached_wf(set: Settings, x: Wide) -> bool
 fn reached_wc(set: Settings, x: Wide) -> bool
     ensures { λ r. ⌜ r ≡ reachedWc set (x .v) ⌝ }
 {
-    let wc = less(set.dose, set.pc);
+    let wc = shuts_at(set.dose, set.pc);
     at_least(x, wc)
 }
 
