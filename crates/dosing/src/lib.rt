@@ -9,6 +9,9 @@ ghost use lib.Signed.{ltZ, leZ};
 ghost use Rattle.dosing.specs.Rules.{gates, shut, to, complete, reachedWf, reachedWc, notBelowZero, zeroed, full, coarseStage, fineStage, readyToFill, fill, hold, settleEnds, dischargeOpens, settle, amountOf, discharge, load, calm, doseCoarse, doseFine, doseSettle, readyToDose, ready};
 ghost use Rattle.dosing.specs.Calls.{TellsNear, Steps};
 
+// Settle and Calm last at most so many ticks for each 1 of p9.
+pub const SETTLE_TICKS: u64 = 256;
+
 // A weight in display units.
 pub struct Units {
     pub v: i32,
@@ -305,7 +308,7 @@ fn hold(t: Seen) -> Moved
 fn settle_ends(set: Settings, n: u64, stable: bool) -> bool
     ensures { λ r. ⌜ r ≡ settleEnds set (n + 1) stable ⌝ }
 {
-    let last = 256 * (set.p9 as u64);
+    let last = SETTLE_TICKS * (set.p9 as u64);
     if n < last {
         return stable | (last <= n + 1);
     }

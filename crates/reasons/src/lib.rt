@@ -186,7 +186,7 @@ fn in_settle(n: u64, p9: u32, x: Units, wf: u32, output: u8) -> Reason
     if output == 3 {
         return Reason::Settling {
             gone: n,
-            allowed: 256 * (p9 as u64),
+            allowed: dosing::SETTLE_TICKS * (p9 as u64),
         };
     }
     at_wf(x, wf, output, Name::Settle)
