@@ -40,10 +40,6 @@ pub gate-why : (c : Controller) (k : ℕ) → 1 ≤ k → k ≤ 3 → whyOf c k 
 unfolding whyOf noOutput pick
 gate-why c k a b = rw (le-ltb k 1 (omega arith), le-ltb 4 k (omega arith), ne-eqb k 4 (omega arith)) refl
 
-pub alarm-why : (c : Controller) → whyOf c 4 ≡ done (alarmCause (c .condition) (c .alarm))
-unfolding whyOf noOutput pick
-alarm-why c = refl
-
 -- ---- which reason it is
 
 -- the place of a reason in document 02's order
