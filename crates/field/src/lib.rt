@@ -90,7 +90,7 @@ fn bcd_of(digits: u32) -> u8
 fn is_bcd(byte: u8) -> bool
     ensures { λ r. ⌜ r ≡ isBcd byte ⌝ }
 {
-    byte % 16 <= 9 && byte / 16 <= 9
+    (byte % 16 <= 9) & (byte / 16 <= 9)
 }
 
 // The number of a byte's two halves.
