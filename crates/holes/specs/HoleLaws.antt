@@ -238,3 +238,16 @@ counted-follows k h = rw (eq-eqb _ _ (next-is k h)) (or-true (eqb ((k + 1) % 100
 pub one-follows : (k : ℕ) → follows k 1 ≡ true
 unfolding follows
 one-follows k = refl
+
+-- and nothing else follows: a count follows exactly if it is 1, or the one before it and one (0 after 999,999)
+pub follows-exactly : (before count : ℕ) → before ≤ 999999 → Exactly (follows before count ≡ true) ((count ≡ 1) ⊎ (count ≡ (before + 1) % 1000000))
+unfolding follows
+follows-exactly before count h = (only (eqb count 1) refl, made)
+  where
+    only : (b : Bool) → eqb count 1 ≡ b → (b || eqb count (nextCount before)) ≡ true → (count ≡ 1) ⊎ (count ≡ (before + 1) % 1000000)
+    only true p e = inl (eqb-true count 1 p)
+    only false p e = inr (eqb-true count (nextCount before) e ∙ sym (next-is before h))
+
+    made : (count ≡ 1) ⊎ (count ≡ (before + 1) % 1000000) → (eqb count 1 || eqb count (nextCount before)) ≡ true
+    made (inl e) = rw (eq-eqb count 1 e)
+    made (inr e) = rw (eq-eqb count (nextCount before) (e ∙ next-is before h)) (or-true (eqb count 1))
