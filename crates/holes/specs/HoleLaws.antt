@@ -239,15 +239,15 @@ pub one-follows : (k : ℕ) → follows k 1 ≡ true
 unfolding follows
 one-follows k = refl
 
+or-elim : {Q : Type 0} (a b : Bool) → (a || b) ≡ true → (a ≡ true → Q) → (b ≡ true → Q) → Q
+or-elim true b e f g = f refl
+or-elim false b e f g = g e
+
 -- and nothing else follows: a count follows exactly if it is 1, or the one before it and one (0 after 999,999)
 pub follows-exactly : (before count : ℕ) → before ≤ 999999 → Exactly (follows before count ≡ true) ((count ≡ 1) ⊎ (count ≡ (before + 1) % 1000000))
 unfolding follows
-follows-exactly before count h = (only (eqb count 1) refl, made)
+follows-exactly before count h = (λ e. or-elim _ _ e (λ p. inl (eqb-true _ _ p)) (λ p. inr (eqb-true _ _ p ∙ sym (next-is before h))), made)
   where
-    only : (b : Bool) → eqb count 1 ≡ b → (b || eqb count (nextCount before)) ≡ true → (count ≡ 1) ⊎ (count ≡ (before + 1) % 1000000)
-    only true p e = inl (eqb-true count 1 p)
-    only false p e = inr (eqb-true count (nextCount before) e ∙ sym (next-is before h))
-
-    made : (count ≡ 1) ⊎ (count ≡ (before + 1) % 1000000) → (eqb count 1 || eqb count (nextCount before)) ≡ true
-    made (inl e) = rw (eq-eqb count 1 e)
-    made (inr e) = rw (eq-eqb count (nextCount before) (e ∙ next-is before h)) (or-true (eqb count 1))
+    made : (count ≡ 1) ⊎ (count ≡ (before + 1) % 1000000) → follows before count ≡ true
+    made (inl e) = ap (follows before) e ∙ one-follows before
+    made (inr e) = ap (follows before) e ∙ counted-follows before h
