@@ -38,7 +38,9 @@ pub fn sample(set: Settings, gates: Gates, window: Window, f: Units, s: u32, x: 
 {
     let v = x.v;
     let kept = window.push(v);
-    let mean = scale::mean_of(kept, scale::filter_of(set, gates));
+    let held = kept.held;
+    let n = scale::filter_of(set, gates);
+    let mean = scale::mean_lent(&kept.samples, held, n);
     let calm = scale::calm_run(window.held == 0, mean, f, s);
     Sampled {
         window: kept,
