@@ -12,8 +12,6 @@ use controller::TickAnswer;
 use counters::Record;
 use pieces::Words;
 
-const TAB: u8 = 9;
-
 // D, the outputs, count, amount, settled, product
 fn dose(outputs: u8, record: Record) -> Words {
     Words::five(
@@ -45,9 +43,9 @@ fn tick(answer: TickAnswer) -> Words {
 }
 
 // The line of O and the outputs, which most ticks answer.
-pub(crate) fn put_outputs(out: &mut [u8], outputs: u8) -> usize {
+pub fn put_outputs(out: &mut [u8], outputs: u8) -> usize {
     let after_letter = text::put_byte(out, 0, b'O');
-    let after_tab = text::put_byte(out, after_letter, TAB);
+    let after_tab = text::put_byte(out, after_letter, text::TAB);
     let after_number = text::put_decimal(out, after_tab, outputs as u64);
     pieces::end(out, after_number)
 }
