@@ -1,4 +1,6 @@
 // Every call of the box from standard input, one answer to a line.
+use acts::Acted;
+use calls::Call;
 use controller::Controller;
 use libc::STDOUT_FILENO;
 use lines::Intake;
@@ -6,13 +8,9 @@ use lines::Next;
 ghost use Prim.Native.Nat.{_≤_};
 ghost use lib.ListN.{length};
 ghost use Rattle.controller.specs.Sound.{Sound};
-ghost use Rattle.replay.specs.Answers.{Answers, Carries};
-
-// The controller after a line, and how many bytes its answer has.
-struct Answered {
-    next: Controller,
-    len: usize,
-}
+ghost use Rattle.calls.specs.Reads.{asCall, Within};
+ghost use Rattle.acts.specs.Script.{Made};
+ghost use Rattle.replay.specs.Answers.{Carries};
 
 // What is carried on behind the whole lines of a buffer.
 struct Carried {
@@ -23,26 +21,14 @@ struct Carried {
 // So many bytes hold every answer.
 const ENOUGH: usize = 4096;
 
-// Answers a line: its call is made, and the text of the answer stands at the start of `out`.
-fn answer(
-    c: Controller,
-    line: &[u8],
-    bytes: &mut [u8],
-    spare: &mut [u8],
-    out: &mut [u8],
-) -> Answered
+// What a call makes of the controller, and the box's answer.
+fn made(c: Controller, call: Call, bytes: &[u8], spare: &mut [u8]) -> Acted
     requires sound { ⌜ Sound c ⌝ }
-    requires line { ⌜ length (now line) ≤ 4095 ⌝ }
-    requires room { ⌜ (2048 ≤ length (now bytes)) × (64 ≤ length (now spare)) ⌝ }
-    ensures { λ r. ⌜ Answers c (now (line .entry)) (now (out .exit)) r ⌝ }
+    requires room { ⌜ Within call × (64 ≤ length (now spare)) ⌝ }
+    ensures { λ r. ⌜ Made c (asCall (now (bytes .entry)) call) (r .next) ⌝ }
 {
-    let call = calls::read(line, bytes);
     answers::lend(call, spare);
-    let acted = acts::act(c, call, bytes, spare);
-    let next = acted.next;
-    let said = acted.answer;
-    let len = answers::say(out, call, said, bytes, spare);
-    Answered { next, len }
+    acts::act(c, call, bytes, spare)
 }
 
 // Writes the answers out.
@@ -64,12 +50,18 @@ fn with_room(out: &[u8], len: usize) -> usize
 }
 
 // Answers the whole lines of what is held.
-fn answer_lines(old: Controller, intake: Intake, input: &[u8], out: &mut [u8]) -> Carried
-    requires { ⌜ Sound old ⌝ }
+fn answer_lines(
+    old: Controller,
+    intake: Intake,
+    input: &[u8],
+    bytes: &mut [u8],
+    spare: &mut [u8],
+    out: &mut [u8],
+) -> Carried
+    requires sound { ⌜ Sound old ⌝ }
+    requires room { ⌜ (2048 ≤ length (now bytes)) × (64 ≤ length (now spare)) ⌝ }
     ensures { λ r. ⌜ Carries old intake (now (input .entry)) r ⌝ }
 {
-    let mut bytes = io::buffer();
-    let mut spare = io::buffer();
     let mut c = old;
     let mut held = intake;
     let mut len: usize = 0;
@@ -85,9 +77,11 @@ fn answer_lines(old: Controller, intake: Intake, input: &[u8], out: &mut [u8]) -
             };
         };
         len = with_room(out, len);
-        let answered = answer(c, &input[from..to], &mut bytes, &mut spare, &mut out[len..]);
-        c = answered.next;
-        len += answered.len;
+        let call = calls::read(&input[from..to], bytes);
+        let acted = made(c, call, bytes, spare);
+        let said = acted.answer;
+        c = acted.next;
+        len += answers::say(&mut out[len..], call, said, bytes, spare);
     }
 }
 
@@ -95,6 +89,8 @@ fn answer_lines(old: Controller, intake: Intake, input: &[u8], out: &mut [u8]) -
 fn main() {
     let mut input = io::large_buffer();
     let mut output = io::large_buffer();
+    let mut bytes = io::buffer();
+    let mut spare = io::buffer();
     let mut c = Controller::fresh();
     let mut held = Intake::start();
     let mut reads: u64 = 9223372036854775808;
@@ -104,7 +100,7 @@ fn main() {
             return;
         }
         let intake = refilled.intake;
-        let carried = answer_lines(c, intake, &input, &mut output);
+        let carried = answer_lines(c, intake, &input, &mut bytes, &mut spare, &mut output);
         c = carried.controller;
         held = carried.intake;
         reads -= 1;
