@@ -1,10 +1,10 @@
 -- What the first line of the input is, where it stands, and what stands behind it. Assumes nothing.
-use mathlib.Core.Path.{_≡_}
+use mathlib.Core.Path.{_≡_, ap}
 use mathlib.Core.Bool.{true, false}
 use mathlib.Core.List.{List, [], _∷_, _++_}
 use mathlib.Core.Logic.{_⊎_}
-use Prim.Native.Nat.{ℕ, _≤_, _<_}
-use lib.ListN.{length, take}
+use Prim.Native.Nat.{ℕ, _-_, _≤_, _<_}
+use lib.ListN.{length, take, drop}
 use Rattle.text.specs.Scan.{LF}
 use Rattle.lines.specs.Lines.{Plain, asked}
 use Rattle.lines.specs.Places.{partOf}
@@ -25,6 +25,18 @@ unfoldable pub saidOf : {A : Type 0} → (List ℕ → A) → A → Found → Li
 saidOf rule none (F.Line from to) buffer = rule (partOf from to buffer)
 saidOf rule none F.More buffer = none
 saidOf rule none F.Nothing buffer = none
+
+pub said-line : {A : Type 0} (rule : List ℕ → A) (none : A) (found : Found) (buffer : List ℕ) (from to : ℕ) → found ≡ F.Line from to → saidOf rule none found buffer ≡ rule (take (to - from) (drop from buffer))
+unfolding saidOf partOf
+said-line rule none found buffer from to e = ap (λ (f : Found). saidOf rule none f buffer) e
+
+pub said-more : {A : Type 0} (rule : List ℕ → A) (none : A) (found : Found) (buffer : List ℕ) → found ≡ F.More → saidOf rule none found buffer ≡ none
+unfolding saidOf
+said-more rule none found buffer e = ap (λ (f : Found). saidOf rule none f buffer) e
+
+pub said-nothing : {A : Type 0} (rule : List ℕ → A) (none : A) (found : Found) (buffer : List ℕ) → found ≡ F.Nothing → saidOf rule none found buffer ≡ none
+unfolding saidOf
+said-nothing rule none found buffer e = ap (λ (f : Found). saidOf rule none f buffer) e
 
 -- no LF has come yet: what came is what is pending, behind bytes that were dropped as too long already
 pub record Begun (came : List ℕ) (i : Intake) (buffer : List ℕ) : Type 0 where
@@ -69,8 +81,11 @@ Behind h (F.Line from to) old new n = Continues h old new n
 Behind h F.More old new n = Continues h old new n
 Behind h F.Nothing old new n = n ≡ 0
 
--- a line that is said to be there lies in the buffer
-pub heads-inside : (came : List ℕ) (f : Found) (i : Intake) (buffer : List ℕ) → Heads came f i buffer → Inside f (length buffer)
+heads-inside : (came : List ℕ) (f : Found) (i : Intake) (buffer : List ℕ) → Heads came f i buffer → Inside f (length buffer)
 heads-inside came (F.Line from to) i buffer h = (h .order, h .inside)
 heads-inside came F.More i buffer h = tt
 heads-inside came F.Nothing i buffer h = tt
+
+-- the line that was found lies in the buffer
+pub heading-inside : (new : List ℕ) (r : Headed) → ReadsHeading new r → Inside (r .found) (length new)
+heading-inside new r h = heads-inside (h .came) (r .found) (r .intake) new (h .heads)
