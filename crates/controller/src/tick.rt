@@ -11,8 +11,10 @@ use dosing::Gates;
 use dosing::Phase;
 use dosing::Units;
 ghost use mathlib.Core.Path.{_≡_};
+ghost use mathlib.Core.Bool.{false};
 ghost use Rattle.paper.specs.Answer.{done};
 ghost use Rattle.counters.specs.Counters.{recordsOf};
+ghost use Rattle.controller.specs.State.{withInputs, withUnstarted};
 ghost use Rattle.controller.specs.Tick.{faulted, step7, step3};
 ghost use Rattle.controller.specs.Sound.{Sound};
 ghost use Rattle.controller.specs.Says.{Ticks, saysTick};
@@ -37,7 +39,11 @@ impl Controller {
                 answer: TickAnswer::Fault(why),
             };
         }
-        steps3to8(self, Units { v: sample }, inputs)
+        let x = Units { v: sample };
+        if scale::is_outside(x) {
+            return outside(self, inputs);
+        }
+        steps4to8(self, x, inputs)
     }
 }
 
@@ -61,6 +67,15 @@ fn faulted(why: Fault, c: Controller) -> Ticked
         next: stopped,
         answer: TickAnswer::Fault(why),
     }
+}
+
+// Step 3 on a sample outside -900,000..900,000: the inputs are kept, the sample is not, F21.
+fn outside(mut c: Controller, inputs: u8) -> Ticked
+    ensures { λ r. ⌜ Gives (faulted Fault.F21 (withUnstarted false (withInputs inputs c))) r ⌝ }
+{
+    c.inputs = inputs;
+    c.unstarted = false;
+    faulted(Fault::F21, c)
 }
 
 // The outputs, with the dose record if one completed.
@@ -102,16 +117,13 @@ fn steps7and8(c: Controller, start: bool) -> Ticked
     Ticked { next, answer }
 }
 
-// From step 3 on: the inputs are kept; a sample outside -900,000..900,000 is F21 and is not kept; F, start and S; the lowest channel whose run reached its limit is F14, else the phase rule.
-fn steps3to8(mut c: Controller, x: Units, inputs: u8) -> Ticked
-    requires { ⌜ Takes c ⌝ }
+// From step 4 on: the inputs and the sample are kept; F, start and S; the lowest channel whose run reached its limit is F14, else the phase rule.
+fn steps4to8(mut c: Controller, x: Units, inputs: u8) -> Ticked
+    requires { ⌜ Takes c x ⌝ }
     ensures { λ r. ⌜ Gives (step3 c (x .v) inputs) r ⌝ }
 {
     c.inputs = inputs;
     c.unstarted = false;
-    if scale::is_outside(x) {
-        return faulted(Fault::F21, c);
-    }
     let kept = stepping::sample(c.set, c.gates, c.window, c.f, c.s, x);
     let start = channels::start_of(c.set, c.link, inputs);
     let runs = channels::runs_after(c.set, c.gates, inputs, c.runs);
