@@ -1,14 +1,17 @@
 -- The steps of a tick, put together from what their parts give. Assumes nothing.
-use mathlib.Core.Path.{_≡_, refl, sym, ap, subst, _∙_}
+use mathlib.Core.Path.{_≡_, refl, sym, ap, ap₂, subst, _∙_}
 use mathlib.Core.Bool.{Bool, true, false}
 use mathlib.Core.List.{[]}
 use Prim.Native.Nat.{ℕ, _≤_, _<_}
+use lib.Dec.{eqb}
 use lib.IntN.{ℤ}
+use lib.ListN.{length}
 use borrow.Author.Tests.{lt-ltb, le-ltb}
 use Rattle.laws.specs.Pick.{pick-t, pick-f}
 use Rattle.paper.specs.Answer.{done, refused}
 use Rattle.paper.specs.Numbers.{R1}
-use Rattle.window.specs.Window.{pushOf}
+use Rattle.window.specs.Window.{samplesOf, pushOf}
+use Rattle.window.specs.declared.Window.{Window}
 use Rattle.dosing.specs.Rules.{stepOf}
 use Rattle.dosing.specs.declared.Units.{Units}
 use Rattle.channels.specs.Channels.{startOf, runsAfter, watchOf}
@@ -16,9 +19,9 @@ use Rattle.channels.specs.Says.{saysWatch}
 use Rattle.channels.specs.declared.Runs.{Runs}
 use Rattle.channels.specs.declared.Watch.{Watch}
 use Rattle.channels.specs.declared.Watch.the-variants as W
-use Rattle.scale.specs.Scale.{outside, filterOf}
+use Rattle.scale.specs.Scale.{outside, filtered, filterOf, none}
 use Rattle.counters.specs.Counters.{recordsOf}
-use Rattle.scale.specs.Laws.{inside-within, filtered-within, seen-weight}
+use Rattle.scale.specs.Laws.{inside-within, filtered-within, lent-filtered, none-held, seen-weight}
 use Rattle.stepping.specs.Stepping.{sampledBy, sampleOf, unstartedOf, steppedBy, steppedOf}
 use Rattle.stepping.specs.declared.Sampled.{Sampled}
 use Rattle.stepping.specs.declared.Stepped.{Stepped}
@@ -59,29 +62,45 @@ steps-7-8 c start h e a = let so = e ∙ stepped-so c start h in record { next =
 
 -- ---- from step 3 on
 
+-- the sample is kept, with F and S by the rule
+pub record Kept (c : Controller) (x : ℤ) (window : Window) (to : Sampled) : Type 0 where
+  pub pushed : window ≡ pushOf (c .window) x
+  pub read : to ≡ sampledBy (none (samplesOf (c .window))) (filtered (pushOf (c .window) x) (filterOf (c .set) (c .gates))) (c .f .v) (c .s)
+
+pub kept-so : (c : Controller) (x : ℤ) (window : Window) {to : Sampled} → Sound c → length (window .samples) ≡ 128
+    → window ≡ pushOf (c .window) x
+    → to ≡ sampleOf (c .set) (c .gates) (eqb (c .window .held) 0) (window .samples) (window .held) (c .f) (c .s)
+    → Kept c x window to
+unfolding sampleOf
+kept-so c x window s l w k =
+    let n = filterOf (c .set) (c .gates) in
+    let mean = lent-filtered window n l ∙ ap (λ (v : Window). filtered v n) w in
+    let first = sym (none-held (c .window) (s .places)) in
+    record { pushed = w; read = k ∙ ap₂ (λ (b : Bool) (f : ℤ). sampledBy b f (c .f .v) (c .s)) first mean }
+
 -- F and Z of a tick are small
-pub mean-small : (c : Controller) (x : Units) {kept : Sampled} → Sound c → outside (x .v) ≡ false → kept ≡ sampleOf (c .set) (c .gates) (c .window) (c .f) (c .s) (x .v) → Small (kept .f) (c .z)
-unfolding sampleOf sampledBy
+pub mean-small : (c : Controller) (x : Units) {window : Window} {to : Sampled} → Sound c → outside (x .v) ≡ false → Kept c (x .v) window to → Small (to .f) (c .z)
+unfolding sampledBy
 mean-small c x s h k =
-    record { mean = rw k (filtered-within (pushOf (c .window) (x .v)) (filterOf (c .set) (c .gates)) (push-within c s (x .v) (inside-within (x .v) h))); zero = s .zero }
+    record { mean = rw (k .read) (filtered-within (pushOf (c .window) (x .v)) (filterOf (c .set) (c .gates)) (push-within c s (x .v) (inside-within (x .v) h))); zero = s .zero }
 
 module _ (c : Controller) (x : ℤ) (inputs : ℕ) where
   pub step3-outside : {r : Ticked} → outside x ≡ true → Gives (faulted F.F21 (withUnstarted false (withInputs inputs c))) r → Gives (step3 c x inputs) r
   unfolding step3
   step3-outside h g = gives (sym (pick-t _ _ _ h)) g
 
-  module _ {kept : Sampled} {start : Bool} {runs : Runs} (watch : Watch) (inside : outside x ≡ false)
-      (k : kept ≡ sampleOf (c .set) (c .gates) (c .window) (c .f) (c .s) x)
+  module _ {window : Window} {to : Sampled} {start : Bool} {runs : Runs} (watch : Watch) (inside : outside x ≡ false)
+      (k : Kept c x window to)
       (o : start ≡ startOf (c .set) (c .link) inputs)
       (e : runs ≡ runsAfter (c .set) (c .gates) inputs (c .runs))
       (says : saysWatch watch ≡ watchOf runs) where
     -- the sample and the inputs are kept, with F, S and the runs
     abbrev moved : Controller
-    moved = withRuns runs (withS (kept .s) (withF (kept .f) (withWindow (kept .window) (withUnstarted false (withInputs inputs c)))))
+    moved = withRuns runs (withS (to .s) (withF (to .f) (withWindow window (withUnstarted false (withInputs inputs c)))))
 
     sixth : mismatched (saysWatch watch) moved (step7 moved start) ≡ step3 c x inputs
-    unfolding step3 steps4and5 steps6to8 sampleOf sampledBy
-    sixth = rw (says, e, o, k) (sym (pick-f _ _ _ inside))
+    unfolding step3 steps4and5 steps6to8 sampledBy
+    sixth = rw (says, e, o, k .read, k .pushed) (sym (pick-f _ _ _ inside))
 
     pub reached : {channel : ℕ} {r : Ticked} → watch ≡ W.F14 channel → Gives (faulted (F.F14 channel) moved) r → Gives (step3 c x inputs) r
     unfolding mismatched

@@ -124,14 +124,24 @@ fn steps4to8(mut c: Controller, x: Units, inputs: u8) -> Ticked
 {
     c.inputs = inputs;
     c.unstarted = false;
-    let kept = stepping::sample(c.set, c.gates, c.window, c.f, c.s, x);
+    let v = x.v;
+    let window = c.window.push(v);
+    let held = window.held;
+    let to = stepping::sample(
+        c.set,
+        c.gates,
+        c.window.held == 0,
+        &window.samples,
+        held,
+        c.f,
+        c.s,
+    );
     let start = channels::start_of(c.set, c.link, inputs);
     let runs = channels::runs_after(c.set, c.gates, inputs, c.runs);
-    let window = kept.window;
-    let f = kept.f;
+    let f = to.f;
     c.window = window;
     c.f = f;
-    c.s = kept.s;
+    c.s = to.s;
     c.runs = runs;
     match channels::reached(runs) {
         Watch::F14(channel) => faulted(Fault::F14(channel), c),

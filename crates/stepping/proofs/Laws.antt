@@ -1,16 +1,12 @@
 -- Laws that the proofs of the code cite. Assumes nothing.
 use mathlib.Core.Path.{_≡_, refl, ap, _∙_}
 use mathlib.Core.Bool.{Bool, false}
-use mathlib.Core.List.{[], _∷_}
+use mathlib.Core.List.{List, [], _∷_}
 use Prim.Native.Nat.{ℕ}
-use lib.Dec.{eqb}
 use lib.IntN.{ℤ, _-ℤ_}
-use lib.ListN.{length}
 use types.Run.{OneOf, miss}
 use denote.Enum.Declared.{tagOf}
 use Rattle.settings.specs.declared.Settings.{Settings}
-use Rattle.window.specs.Window.{pushOf}
-use Rattle.window.specs.declared.Window.{Window}
 use Rattle.dosing.proofs.Phase.{the-type as phase-type}
 use Rattle.dosing.specs.Rules.{units, stepOf}
 use Rattle.dosing.specs.declared.Units.{Units}
@@ -22,8 +18,7 @@ use Rattle.dosing.specs.declared.Moved.{Moved}
 use Rattle.channels.specs.Channels.{outputsOf}
 use Rattle.counters.specs.Counters.{countersAfter}
 use Rattle.counters.specs.declared.Counters.{Counters}
-use Rattle.scale.specs.Scale.{filtered, filterOf, calmRun, calmAfter, overCapacity, seenBy}
-use Rattle.scale.specs.Laws.{none-held}
+use Rattle.scale.specs.Scale.{filteredLent, filterOf, calmRun, calmAfter, overCapacity, seenBy}
 use Rattle.stepping.specs.Stepping.{sampledBy, sampleOf, atReady, unstartedOf, steppedBy, steppedOf}
 use Rattle.stepping.specs.declared.Sampled.{Sampled}
 use Rattle.stepping.specs.declared.Stepped.{Stepped}
@@ -44,14 +39,13 @@ not-ready (DoseFine wH) h = refl
 not-ready (DoseSettle wH n) h = refl
 
 -- what the parts of steps 4 and 5 give
-pub samples-so : (set : Settings) (gates : Gates) (window : Window) (previous : Units) (s : ℕ) (x : ℤ) {kept : Window} {n calm : ℕ} {f : Units} → length (window .samples) ≡ 128
-    → kept ≡ pushOf window x
+pub samples-so : (set : Settings) (gates : Gates) (first : Bool) (samples : List ℤ) (held : ℕ) (previous : Units) (s : ℕ) {n calm : ℕ} {f : Units}
     → n ≡ filterOf set gates
-    → f ≡ units (filtered kept n)
-    → calm ≡ calmRun (eqb (window .held) 0) (f .v) (previous .v) s
-    → _≡_ {A = Sampled} (record { window = kept; f = f; s = calm }) (sampleOf set gates window previous s x)
+    → f ≡ units (filteredLent samples held n)
+    → calm ≡ calmRun first (f .v) (previous .v) s
+    → _≡_ {A = Sampled} (record { f = f; s = calm }) (sampleOf set gates first samples held previous s)
 unfolding sampleOf sampledBy
-samples-so set gates window previous s x l w p m k = rw (k, m, p, w, none-held window l)
+samples-so set gates first samples held previous s p m k = rw (k, m, p)
 
 -- what the parts of steps 7 and 8 give
 pub steps-so : (set : Settings) (began : Phase) (f z : Units) (s : ℕ) (gates : Gates) (n : Counters) (start : Bool) {t : Seen} {m : Moved} {unstarted alarm : Bool} {calm outputs : ℕ} {after : Counters}

@@ -1,10 +1,9 @@
 -- Steps 4 and 5 and steps 7 and 8 of a tick (document 01, "One tick"), by their parts. Assumes nothing.
 use mathlib.Core.Bool.{Bool, true, false, not, _&&_}
+use mathlib.Core.List.{List}
 use Prim.Native.Nat.{ℕ}
 use lib.IntN.{ℤ, _-ℤ_}
 use Rattle.settings.specs.declared.Settings.{Settings}
-use Rattle.window.specs.Window.{samplesOf, pushOf}
-use Rattle.window.specs.declared.Window.{Window}
 use Rattle.dosing.specs.Rules.{units, stepOf}
 use Rattle.dosing.specs.declared.Units.{Units}
 use Rattle.dosing.specs.declared.Gates.{Gates}
@@ -14,19 +13,19 @@ use Rattle.dosing.specs.declared.Moved.{Moved}
 use Rattle.channels.specs.Channels.{outputsOf}
 use Rattle.counters.specs.Counters.{countersAfter}
 use Rattle.counters.specs.declared.Counters.{Counters}
-use Rattle.scale.specs.Scale.{filtered, filterOf, none, calmRun, calmAfter, overCapacity, seenBy}
+use Rattle.scale.specs.Scale.{filteredLent, filterOf, calmRun, calmAfter, overCapacity, seenBy}
 use Rattle.stepping.specs.declared.Sampled.{Sampled}
 use Rattle.stepping.specs.declared.Stepped.{Stepped}
 
 -- ---- steps 4 and 5
 
--- the samples held, with F, and S by the F before
-unfoldable pub sampledBy : Window → Bool → ℕ → ℤ → ℕ → Sampled
-sampledBy kept first n previous s = record { window = kept; f = units (filtered kept n); s = calmRun first (filtered kept n) previous s }
+-- F, and S by the F before
+unfoldable pub sampledBy : Bool → ℤ → ℤ → ℕ → Sampled
+sampledBy first mean previous s = record { f = units mean; s = calmRun first mean previous s }
 
--- The sample is kept. F is the mean of the last n samples; n is p7 if output 1 was open before the tick, else p8
-unfoldable pub sampleOf : Settings → Gates → Window → Units → ℕ → ℤ → Sampled
-sampleOf set gates window f s x = sampledBy (pushOf window x) (none (samplesOf window)) (filterOf set gates) (f .v) s
+-- F is the mean of the last n samples of those lent; n is p7 if output 1 was open before the tick, else p8
+unfoldable pub sampleOf : Settings → Gates → Bool → List ℤ → ℕ → Units → ℕ → Sampled
+sampleOf set gates first samples held f s = sampledBy first (filteredLent samples held (filterOf set gates)) (f .v) s
 
 -- ---- step 7
 

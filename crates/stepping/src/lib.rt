@@ -5,14 +5,12 @@ use dosing::Gates;
 use dosing::Phase;
 use dosing::Units;
 use settings::Settings;
-use window::Window;
 ghost use mathlib.Core.Path.{_≡_};
 ghost use Rattle.stepping.specs.Stepping.{unstartedOf};
 ghost use Rattle.stepping.specs.Says.{Rests, Samples, Steps};
 
-// What steps 4 and 5 make of a sample: the samples held, F and S.
+// What steps 4 and 5 make of the samples held: F and S.
 pub struct Sampled {
-    pub window: Window,
     pub f: Units,
     pub s: u32,
 }
@@ -32,21 +30,22 @@ pub struct Stepped {
     pub unstarted: bool,
 }
 
-// Steps 4 and 5: the sample is kept; F by the gates before the tick, and S.
-pub fn sample(set: Settings, gates: Gates, window: Window, f: Units, s: u32, x: Units) -> Sampled
-    ensures { λ r. ⌜ Samples set gates window f s x r ⌝ }
+// Steps 4 and 5 once the sample is kept: F of the samples lent, by the gates before the tick, and S, which is 0 on the first sample.
+pub fn sample(
+    set: Settings,
+    gates: Gates,
+    first: bool,
+    samples: &[i32],
+    held: usize,
+    f: Units,
+    s: u32,
+) -> Sampled
+    ensures { λ r. ⌜ Samples set gates first (now (samples .entry)) held f s r ⌝ }
 {
-    let v = x.v;
-    let kept = window.push(v);
-    let held = kept.held;
     let n = scale::filter_of(set, gates);
-    let mean = scale::mean_lent(&kept.samples, held, n);
-    let calm = scale::calm_run(window.held == 0, mean, f, s);
-    Sampled {
-        window: kept,
-        f: mean,
-        s: calm,
-    }
+    let mean = scale::mean_lent(samples, held, n);
+    let calm = scale::calm_run(first, mean, f, s);
+    Sampled { f: mean, s: calm }
 }
 
 // The phase is Ready.
