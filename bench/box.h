@@ -1,20 +1,30 @@
-/* The box in C, from document 01: settings, restart, one tick, the counters. */
+/* The box in C, from documents 01 and 02: settings, restart, one tick, the counters. */
 #include <stdbool.h>
 #include <stdint.h>
 #include <string.h>
 
-enum { SETTINGS = 17 };
-enum { ALGORITHM, CAPACITY, DOSE, PC, PF, LEVEL, P7, P8, P9, P11, O, IN1, IN2, IN3, ADDRESS, SERIAL, POINT };
+enum { SETTINGS = 18, PLACES = 128 };
+enum { ALGORITHM, CAPACITY, DOSE, PC, PF, LEVEL, P7, P8, P9, P11, O, IN1, IN2, IN3, ADDRESS, SERIAL, POINT, PRODUCT };
+enum { COARSELY, FINELY };          /* the filters p7 and p8 */
 
 enum phase { READY, COARSE, FINE, HOLD, SETTLE, DISCHARGE, LOAD, CALM, DOSE_COARSE, DOSE_FINE, DOSE_SETTLE, FAULT };
 
+/* The samples that may still be the largest of a window, largest first, with their numbers: each one is put in once and
+   taken out once. Both filters share the queue; each has its own first, and the number of the sample that puts it out. */
+struct queue {
+    struct { int32_t value; uint32_t number; } at[PLACES];
+    uint32_t end, first[2], until[2];
+};
+
 struct box {
     uint32_t set[SETTINGS];
-    int32_t ring[128];              /* the last samples; `next` is the place of the next one */
-    uint32_t next, held;
+    int32_t ring[PLACES];           /* the last samples, by their number; 0 where there is none yet */
+    uint64_t samples;               /* how many came since the filter was emptied */
+    int32_t sum[2];                 /* of the last p7 and of the last p8; 128 samples of 900,000 fit an int */
+    struct queue high, low;         /* `low` has the samples with their signs turned */
     int32_t f, z, w;
     uint32_t calm, settling;        /* S, and the number of the tick in Settle or Calm */
-    uint32_t runs[3];
+    uint8_t runs[4], expected;      /* of three channels; the inputs 1 to 3 expected with all outputs closed */
     enum phase phase;
     int32_t w0, ws;                 /* w0 is wH in AL2 and AL3 */
     bool link, settled;
@@ -23,8 +33,8 @@ struct box {
     uint32_t count, total, amount;
 };
 
-static const uint32_t least[SETTINGS] = { 0, 1, 1, 0, 0, 1, 4, 4, 1, 0, 0, 0, 0, 0, 1, 0, 0 };
-static const uint32_t greatest[SETTINGS] = { 3, 99999, 99999, 99999, 99999, 99999, 128, 128, 63, 1, 1, 1, 1, 1, 127, 16777215, 3 };
+static const uint32_t least[SETTINGS] = { 0, 1, 1, 0, 0, 1, 4, 4, 1, 0, 0, 0, 0, 0, 1, 0, 0, 0 };
+static const uint32_t greatest[SETTINGS] = { 3, 99999, 99999, 99999, 99999, 99999, 128, 128, 63, 1, 1, 1, 1, 1, 127, 16777215, 3, 255 };
 
 /* The number of the first bad setting, from 1; 0 where all are good. */
 static unsigned bad_setting(const uint32_t *set)
@@ -49,14 +59,25 @@ static unsigned bad_setting(const uint32_t *set)
     return 0;
 }
 
+static void empty(struct queue *q)
+{
+    q->end = q->first[COARSELY] = q->first[FINELY] = 0;
+    q->until[COARSELY] = q->until[FINELY] = UINT32_MAX;
+}
+
 /* A set is taken: the filter is emptied, Z is 0, the runs are cleared. */
 static void take(struct box *b, const uint32_t *set)
 {
     memcpy(b->set, set, sizeof b->set);
-    b->next = b->held = 0;
+    memset(b->ring, 0, sizeof b->ring);
+    b->samples = 0;
+    b->sum[COARSELY] = b->sum[FINELY] = 0;
+    empty(&b->high);
+    empty(&b->low);
     b->f = b->z = 0;
     b->calm = 0;
     memset(b->runs, 0, sizeof b->runs);
+    b->expected = ~(set[IN1] | set[IN2] << 1 | set[IN3] << 2) & 7;
 }
 
 static void restart(struct box *b, const uint32_t *set, uint32_t count, uint32_t total)
@@ -67,53 +88,66 @@ static void restart(struct box *b, const uint32_t *set, uint32_t count, uint32_t
     b->total = total;
 }
 
-static void keep(struct box *b, int32_t sample)
+/* The first of a filter's window is put out. */
+static void drop(struct queue *q, int filter, const uint32_t *set)
 {
-    b->ring[b->next] = sample;
-    b->next = (b->next + 1) % 128;
-    if (b->held < 128)
-        b->held++;
+    q->until[filter] = q->at[++q->first[filter] % PLACES].number + set[P7 + filter];
 }
 
-struct seen { int32_t sum, high, low; };
-
-/* n samples more: sum, largest and smallest in one pass. 128 samples of 900,000 fit an int. */
-static struct seen see(struct seen t, const int32_t *samples, uint32_t n)
+/* One sample more; what each window has lost goes first. */
+static inline void enqueue(struct queue *q, int32_t value, uint32_t number, const uint32_t *set)
 {
-    for (uint32_t i = 0; i < n; i++) {
-        int32_t x = samples[i];
-        t.sum += x;
-        t.high = t.high < x ? x : t.high;
-        t.low = x < t.low ? x : t.low;
+    if (number == q->until[FINELY])
+        drop(q, FINELY, set);
+    if (number == q->until[COARSELY])
+        drop(q, COARSELY, set);
+    uint32_t end = q->end, first = q->first[FINELY];
+    while (end != first && q->at[(end - 1) % PLACES].value <= value)
+        end--;
+    q->at[end % PLACES].value = value;
+    q->at[end % PLACES].number = number;
+    q->end = end + 1;
+    if (end == first)
+        q->until[FINELY] = number + set[P8];
+    if ((int32_t)(end - q->first[COARSELY]) <= 0) {
+        q->first[COARSELY] = end;
+        q->until[COARSELY] = number + set[P7];
     }
-    return t;
 }
 
-/* The mean of the last n samples, of four or more without one largest and one smallest; a half away from zero. */
-static int32_t mean(const struct box *b, uint32_t n)
+static inline void keep(struct box *b, int32_t sample)
 {
-    if (n > b->held)
-        n = b->held;
-    uint32_t near = n < b->next ? n : b->next, far = n - near;
-    struct seen t = { 0, INT32_MIN, INT32_MAX };
-    t = see(see(t, b->ring + b->next - near, near), b->ring + 128 - far, far);
-    int32_t s = t.sum, d = n;
-    if (d >= 4) {
-        s -= t.high + t.low;
-        d -= 2;
+    uint32_t number = b->samples++;
+    b->sum[COARSELY] += sample - b->ring[(number - b->set[P7]) % PLACES];
+    b->sum[FINELY] += sample - b->ring[(number - b->set[P8]) % PLACES];
+    b->ring[number % PLACES] = sample;
+    enqueue(&b->high, sample, number, b->set);
+    enqueue(&b->low, -sample, number, b->set);
+}
+
+/* The mean of a filter's samples, of four or more without one largest and one smallest; a half away from zero. */
+static inline int32_t mean(const struct box *b, int filter)
+{
+    int32_t n = b->samples < b->set[P7 + filter] ? b->samples : b->set[P7 + filter];
+    int32_t s = b->sum[filter];
+    if (n >= 4) {
+        s -= b->high.at[b->high.first[filter] % PLACES].value - b->low.at[b->low.first[filter] % PLACES].value;
+        n -= 2;
     }
-    int32_t half = d / 2;
-    return s < 0 ? -((half - s) / d) : (half + s) / d;
+    int32_t half = n / 2;
+    return (s < 0 ? s - half : s + half) / n;
 }
 
 /* The lowest channel whose run of mismatches reached 64, else 0. */
 static unsigned mismatch(struct box *b)
 {
-    unsigned lowest = 0;
+    unsigned wrong = (b->inputs ^ b->outputs ^ b->expected) & 7, lowest = 0;
+    if (!wrong) {
+        memset(b->runs, 0, sizeof b->runs);
+        return 0;
+    }
     for (int i = 2; i >= 0; i--) {
-        bool output = b->outputs >> i & 1, input = b->inputs >> i & 1;
-        bool expected = b->set[IN1 + i] ? output : !output;
-        b->runs[i] = input == expected ? 0 : b->runs[i] + 1;
+        b->runs[i] = wrong >> i & 1 ? b->runs[i] + 1 : 0;
         if (b->runs[i] == 64)
             lowest = i + 1;
     }
@@ -247,7 +281,7 @@ static char phase_rule(struct box *b, bool start)
 }
 
 /* One tick: 'O', 'D', 'F' or 'R'. */
-static char tick(struct box *b, int32_t sample, uint32_t inputs)
+static inline char tick(struct box *b, int32_t sample, uint32_t inputs)
 {
     if (inputs > 15)
         return 'R';
@@ -256,9 +290,9 @@ static char tick(struct box *b, int32_t sample, uint32_t inputs)
     b->inputs = inputs;
     if (sample < -900000 || sample > 900000)
         return fail(b, 21, 0);
-    bool first = !b->held;
+    bool first = !b->samples;
     keep(b, sample);
-    int32_t f = mean(b, b->outputs & 1 ? b->set[P7] : b->set[P8]);
+    int32_t f = mean(b, b->outputs & 1 ? COARSELY : FINELY);
     if (first || f != b->f)
         b->calm = 0;
     else if (b->calm < 4032)

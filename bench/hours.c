@@ -1,25 +1,27 @@
 /* The hour program in C: one pass over the journal, one tally an hour, the hours of each hole marked. */
-#include <stdbool.h>
 #include "text.h"
 
 enum { ROOM = 65536, SPAN = 744, LAST_COUNT = 999999 };
 
 struct tally {
+    uint64_t sum;
     uint32_t doses;
     bool on, holed;
-    uint64_t sum;
 };
+
+struct line { uint64_t hour, count, amount; };
 
 static unsigned char in[ROOM + 2];
 static struct tally hours[SPAN];
 
 static void refuse(unsigned number, unsigned line)
 {
-    put('R');
-    put_field(number);
-    put_field(line);
-    put('\n');
-    flush();
+    unsigned char *o = out;
+    *o++ = 'R';
+    o = put_field(o, number);
+    o = put_field(o, line);
+    *o++ = '\n';
+    flush(o);
     _exit(0);
 }
 
@@ -32,97 +34,98 @@ static size_t read_all(void)
     return n;
 }
 
-/* The line at p: its letter, hour, count and amount; the place after its LF, or NULL. */
-static const unsigned char *line_at(const unsigned char *p, uint64_t *hour, uint64_t *count, uint64_t *amount)
+/* The line at p, with a product or without; the place after its LF, or NULL. */
+static inline const unsigned char *line_at(const unsigned char *p, bool products, struct line *l)
 {
     uint64_t other;
-    bool dose = *p == 'D';
-    if (!dose && *p != 'H')
+    if (*p == 'H')
+        return (p = field(p + 1, 9999999, &l->hour)) && *p == '\n' ? p + 1 : NULL;
+    if (*p != 'D' || !(p = field(p + 1, 9999999, &l->hour)) || !(p = field(p, LAST_COUNT, &l->count)) ||
+        !(p = field(p, 1800000, &l->amount)) || !(p = field(p, 1, &other)) || (products && !(p = field(p, 255, &other))))
         return NULL;
-    if (!(p = field(p + 1, 9999999, hour)))
-        return NULL;
-    if (dose) {
-        if (!(p = field(p, LAST_COUNT, count)))
-            return NULL;
-        if (!(p = field(p, 1800000, amount)))
-            return NULL;
-        if (!(p = field(p, 1, &other)))
-            return NULL;
-    }
     return *p == '\n' ? p + 1 : NULL;
 }
 
 /* By one, 0 after 999,999; a 1 is always allowed. */
-static bool follows(uint64_t before, uint64_t count)
+static inline bool follows(uint64_t before, uint64_t count)
 {
     return count == 1 || count == (before == LAST_COUNT ? 0 : before + 1);
 }
 
-static void put_hex(uint64_t bits)
+static unsigned char *put_bits(unsigned char *o, double number)
 {
-    for (int shift = 60; shift >= 0; shift -= 4)
-        put("0123456789ABCDEF"[bits >> shift & 15]);
+    uint64_t bits;
+    unsigned char bytes[8];
+    memcpy(&bits, &number, sizeof bits);
+    bits = __builtin_bswap64(bits);
+    memcpy(bytes, &bits, sizeof bytes);
+    return put_bytes(o, bytes, sizeof bytes);
 }
 
-static void put_hour(unsigned hour, const struct tally *t)
+static unsigned char *put_hour(unsigned char *o, unsigned hour, const struct tally *t)
 {
-    room();
-    put_number(hour);
-    put('\t');
+    o = put_number(room(o), hour);
+    *o++ = '\t';
     if (t->holed || !t->on) {
-        put('X');
+        *o++ = 'X';
     } else if (!t->doses) {
-        put('I');
+        *o++ = 'I';
     } else {
-        double mean = (double)t->sum / t->doses;
-        uint64_t bits;
-        memcpy(&bits, &mean, sizeof bits);
-        put('M');
-        put_field(t->doses);
-        put_field(t->sum);
-        put('\t');
-        put_hex(bits);
+        *o++ = 'M';
+        o = put_field(o, t->doses);
+        o = put_field(o, t->sum);
+        *o++ = '\t';
+        o = put_bits(o, (double)t->sum / t->doses);
     }
-    put('\n');
+    *o++ = '\n';
+    return o;
 }
 
 int main(void)
 {
     size_t n = read_all();
     const unsigned char *p = in, *end = in + n;
-    uint64_t hour = 0, first = 0, last = 0, count = 0, amount = 0;
-    uint64_t dose_hour = 0, dose_count = 0;
+    struct line l = { 0, 0, 0 };
+    uint64_t first = 0, last = 0, dose_hour = 0, dose_count = 0;
+    unsigned line = 0, before = 0;
     bool closed = false, dosed = false;
+    unsigned char *o = out;
     if (n > ROOM)
         refuse(13, 0);
-    for (unsigned line = 1; p < end; line++) {
+    if (n >= 4 && !memcmp(p, "V\t2\n", 4)) {
+        p += 4;
+        line = before = 1;
+    }
+    while (p < end) {
         bool dose = *p == 'D';
-        if (!(p = line_at(p, &hour, &count, &amount)))
+        line++;
+        if (!(p = line_at(p, before, &l)))
             refuse(10, line);
-        if (line == 1)
-            first = last = hour;
-        else if (hour < last || (closed && hour == last))
+        if (line == before + 1)
+            first = last = l.hour;
+        else if (l.hour < last || (closed && l.hour == last))
             refuse(11, line);
-        if (hour - first >= SPAN)
+        if (l.hour - first >= SPAN)
             refuse(12, line);
         if (dose) {
-            hours[hour - first].doses++;
-            hours[hour - first].sum += amount;
-            if (dosed && !follows(dose_count, count))
-                for (uint64_t h = dose_hour; h <= hour; h++)
+            hours[l.hour - first].doses++;
+            hours[l.hour - first].sum += l.amount;
+            if (dosed && !follows(dose_count, l.count))
+                for (uint64_t h = dose_hour; h <= l.hour; h++)
                     hours[h - first].holed = true;
             dosed = true;
-            dose_hour = hour;
-            dose_count = count;
+            dose_hour = l.hour;
+            dose_count = l.count;
         } else {
-            hours[hour - first].on = true;
+            hours[l.hour - first].on = true;
         }
         closed = !dose;
-        last = hour;
+        last = l.hour;
     }
-    if (n)
-        for (hour = first; hour <= last; hour++)
-            put_hour(hour, &hours[hour - first]);
-    flush();
+    make_hex();
+    if (line > before)
+        for (uint64_t h = first; h <= last; h++)
+            o = put_hour(o, h, &hours[h - first]);
+    flush(o);
     return 0;
 }

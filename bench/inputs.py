@@ -11,17 +11,18 @@ import sys
 
 sys.path.insert(0, os.path.dirname(os.path.dirname(os.path.abspath(__file__))))
 
-from second import box, frames, hopper, journals
+from second import box, frames, hopper, journal, journals
 from second.refusal import Refused
 from second.settings import Settings
 
 SEED = 1
 TICKS = 1000000
+REQUESTS = 100000
 LINE = 1 << 19
 JOURNAL = 65536
 #                al       C    D   Pc  Pf    M p7  p8 p9 p11 o in    address serial point
-AL1 = Settings(1, 10000, 500, 100, 20, 50, 8, 64, 1, 0, 1, 1, 1, 1, 1, 0, 1)
-AL2 = Settings(2, 10000, 500, 100, 20, 3000, 8, 128, 1, 0, 0, 1, 0, 1, 1, 0, 1)
+AL1 = Settings(1, 10000, 500, 100, 20, 50, 8, 64, 1, 0, 1, 1, 1, 1, 1, 1193046, 1, 7)
+AL2 = Settings(2, 10000, 500, 100, 20, 3000, 8, 128, 1, 0, 0, 1, 0, 1, 1, 0, 1, 7)
 
 
 def ticks(s, number):
@@ -40,10 +41,18 @@ def ticks(s, number):
         yield sample, inputs
 
 
-def as_calls(s, ticks):
-    lines = ['\t'.join(map(str, ('N', *s, 0, 0)))]
-    lines += ['T\t%d\t%d' % tick for tick in ticks]
-    return ('\n'.join(lines) + '\n').encode()
+def as_calls(s, calls):
+    """A restart, then the calls."""
+    return ('\n'.join(['\t'.join(map(str, ('N', *s, 0, 0))), *calls]) + '\n').encode()
+
+
+def as_ticks(ticks):
+    return ['T\t%d\t%d' % tick for tick in ticks]
+
+
+def recorded(s, ticks):
+    """The same ticks for `record`: the hour of the first one alone on a line, then the lines of `replay`."""
+    return b'480000\n' + as_calls(s, as_ticks(ticks))
 
 
 def frame(rng):
@@ -53,8 +62,8 @@ def frame(rng):
     return frames.write(body, 600)
 
 
-def damaged(rng):
-    sent = bytearray(frame(rng))
+def damaged(rng, made=frame):
+    sent = bytearray(made(rng))
     sent[rng.randrange(len(sent))] = rng.randrange(256)
     return bytes(sent)
 
@@ -63,28 +72,40 @@ def over_long(rng):
     return b'\xFF\x01' + bytes(rng.randrange(255) for _ in range(rng.randint(255, 600))) + b'\xFF\xFF'
 
 
-def asked(rng):
-    """A request to the box of AL1, by its address or its serial, now and then for another or not known."""
-    address = rng.choice([b'\1'] * 6 + [b'\0\0\0\0'] * 2 + [b'\2'])
-    return frames.write(address + bytes([rng.choice([0xC2, 0xC3, 0xC3, 0xC3, 0xC4, 0xC5, 0xC0, 0xC1])]), 64)
-
-
-def line(size):
-    """The bytes of a line as calls: six frames of ten are requests (B), the others are read (X): good,
-    damaged, over-long or no frame at all. Behind a request there may be a tick."""
+def frame_lines(size):
+    """The bytes of a line, frame by frame: good, damaged, over-long or no frame at all."""
     rng = random.Random(SEED)
-    lines, sent = ['\t'.join(map(str, ('N', *AL1, 0, 0)))], 0
+    lines, sent = [], 0
     while sent < size:
-        if rng.random() < 0.6:
-            data = asked(rng)
-            lines.append('B\t%s\t32' % data.hex().upper())
-            if rng.random() < 0.1:
-                lines.append('T\t%d\t0' % rng.randint(-60, 60))
-        else:
-            data = rng.choice([frame] * 12 + [damaged] * 2 + [over_long, lambda r: r.randbytes(9)])(rng)
-            lines.append('X\t' + data.hex().upper())
+        data = rng.choice([frame] * 12 + [damaged] * 2 + [over_long, lambda r: r.randbytes(9)])(rng)
+        lines.append('X\t' + data.hex().upper())
         sent += len(data)
-    return ('\n'.join(lines) + '\n').encode()
+    return lines
+
+
+def asked(rng):
+    """A request to the box of AL1 by its address or its serial, now and then to another box, by another code or with data."""
+    address = rng.choice([b'\1'] * 6 + [b'\0\x56\x34\x12'] * 4 + [b'\2'])
+    code = rng.choice([0xC2, 0xC3, 0xC3, 0xC3, 0xC4, 0xC5, 0xC0, 0xC1])
+    return frames.write(address + bytes([code]) + rng.choice([b''] * 9 + [b'\7']), 64)
+
+
+def noisy(rng):
+    return rng.randbytes(rng.randint(1, 20)) + asked(rng)
+
+
+def junk(rng):
+    return rng.randbytes(rng.randint(1, 40))
+
+
+def requests(number):
+    """The ticks of a box whose window is full, then requests: good ones of both address forms, damaged, behind noise, and junk."""
+    rng = random.Random(SEED)
+    lines = as_ticks((rng.randint(-60, 60), 0) for _ in range(128))
+    for _ in range(number):
+        data = rng.choice([asked] * 7 + [noisy, lambda r: damaged(r, asked), junk])(rng)
+        lines.append('B\t%s\t%d' % (data.hex().upper(), rng.choice([8, 17, 32, 64])))
+    return lines
 
 
 def dose(rng, hour, count):
@@ -130,24 +151,42 @@ def one_hole(size):
     return b''.join(before) + between[:-len(last)] + b''.join(behind) + last
 
 
+def products(size):
+    """As much of that month as fits in the new form: the V line, and one of two products at the end of each D line."""
+    rng = random.Random(SEED)
+    lines = [journal.V]
+    for line in month(size).splitlines(keepends=True):
+        if line[:1] == b'D':
+            line = line[:-1] + b'\t%d\n' % rng.choice([3, 7])
+        lines.append(line)
+    return journals.cut(lines, size)
+
+
 def one_hour(size):
     rng = random.Random(SEED)
     lines = [dose(rng, 123456, n) for n in range(size // 20)]
     return journals.cut(lines, size - 9) + journals.h(123456)
 
 
+HOURS = {'month': month, 'products': products, 'hour': one_hour, 'holes': holes, 'hole': one_hole}
+
+
 def made(name, tenth):
     size = lambda full: full // 10 if tenth else full
     program, kind = name.split('-')
     if program == 'hours':
-        return {'month': month, 'hour': one_hour, 'holes': holes, 'hole': one_hole}[kind](size(JOURNAL))
-    if kind == 'line':
-        return line(size(LINE))
+        return HOURS[kind](size(JOURNAL))
+    if kind == 'frames':
+        return as_calls(AL1, frame_lines(size(LINE)))
+    if kind == 'requests':
+        return as_calls(AL1, requests(size(REQUESTS)))
     s = {'al1': AL1, 'al2': AL2}[kind]
-    return as_calls(s, ticks(s, size(TICKS)))
+    if program == 'record':
+        return recorded(s, ticks(s, size(TICKS)))
+    return as_calls(s, as_ticks(ticks(s, size(TICKS))))
 
 
-NAMES = ['replay-al1', 'replay-al2', 'replay-line', 'hours-month', 'hours-hour', 'hours-holes', 'hours-hole']
+NAMES = ['replay-al1', 'replay-al2', 'record-al1', 'replay-requests', 'replay-frames'] + ['hours-' + kind for kind in HOURS]
 
 
 def main(folder):

@@ -1,4 +1,4 @@
-/* The line in C: the frame reader, one state machine that keeps the check byte up as the body grows, and the requests. */
+/* The line in C: the frame reader, which keeps the check byte up as the body grows, and the requests. */
 #include "box.h"
 
 struct found {
@@ -20,64 +20,54 @@ static void make_table(void)
     }
 }
 
-static bool grow(struct found *f, unsigned char b)
-{
-    if (f->len == sizeof f->body)
-        return false;
-    f->body[f->len++] = b;
-    f->check = table[f->check] ^ b;
-    return true;
-}
-
-static void begin(struct found *f, unsigned char b, size_t before)
-{
-    f->len = f->check = 0;
-    f->place = before;
-    grow(f, b);
-}
-
-/* The first finished body. */
+/* The first finished body; each byte is looked at once. */
 static void read_frame(struct found *f, const unsigned char *s, size_t n)
 {
-    enum { SEEK, LEAD, BODY, MARK } state = SEEK;
-    size_t lead = 0;
+    const unsigned char *p = s, *end = s + n, *lead;
+    unsigned len, check;
     f->finished = false;
-    for (size_t i = 0; i < n; i++) {
-        unsigned char b = s[i];
-        switch (state) {
-        case SEEK:
-            if (b == 0xFF)
-                state = LEAD, lead = i;
+seek:
+    if (!(p = memchr(p, 0xFF, end - p))) {
+        f->place = n;
+        return;
+    }
+    lead = p++;
+    for (;; p++) {
+        if (p == end) {
+            f->place = lead - s;
+            return;
+        }
+        if (*p == 0xFF)
+            lead = p;
+        else if (*p != 0xFE)
             break;
-        case LEAD:
-            if (b == 0xFF)
-                lead = i;
-            else if (b != 0xFE)
-                begin(f, b, lead), state = BODY;
-            break;
-        case BODY:
-            if (b == 0xFF)
-                state = MARK;
-            else if (!grow(f, b))
-                state = SEEK;
-            break;
-        case MARK:
-            if (b == 0xFF) {
+    }
+begin:
+    len = check = 0;
+    while (p < end) {
+        unsigned char b = *p++;
+        if (b == 0xFF) {
+            if (p == end)
+                break;
+            if (*p == 0xFF) {
                 f->finished = true;
-                f->place = i;
+                f->place = p - s;
+                f->len = len;
+                f->check = check;
                 return;
             }
-            if (b == 0xFE)
-                state = grow(f, 0xFF) ? BODY : SEEK;
-            else
-                begin(f, b, i - 1), state = BODY;
-            break;
+            if (*p != 0xFE) {
+                lead = p - 1;
+                goto begin;
+            }
+            p++;
         }
+        if (len == sizeof f->body)
+            goto seek;
+        f->body[len++] = b;
+        check = table[check] ^ b;
     }
-    if (state == SEEK)
-        f->place = n;
-    else if (state == LEAD)
-        f->place = lead;
+    f->place = lead - s;
 }
 
 /* A body under 3 bytes (6 if extended), or whose check is not 0. */
@@ -115,16 +105,16 @@ static unsigned char bcd(uint32_t n)
     return n / 10 % 10 << 4 | n % 10;
 }
 
-/* Weight and CON by the last n samples; while none is held weight and both flags are 0. */
-static void put_weight(const struct box *b, uint32_t n, unsigned char *data)
+/* Weight and CON by a filter; while no sample is held weight and both flags are 0. */
+static void put_weight(const struct box *b, int filter, unsigned char *data)
 {
-    int32_t w = b->held ? mean(b, n) - b->z : 0;
+    int32_t w = b->samples ? mean(b, filter) - b->z : 0;
     uint32_t size = w < 0 ? -w : w;
     bool over = w > (int32_t)b->set[CAPACITY] + 9;
     data[0] = bcd(size);
     data[1] = bcd(size / 100);
     data[2] = bcd(size / 10000);
-    data[3] = (w < 0) << 7 | (b->held && stable(b)) << 4 | over << 3 | b->set[POINT];
+    data[3] = (w < 0) << 7 | (b->samples && stable(b)) << 4 | over << 3 | b->set[POINT];
 }
 
 /* Why a C0 is refused, or 0. */
@@ -133,9 +123,9 @@ static unsigned no_zeroing(const struct box *b)
     int32_t level = b->set[LEVEL];
     if (b->phase != READY)
         return 3;
-    if (b->set[ALGORITHM] > 1 || !b->held)
+    if (b->set[ALGORITHM] > 1 || !b->samples)
         return 4;
-    int32_t f = mean(b, b->set[P8]);
+    int32_t f = mean(b, FINELY);
     return -level < f && f < level ? 0 : 4;
 }
 
@@ -155,8 +145,8 @@ static unsigned request(struct box *b, const struct found *f, size_t room, unsig
         if ((why = no_zeroing(b)))
             return why;
         break;
-    case 0xC2: put_weight(b, b->set[P7], body + size); size += 4; break;
-    case 0xC3: put_weight(b, b->set[P8], body + size); size += 4; break;
+    case 0xC2: put_weight(b, COARSELY, body + size); size += 4; break;
+    case 0xC3: put_weight(b, FINELY, body + size); size += 4; break;
     case 0xC4: body[size++] = b->inputs; break;
     case 0xC5: body[size++] = b->outputs; break;
     default: return 7;
@@ -165,7 +155,7 @@ static unsigned request(struct box *b, const struct found *f, size_t room, unsig
     if (n > room)
         return 8;
     if (code == 0xC0)
-        b->z = mean(b, b->set[P8]);
+        b->z = mean(b, FINELY);
     memcpy(reply, frame, *len = n);
     return 0;
 }

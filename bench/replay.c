@@ -1,238 +1,202 @@
-/* The calls T, L, S, C, Q, N, B and X of `replay` in C, each line parsed in one pass; any other letter is answered ?. */
-#define _GNU_SOURCE
-#include "line.h"
-#include "text.h"
+/* The calls T, L, S, C, Q, N, B and X of `replay` in C; any other letter is answered ?. */
+#include "calls.h"
 
-enum { BLOCK = 65536, LONGEST = 4096 };
-
-static struct box box;
-
-static void fresh(void)
+static inline unsigned char *answer(unsigned char *o, char letter)
 {
-    static const uint32_t set[SETTINGS] = { 0, 10000, 100, 0, 0, 100, 4, 4, 1, 0, 0, 0, 0, 0, 1, 0, 0 };
-    restart(&box, set, 0, 0);
+    *o++ = letter;
+    *o++ = '\n';
+    return o;
 }
 
-static void answer(char letter)
+static unsigned char *unknown(unsigned char *o)
 {
-    put(letter);
-    put('\n');
+    return answer(o, '?');
 }
 
-static void refused(unsigned number)
+static unsigned char *refused(unsigned char *o, unsigned number)
 {
-    put('R');
-    put_field(number);
-    put('\n');
+    *o++ = 'R';
+    o = put_field(o, number);
+    *o++ = '\n';
+    return o;
 }
 
-static void bad_row(unsigned row)
+static unsigned char *bad_row(unsigned char *o, unsigned row)
 {
-    put('R');
-    put_field(2);
-    put_field(row);
-    put('\n');
+    *o++ = 'R';
+    o = put_field(o, 2);
+    o = put_field(o, row);
+    *o++ = '\n';
+    return o;
 }
 
-static const unsigned char *sample_at(const unsigned char *p, int32_t *sample)
-{
-    uint64_t v;
-    bool negative;
-    if (*p++ != '\t')
-        return NULL;
-    negative = *p == '-';
-    if (!(p = number(p + negative, INT32_MAX + (uint64_t)negative, &v)) || (negative && !v))
-        return NULL;
-    *sample = negative ? -(int64_t)v : (int64_t)v;
-    return p;
-}
-
-static const unsigned char *numbers_at(const unsigned char *p, uint32_t *values, int n)
-{
-    uint64_t v;
-    for (int i = 0; i < n; i++) {
-        if (!(p = field(p, UINT32_MAX, &v)))
-            return NULL;
-        values[i] = v;
-    }
-    return p;
-}
-
-static const unsigned char *on_tick(const unsigned char *p)
+static inline const unsigned char *on_tick(const unsigned char *p, unsigned char **to)
 {
     int32_t sample;
     uint64_t inputs;
-    if (!(p = sample_at(p, &sample)) || !(p = field(p, 255, &inputs)) || *p != '\n')
+    unsigned char *o = *to;
+    if (!(p = tick_at(p, &sample, &inputs)))
         return NULL;
     char kind = tick(&box, sample, inputs);
-    put(kind);
+    *o++ = kind;
     switch (kind) {
     case 'O':
-        put_field(box.outputs);
+        o = put_field(o, box.outputs);
         break;
     case 'D':
-        put_field(box.outputs);
-        put_field(box.count);
-        put_field(box.amount);
-        put_field(box.settled);
+        o = put_field(o, box.outputs);
+        o = put_field(o, box.count);
+        o = put_field(o, box.amount);
+        o = put_field(o, box.settled);
+        o = put_field(o, box.set[PRODUCT]);
         break;
     case 'F':
-        put_field(box.fault);
-        put_field(box.channel);
+        o = put_field(o, box.fault);
+        o = put_field(o, box.channel);
         break;
     case 'R':
-        put_field(1);
+        o = put_field(o, 1);
         break;
     }
-    put('\n');
+    *o++ = '\n';
+    *to = o;
     return p;
 }
 
-static const unsigned char *on_link(const unsigned char *p)
+static const unsigned char *on_link(const unsigned char *p, unsigned char **o)
 {
     uint64_t on;
-    if (!(p = field(p, 1, &on)) || *p != '\n')
+    if (!(p = link_at(p, &on)))
         return NULL;
     box.link = on;
-    answer('A');
+    *o = answer(*o, 'A');
     return p;
 }
 
-static const unsigned char *on_settings(const unsigned char *p)
+static const unsigned char *on_settings(const unsigned char *p, unsigned char **o)
 {
-    uint32_t set[SETTINGS];
+    uint32_t set[SETTINGS], none[1];
     unsigned row;
-    if (!(p = numbers_at(p, set, SETTINGS)) || *p != '\n')
+    if (!(p = set_at(p, set, none, 0)))
         return NULL;
     if (box.phase != READY) {
-        refused(3);
+        *o = refused(*o, 3);
     } else if ((row = bad_setting(set))) {
-        bad_row(row);
+        *o = bad_row(*o, row);
     } else {
         take(&box, set);
-        answer('A');
+        *o = answer(*o, 'A');
     }
     return p;
 }
 
-static const unsigned char *on_restart(const unsigned char *p)
+static const unsigned char *on_restart(const unsigned char *p, unsigned char **o)
 {
-    uint32_t v[SETTINGS + 2];
+    uint32_t set[SETTINGS], stored[2];
     unsigned row;
-    if (!(p = numbers_at(p, v, SETTINGS + 2)) || *p != '\n')
+    if (!(p = set_at(p, set, stored, 2)))
         return NULL;
-    if ((row = bad_setting(v))) {
-        bad_row(row);
-    } else if (v[SETTINGS] > 999999 || v[SETTINGS + 1] > 999999999) {
-        refused(15);
+    if ((row = bad_setting(set))) {
+        *o = bad_row(*o, row);
+    } else if (stored[0] > 999999 || stored[1] > 999999999) {
+        *o = refused(*o, 15);
     } else {
-        restart(&box, v, v[SETTINGS], v[SETTINGS + 1]);
-        answer('A');
+        restart(&box, set, stored[0], stored[1]);
+        *o = answer(*o, 'A');
     }
     return p;
 }
 
-static const unsigned char *on_reset(const unsigned char *p)
+static const unsigned char *on_reset(const unsigned char *p, unsigned char **o)
 {
-    if (*p != '\n')
+    if (!(p = nothing_at(p)))
         return NULL;
     if (box.phase != READY) {
-        refused(3);
+        *o = refused(*o, 3);
     } else {
         box.count = box.total = 0;
-        answer('A');
+        *o = answer(*o, 'A');
     }
     return p;
 }
 
-static const unsigned char *on_counters(const unsigned char *p)
+static unsigned char *put_two(unsigned char *o, char letter, uint64_t first, uint64_t second)
 {
-    if (*p != '\n')
+    *o++ = letter;
+    o = put_field(o, first);
+    return put_field(o, second);
+}
+
+static const unsigned char *on_counters(const unsigned char *p, unsigned char **o)
+{
+    if (!(p = nothing_at(p)))
         return NULL;
-    put('Q');
-    put_field(box.count);
-    put_field(box.total);
-    put('\n');
+    *o = put_two(*o, 'Q', box.count, box.total);
+    *(*o)++ = '\n';
     return p;
 }
 
-static const unsigned char *bytes_at(const unsigned char *p, unsigned char *bytes, size_t *n)
+static const unsigned char *on_frame(const unsigned char *p, unsigned char **to)
 {
-    if (*p++ != '\t')
-        return NULL;
-    for (*n = 0; *p != '\t' && *p != '\n'; p += 2) {
-        int high = hex_value(p[0]), low = high < 0 ? -1 : hex_value(p[1]);
-        if (low < 0)
-            return NULL;
-        bytes[(*n)++] = high << 4 | low;
-    }
-    return p;
-}
-
-static void put_place(char letter, uint64_t first, uint64_t second)
-{
-    put(letter);
-    put_field(first);
-    put_field(second);
-}
-
-static const unsigned char *on_frame(const unsigned char *p)
-{
-    static unsigned char bytes[LONGEST];
     static struct found found;
+    unsigned char *o = *to;
     size_t n;
-    if (!(p = bytes_at(p, bytes, &n)) || *p != '\n')
+    if (!(p = frame_at(p, &n)))
         return NULL;
     read_frame(&found, bytes, n);
     if (!found.finished) {
-        put_place('R', 9, found.place);
+        o = put_two(o, 'R', 9, found.place);
     } else if (bad_body(&found)) {
-        put_place('R', 6, found.place);
+        o = put_two(o, 'R', 6, found.place);
     } else {
-        put_place('P', found.place, found.len);
-        put_bytes(found.body, found.len);
+        o = put_two(o, 'P', found.place, found.len);
+        *o++ = '\t';
+        o = put_bytes(o, found.body, found.len);
     }
-    put('\n');
+    *o++ = '\n';
+    *to = o;
     return p;
 }
 
-static const unsigned char *on_request(const unsigned char *p)
+static const unsigned char *on_request(const unsigned char *p, unsigned char **to)
 {
-    static unsigned char bytes[LONGEST], reply[64];
+    static unsigned char reply[64];
     static struct found found;
+    unsigned char *o = *to;
     uint64_t room;
     size_t n, len;
-    if (!(p = bytes_at(p, bytes, &n)) || !(p = field(p, sizeof reply, &room)) || *p != '\n')
+    if (!(p = request_at(p, &n, &room)))
         return NULL;
     memset(reply, 0xA5, room);
     read_frame(&found, bytes, n);
     unsigned why = !found.finished ? 9 : bad_body(&found) ? 6 : request(&box, &found, room, reply, &len);
     if (why)
-        put_place('R', why, found.place);
+        o = put_two(o, 'R', why, found.place);
     else
-        put_place('P', found.place, len);
-    put_bytes(reply, room);
-    put('\n');
+        o = put_two(o, 'P', found.place, len);
+    *o++ = '\t';
+    o = put_bytes(o, reply, room);
+    *o++ = '\n';
+    *to = o;
     return p;
 }
 
-/* Answers the line at p, which has its LF; the place after it. */
-static const unsigned char *line(const unsigned char *p)
+/* Answers the line at p; the place after it. */
+static const unsigned char *answered(const unsigned char *p, unsigned char **o)
 {
     const unsigned char *end = NULL;
-    room();
     switch (*p) {
-    case 'T': end = on_tick(p + 1); break;
-    case 'L': end = on_link(p + 1); break;
-    case 'S': end = on_settings(p + 1); break;
-    case 'N': end = on_restart(p + 1); break;
-    case 'C': end = on_reset(p + 1); break;
-    case 'Q': end = on_counters(p + 1); break;
-    case 'B': end = on_request(p + 1); break;
-    case 'X': end = on_frame(p + 1); break;
+    case 'T': end = on_tick(p + 1, o); break;
+    case 'L': end = on_link(p + 1, o); break;
+    case 'S': end = on_settings(p + 1, o); break;
+    case 'N': end = on_restart(p + 1, o); break;
+    case 'C': end = on_reset(p + 1, o); break;
+    case 'Q': end = on_counters(p + 1, o); break;
+    case 'B': end = on_request(p + 1, o); break;
+    case 'X': end = on_frame(p + 1, o); break;
     }
     if (!end) {
-        answer('?');
+        *o = unknown(*o);
         end = rawmemchr(p, '\n');
     }
     return end + 1;
@@ -240,31 +204,9 @@ static const unsigned char *line(const unsigned char *p)
 
 int main(void)
 {
-    static unsigned char in[BLOCK];
-    size_t held = 0;
-    ssize_t got;
-    bool too_long = false;
     make_table();
+    make_hex();
     fresh();
-    while ((got = read(0, in + held, BLOCK - held)) > 0) {
-        const unsigned char *p = in, *end = in + held + got;
-        const unsigned char *last = memrchr(in, '\n', end - in);
-        if (last && too_long) {
-            room();
-            answer('?');
-            p = (unsigned char *)memchr(p, '\n', end - p) + 1;
-            too_long = false;
-        }
-        if (last)
-            while (p <= last)
-                p = line(p);
-        held = end - p;
-        if (held > LONGEST) {
-            too_long = true;
-            held = 0;
-        }
-        memmove(in, p, held);
-    }
-    flush();
+    flush(each_line(out, answered, unknown));
     return 0;
 }

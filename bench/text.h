@@ -1,83 +1,112 @@
-/* Text in and out for the C programs: blocks read and written whole, numbers by hand. */
+/* Text in and out for the C programs: blocks read and written whole, numbers and bytes by tables. */
+#define _GNU_SOURCE
+#include <stdbool.h>
+#include <stddef.h>
 #include <stdint.h>
 #include <string.h>
 #include <unistd.h>
 
-static unsigned char out[65536];
-static size_t out_len;
+enum { BLOCK = 65536, LONGEST = 4096, ANSWER = 1024 };
 
-static void flush(void)
+static unsigned char out[BLOCK];
+
+/* Writes what stands before o; the place to go on at. */
+static unsigned char *flush(unsigned char *o)
 {
-    size_t done = 0;
-    while (done < out_len) {
-        ssize_t n = write(1, out + done, out_len - done);
+    for (unsigned char *p = out; p < o;) {
+        ssize_t n = write(1, p, o - p);
         if (n <= 0)
             _exit(1);
-        done += n;
+        p += n;
     }
-    out_len = 0;
+    return out;
 }
 
-/* Room for one more line of answers. */
-static void room(void)
+/* Room for one more answer. */
+static inline unsigned char *room(unsigned char *o)
 {
-    if (sizeof out - out_len < 1024)
-        flush();
+    return o > out + sizeof out - ANSWER ? flush(o) : o;
 }
 
-static void put(char c)
+static unsigned digits_of(uint64_t n)
 {
-    out[out_len++] = c;
-}
-
-static void put_number(uint64_t n)
-{
-    unsigned char digits[20];
-    int k = 0;
-    do
-        digits[k++] = '0' + n % 10;
-    while (n /= 10);
-    while (k)
-        out[out_len++] = digits[--k];
-}
-
-static void put_field(uint64_t n)
-{
-    put('\t');
-    put_number(n);
-}
-
-/* A tab and bytes, two digits a byte. */
-static void put_bytes(const unsigned char *bytes, size_t n)
-{
-    static const char digits[] = "0123456789ABCDEF";
-    put('\t');
-    for (size_t i = 0; i < n; i++) {
-        put(digits[bytes[i] >> 4]);
-        put(digits[bytes[i] & 15]);
+    for (unsigned k = 1;; n /= 10000, k += 4) {
+        if (n < 10)
+            return k;
+        if (n < 100)
+            return k + 1;
+        if (n < 1000)
+            return k + 2;
+        if (n < 10000)
+            return k + 3;
     }
 }
 
-/* The value of an upper-case hexadecimal digit, or -1. */
-static inline int hex_value(unsigned char b)
+/* A number, two digits at a time, the last first. */
+static unsigned char *put_number(unsigned char *o, uint64_t n)
 {
-    return b >= '0' && b <= '9' ? b - '0' : b >= 'A' && b <= 'F' ? b - 'A' + 10 : -1;
+    static const char pairs[] =
+        "00010203040506070809101112131415161718192021222324252627282930313233343536373839404142434445464748495051525354555657585960616263646566676869707172737475767778798081828384858687888990919293949596979899";
+    unsigned char *end = o + digits_of(n), *p = end;
+    while (n >= 100) {
+        p -= 2;
+        memcpy(p, pairs + 2 * (n % 100), 2);
+        n /= 100;
+    }
+    if (n >= 10)
+        memcpy(p - 2, pairs + 2 * n, 2);
+    else
+        p[-1] = '0' + n;
+    return end;
 }
 
-/* A number without leading zeros, at most `most`; the place after it, or NULL. */
+static unsigned char *put_field(unsigned char *o, uint64_t n)
+{
+    *o++ = '\t';
+    if (n < 10) {
+        *o++ = '0' + n;
+        return o;
+    }
+    return put_number(o, n);
+}
+
+static char hex[256][2];            /* the two digits of each byte */
+static signed char value_of[256];   /* of an upper-case hexadecimal digit, else -1 */
+
+static void make_hex(void)
+{
+    static const char digit[] = "0123456789ABCDEF";
+    memset(value_of, -1, sizeof value_of);
+    for (int i = 0; i < 16; i++)
+        value_of[(unsigned char)digit[i]] = i;
+    for (int i = 0; i < 256; i++) {
+        hex[i][0] = digit[i >> 4];
+        hex[i][1] = digit[i & 15];
+    }
+}
+
+/* Bytes, two digits a byte. */
+static inline unsigned char *put_bytes(unsigned char *o, const unsigned char *bytes, size_t n)
+{
+    for (size_t i = 0; i < n; i++, o += 2)
+        memcpy(o, hex[bytes[i]], 2);
+    return o;
+}
+
+/* A number without leading zeros, at most `most`; the place after it, or NULL. Ten digits are enough for every `most`. */
 static inline const unsigned char *number(const unsigned char *p, uint64_t most, uint64_t *value)
 {
-    uint64_t v = *p++ - '0';
+    const unsigned char *start = p;
+    uint64_t v = (uint64_t)*p++ - '0', d;
     if (v > 9)
         return NULL;
     if (v)
-        while (*p >= '0' && *p <= '9') {
-            v = 10 * v + (*p++ - '0');
-            if (v > most)
-                return NULL;
+        while ((d = (uint64_t)*p - '0') < 10) {
+            v = 10 * v + d;
+            p++;
         }
     *value = v;
-    return v > most ? NULL : p;
+    return v > most || p - start > 10 ? NULL : p;
 }
 
 /* A tab and a number. */

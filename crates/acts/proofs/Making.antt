@@ -34,6 +34,7 @@ use Rattle.calls.proofs.Call.{the-type as call-type}
 use Rattle.calls.specs.Reads.{asCall}
 use Rattle.acts.specs.Acts.{Ask, event, nothing, blank, askOf, askBy, eventsIn, ticked, taken, cleared, restarted, replied, polled, saidAt, saidTo, leftAt, leftBy, lent}
 use Rattle.acts.specs.Makes.{saysAct, Makes, Acts, inUse, restart-kept}
+use Rattle.acts.specs.declared.Answer as declared
 use Rattle.acts.specs.declared.Answer.the-variants as A
 use Rattle.acts.specs.declared.Acted.{Acted}
 
@@ -143,22 +144,23 @@ acts-as {c} {a} {b} {old} {new} {r} e h = subst (λ (x : Ask). Acts c x old new 
 pub as-call : (most : ℕ) (bytes : List ℕ) {a b : read.Call} → a ≡ b → lent most (askBy (asCall bytes a)) ≡ lent most (askBy (asCall bytes b))
 as-call most bytes e = ap (λ (call : read.Call). lent most (askBy (asCall bytes call))) e
 
-pub acts-none : {c : Controller} {old : List ℕ} → Sound c → Acts c nothing old old (record { next = c; answer = A.Aside })
-unfolding eventsIn run saidTo saysAct leftBy
-acts-none s = record { makes = record { next = refl; says = refl; sound = s }; left = refl }
+-- the controller stays, and nothing is left in the buffer
+pub acts-still : {c : Controller} {ask : Ask} {old : List ℕ} {answer : declared.Answer} → run c (eventsIn ask) ≡ c → leftBy c ask old ≡ old → saysAct answer ≡ saidTo c ask → Sound c
+    → Acts c ask old old (record { next = c; answer = answer })
+acts-still e l says s = acts-made l (record { next = sym e; says = says; sound = s })
 
 -- the calls that need no box
-pub asks-nothing : (most : ℕ) (bytes : List ℕ) (call : read.Call) → OneOf (9 ∷ 10 ∷ 11 ∷ 12 ∷ 13 ∷ 14 ∷ 15 ∷ 16 ∷ 17 ∷ []) (tagOf call-type call) → lent most (askBy (asCall bytes call)) ≡ nothing
+pub asks-nothing : (most : ℕ) (bytes : List ℕ) (call : read.Call) → OneOf (9 ∷ 10 ∷ 11 ∷ 12 ∷ 13 ∷ 14 ∷ 15 ∷ 16 ∷ []) (tagOf call-type call) → lent most (askBy (asCall bytes call)) ≡ nothing
 unfolding lent askBy askOf asCall
-asks-nothing most bytes (C.Tick x i) h = absurd (miss (9 ∷ 10 ∷ 11 ∷ 12 ∷ 13 ∷ 14 ∷ 15 ∷ 16 ∷ 17 ∷ []) 0 tt h)
-asks-nothing most bytes (C.Link on) h = absurd (miss (9 ∷ 10 ∷ 11 ∷ 12 ∷ 13 ∷ 14 ∷ 15 ∷ 16 ∷ 17 ∷ []) 1 tt h)
-asks-nothing most bytes (C.Settings set) h = absurd (miss (9 ∷ 10 ∷ 11 ∷ 12 ∷ 13 ∷ 14 ∷ 15 ∷ 16 ∷ 17 ∷ []) 2 tt h)
-asks-nothing most bytes C.Reset h = absurd (miss (9 ∷ 10 ∷ 11 ∷ 12 ∷ 13 ∷ 14 ∷ 15 ∷ 16 ∷ 17 ∷ []) 3 tt h)
-asks-nothing most bytes C.Counters h = absurd (miss (9 ∷ 10 ∷ 11 ∷ 12 ∷ 13 ∷ 14 ∷ 15 ∷ 16 ∷ 17 ∷ []) 4 tt h)
-asks-nothing most bytes (C.Restart set count total) h = absurd (miss (9 ∷ 10 ∷ 11 ∷ 12 ∷ 13 ∷ 14 ∷ 15 ∷ 16 ∷ 17 ∷ []) 5 tt h)
-asks-nothing most bytes (C.Request n room) h = absurd (miss (9 ∷ 10 ∷ 11 ∷ 12 ∷ 13 ∷ 14 ∷ 15 ∷ 16 ∷ 17 ∷ []) 6 tt h)
-asks-nothing most bytes (C.Modbus n room) h = absurd (miss (9 ∷ 10 ∷ 11 ∷ 12 ∷ 13 ∷ 14 ∷ 15 ∷ 16 ∷ 17 ∷ []) 7 tt h)
-asks-nothing most bytes (C.Why k) h = absurd (miss (9 ∷ 10 ∷ 11 ∷ 12 ∷ 13 ∷ 14 ∷ 15 ∷ 16 ∷ 17 ∷ []) 8 tt h)
+asks-nothing most bytes (C.Tick x i) h = absurd (miss (9 ∷ 10 ∷ 11 ∷ 12 ∷ 13 ∷ 14 ∷ 15 ∷ 16 ∷ []) 0 tt h)
+asks-nothing most bytes (C.Link on) h = absurd (miss (9 ∷ 10 ∷ 11 ∷ 12 ∷ 13 ∷ 14 ∷ 15 ∷ 16 ∷ []) 1 tt h)
+asks-nothing most bytes (C.Settings set) h = absurd (miss (9 ∷ 10 ∷ 11 ∷ 12 ∷ 13 ∷ 14 ∷ 15 ∷ 16 ∷ []) 2 tt h)
+asks-nothing most bytes C.Reset h = absurd (miss (9 ∷ 10 ∷ 11 ∷ 12 ∷ 13 ∷ 14 ∷ 15 ∷ 16 ∷ []) 3 tt h)
+asks-nothing most bytes C.Counters h = absurd (miss (9 ∷ 10 ∷ 11 ∷ 12 ∷ 13 ∷ 14 ∷ 15 ∷ 16 ∷ []) 4 tt h)
+asks-nothing most bytes (C.Restart set count total) h = absurd (miss (9 ∷ 10 ∷ 11 ∷ 12 ∷ 13 ∷ 14 ∷ 15 ∷ 16 ∷ []) 5 tt h)
+asks-nothing most bytes (C.Request n room) h = absurd (miss (9 ∷ 10 ∷ 11 ∷ 12 ∷ 13 ∷ 14 ∷ 15 ∷ 16 ∷ []) 6 tt h)
+asks-nothing most bytes (C.Modbus n room) h = absurd (miss (9 ∷ 10 ∷ 11 ∷ 12 ∷ 13 ∷ 14 ∷ 15 ∷ 16 ∷ []) 7 tt h)
+asks-nothing most bytes (C.Why k) h = absurd (miss (9 ∷ 10 ∷ 11 ∷ 12 ∷ 13 ∷ 14 ∷ 15 ∷ 16 ∷ []) 8 tt h)
 asks-nothing most bytes (C.WriteFrame n room) h = refl
 asks-nothing most bytes (C.ReadFrame n) h = refl
 asks-nothing most bytes (C.WriteField v) h = refl
@@ -167,4 +169,4 @@ asks-nothing most bytes (C.WriteLine l room) h = refl
 asks-nothing most bytes (C.ReadLine f n) h = refl
 asks-nothing most bytes (C.Hour n k) h = refl
 asks-nothing most bytes (C.Hours n room) h = refl
-asks-nothing most bytes C.Unknown h = refl
+asks-nothing most bytes C.Unknown h = absurd (miss (9 ∷ 10 ∷ 11 ∷ 12 ∷ 13 ∷ 14 ∷ 15 ∷ 16 ∷ []) 17 tt h)

@@ -18,12 +18,13 @@ use Rattle.calls.specs.Call as calls
 
 -- ---- what a call asks of the box
 
--- an event of a series, the counters, why an output is as it is, or nothing
+-- an event of a series, the counters, why an output is as it is, or nothing; a line may be no call
 pub data Ask : Type 0 where
   event : Event → Ask
   counters : Ask
   why : ℕ → Ask
   nothing : Ask
+  unknown : Ask
 
 -- a buffer of `room` bytes, each byte A5 before the call
 unfoldable pub blank : ℕ → List ℕ
@@ -51,22 +52,17 @@ askOf (calls.hours s room) = nothing
 -- a line that is none of these calls nothing
 unfoldable pub askBy : Parsed Call → Ask
 askBy (good call rest) = askOf call
-askBy bad = nothing
+askBy bad = unknown
 
 -- ---- what it makes of the controller
 
+-- the events of what is asked: none, or one
 unfoldable pub eventsIn : Ask → List Event
 eventsIn (event e) = e ∷ []
 eventsIn counters = []
 eventsIn (why k) = []
 eventsIn nothing = []
-
--- the events of a call: none, or one
-unfoldable pub eventFor : Call → List Event
-eventFor call = eventsIn (askOf call)
-
-unfoldable pub madeOf : Controller → Call → Controller
-madeOf c call = run c (eventFor call)
+eventsIn unknown = []
 
 -- the controller in use after a line
 unfoldable pub madeBy : Controller → Parsed Call → Controller
@@ -85,6 +81,7 @@ pub data Said : Type 0 where
   polled : Answer ℕ → Said
   explained : Answer Cause → Said
   aside : Said
+  unread : Said
 
 unfoldable pub saidAt : Controller → Event → Said
 saidAt c (tick x i) = ticked (tickOf c x i .answer)
@@ -102,6 +99,7 @@ saidTo c counters = counted (c .counters)
 -- Why is that gate shut? It changes no state
 saidTo c (why k) = explained (whyOf c k)
 saidTo c nothing = aside
+saidTo c unknown = unread
 
 -- ---- what it leaves in a lent buffer
 
@@ -120,6 +118,7 @@ leftBy c (event e) old = leftAt c e old
 leftBy c counters old = old
 leftBy c (why k) old = old
 leftBy c nothing old = old
+leftBy c unknown old = old
 
 -- a reply has the room that its request asks for, at most what is lent
 unfoldable pub lentTo : ℕ → Event → Event
@@ -136,3 +135,4 @@ lent most (event e) = event (lentTo most e)
 lent most counters = counters
 lent most (why k) = why k
 lent most nothing = nothing
+lent most unknown = unknown

@@ -7,7 +7,7 @@ use Rattle.controller.specs.State.{restarted}
 use Rattle.controller.specs.Calls.{freshOf, linkOf}
 use Rattle.series.specs.Events.{request, eventOf, run, modbus}
 use Rattle.calls.specs.Call as calls
-use Rattle.acts.specs.Acts.{event, blank, askOf, askBy, eventsIn, madeBy, aside, counted, saidTo, leftBy, lentTo, lent}
+use Rattle.acts.specs.Acts.{event, blank, askOf, askBy, eventsIn, madeBy, aside, unread, counted, saidTo, leftBy, lentTo, lent}
 
 -- a line that is no call, the counters and a call that needs no box leave the controller; the link start is set
 pub made :
@@ -18,10 +18,10 @@ pub made :
 unfolding madeBy askBy askOf eventsIn run eventOf
 made = (refl, refl, refl, refl)
 
--- the counters are answered, a call that needs no box has no answer here
+-- the counters are answered, a call that needs no box and a line that is no call have no answer here
 pub said :
     (saidTo freshOf (askBy (good calls.counters [])) ≡ counted (record { count = 0; total = 0 }))
-    × (saidTo freshOf (askBy bad) ≡ aside)
+    × (saidTo freshOf (askBy bad) ≡ unread)
     × (saidTo freshOf (askBy (good (calls.hour [] 5) [])) ≡ aside)
 unfolding saidTo askBy askOf freshOf restarted
 said = (refl, refl, refl)

@@ -19,7 +19,7 @@ use Rattle.series.specs.Events.{run, request, modbus}
 use Rattle.calls.specs.declared.Call as read
 use Rattle.calls.specs.declared.Call.the-variants as C
 use Rattle.calls.specs.Reads.{asCall, Within}
-use Rattle.acts.specs.Acts.{Ask, event, blank, askOf, askBy, eventsIn, Said, ticked, linked, taken, cleared, counted, restarted, replied, polled, explained, aside, saidTo, leftBy, lentTo, lent}
+use Rattle.acts.specs.Acts.{Ask, event, blank, askOf, askBy, eventsIn, Said, ticked, linked, taken, cleared, counted, restarted, replied, polled, explained, aside, unread, saidTo, leftBy, lentTo, lent}
 use Rattle.acts.specs.declared.Answer as declared
 use Rattle.acts.specs.declared.Answer.the-variants as A
 use Rattle.acts.specs.declared.Acted.{Acted}
@@ -37,6 +37,7 @@ saysAct (A.Request a) = replied (saysReply a)
 saysAct (A.Modbus a) = polled (saysPoll a)
 saysAct (A.Why a) = explained (saysReason a)
 saysAct A.Aside = aside
+saysAct A.Unknown = unread
 
 -- ---- the contract
 
@@ -86,6 +87,7 @@ saidBack (replied a) = A.Request (replyBack a)
 saidBack (polled a) = A.Modbus (pollBack a)
 saidBack (explained a) = A.Why (reasonBack a)
 saidBack aside = A.Aside
+saidBack unread = A.Unknown
 
 said-back : (a : declared.Answer) → saidBack (saysAct a) ≡ a
 unfolding saidBack saysAct
@@ -99,6 +101,7 @@ said-back (A.Request a) = ap A.Request (reply-back a)
 said-back (A.Modbus a) = ap A.Modbus (poll-back a)
 said-back (A.Why a) = ap A.Why (reason-back a)
 said-back A.Aside = refl
+said-back A.Unknown = refl
 
 said-one : (a b : declared.Answer) → saysAct a ≡ saysAct b → a ≡ b
 said-one a b e = sym (said-back a) ∙ ap saidBack e ∙ said-back b

@@ -19,7 +19,7 @@ ghost use Rattle.calls.specs.Reads.{asCall};
 ghost use Rattle.acts.specs.Acts.{event, counters, why, askBy, blank, lent};
 ghost use Rattle.acts.specs.Makes.{inUse, Makes, Acts};
 
-// What a call of the box answers; a call that needs no box has no answer here.
+// What a call of the box answers; a call that needs no box and a line that is no call have no answer here.
 pub enum Answer {
     Tick(TickAnswer),
     Link,
@@ -31,6 +31,7 @@ pub enum Answer {
     Modbus(PollAnswer),
     Why(Reason),
     Aside,
+    Unknown,
 }
 
 // The controller in use after a call, and the answer.
@@ -197,6 +198,10 @@ pub fn act(c: Controller, call: Call, bytes: &[u8], reply: &mut [u8]) -> Acted
         Call::Request(n, room) => request(c, n, room, bytes, reply),
         Call::Modbus(n, room) => modbus(c, n, room, bytes, reply),
         Call::Why(output) => why(c, output),
+        Call::Unknown => Acted {
+            next: c,
+            answer: Answer::Unknown,
+        },
         _ => Acted {
             next: c,
             answer: Answer::Aside,

@@ -1,9 +1,7 @@
 // The text of an answer to a call of a script.
-mod boxed;
-mod causes;
-
 use acts::Answer;
 use calls::Call;
+use controller::TickAnswer;
 ghost use Prim.Native.Nat.{_≤_};
 ghost use lib.ListN.{length};
 
@@ -53,11 +51,16 @@ fn put_aside(out: &mut [u8], call: Call, bytes: &[u8], spare: &mut [u8]) -> usiz
 
 // The text of the answer to a call.
 fn put_answer(out: &mut [u8], call: Call, said: Answer, bytes: &[u8], spare: &mut [u8]) -> usize {
+    if let Answer::Tick(ticked) = said {
+        if let TickAnswer::Outputs(outputs) = ticked {
+            return boxed::put_outputs(out, outputs);
+        }
+    }
     match said {
         Answer::Aside => put_aside(out, call, bytes, spare),
         Answer::Request(_) => put_reply(out, call, said, spare),
         Answer::Modbus(_) => put_reply(out, call, said, spare),
-        Answer::Why(reason) => causes::line(out, reason),
+        Answer::Why(reason) => boxed::causes::line(out, reason),
         _ => pieces::line(out, boxed::words(said)),
     }
 }

@@ -1,11 +1,11 @@
--- What a request asks up to R7, and a reply (document 01, "On the line", R9, R6, R5, R7, R8). Assumes nothing.
+-- What a request asks up to R4, and a reply (document 01, "On the line", R9, R6, R5, R7, R3, R4, R8). Assumes nothing.
 use mathlib.Core.Bool.{Bool, _&&_, _||_}
 use mathlib.Core.List.{List, [], _∷_}
 use Prim.Native.Nat.{ℕ}
 use lib.Dec.{leb, eqb}
 use Rattle.laws.specs.Pick.{pick}
 use Rattle.paper.specs.Answer.{Answer, done, refused, told, onDone}
-use Rattle.paper.specs.Numbers.{R5, R7}
+use Rattle.paper.specs.Numbers.{R3, R4, R5, R7}
 use Rattle.field.specs.declared.Field.{Field}
 use Rattle.frame.specs.Frame.{frame, writeOf}
 use Rattle.frame.specs.Read.{Finished, readOf}
@@ -60,6 +60,14 @@ unfoldable pub askOf : ℕ → ℕ → List ℕ → Answer Asked
 askOf address serial s =
     onDone (heardOf s)
     (λ h. onDone (addressOf (h .0) (h .1 .form) address serial) (λ u. onDone (codeOf (h .0) (h .1)) (λ v. done (askedBy (h .0) (h .1)))))
+
+-- R3: C0 when not in Ready
+unfoldable pub timeOf : ℕ → Bool → Answer (Unit {0})
+timeOf place inTime = pick inTime (done tt) (refused R3 (place ∷ []))
+
+-- R4: C0 in AL2 or AL3, with no sample, or without -M < F < M
+unfoldable pub zeroOf : ℕ → Bool → Answer (Unit {0})
+zeroOf place may = pick may (done tt) (refused R4 (place ∷ []))
 
 -- ---- the reply
 

@@ -1,23 +1,28 @@
 -- What the stages say in the paper's words, the contract of each call, and that two results that both meet it are equal. Assumes nothing.
 use mathlib.Core.Path.{_≡_, refl, sym, ap, _∙_}
+use mathlib.Core.Bool.{Bool}
 use mathlib.Core.List.{List, [], _∷_}
 use Prim.Native.Nat.{ℕ, _≤_}
 use lib.Dec.{eqb}
 use lib.ListN.{length, take}
 use Rattle.laws.specs.Pick.{pick}
 use Rattle.paper.specs.Answer.{Answer, done, refused, fault, Fills, same, fills-one}
-use Rattle.paper.specs.Numbers.{R5, R6, R7, R8, R9, R14}
+use Rattle.paper.specs.Numbers.{R3, R4, R5, R6, R7, R8, R9, R14}
 use Rattle.frame.specs.declared.Found.{Found}
 use Rattle.frame.specs.declared.Found.the-variants as F
 use Rattle.message.specs.declared.Form.{Form}
 use Rattle.message.specs.declared.Parts.{Parts}
-use Rattle.asking.specs.Asking.{heardOf, addressOf, codeOf, replyOf}
+use Rattle.asking.specs.Asking.{heardOf, addressOf, codeOf, timeOf, zeroOf, replyOf}
 use Rattle.asking.specs.declared.Heard.{Heard}
 use Rattle.asking.specs.declared.Heard.the-variants as H
 use Rattle.asking.specs.declared.Addressed.{Addressed}
 use Rattle.asking.specs.declared.Addressed.the-variants as A
 use Rattle.asking.specs.declared.Coded.{Coded}
 use Rattle.asking.specs.declared.Coded.the-variants as C
+use Rattle.asking.specs.declared.Timed.{Timed}
+use Rattle.asking.specs.declared.Timed.the-variants as T
+use Rattle.asking.specs.declared.Zeroing.{Zeroing}
+use Rattle.asking.specs.declared.Zeroing.the-variants as Z
 use Rattle.asking.specs.declared.Reply.{Reply}
 use Rattle.asking.specs.declared.Data.{Data}
 use Rattle.asking.specs.declared.Sent.{Sent}
@@ -40,6 +45,14 @@ saysAddressed (A.R5 place) = refused R5 (place ∷ [])
 abbrev pub saysCoded : Coded → Answer (Unit {0})
 saysCoded C.Known = done tt
 saysCoded (C.R7 place) = refused R7 (place ∷ [])
+
+abbrev pub saysTimed : Timed → Answer (Unit {0})
+saysTimed T.Allowed = done tt
+saysTimed (T.R3 place) = refused R3 (place ∷ [])
+
+abbrev pub saysZeroing : Zeroing → Answer (Unit {0})
+saysZeroing Z.Allowed = done tt
+saysZeroing (Z.R4 place) = refused R4 (place ∷ [])
 
 abbrev pub saysSent : Sent → Answer ℕ
 saysSent (S.Frame n) = done n
@@ -75,6 +88,12 @@ Addresses place form address serial r = saysAddressed r ≡ addressOf place form
 
 abbrev pub Codes : ℕ → Parts → Coded → Type 0
 Codes place parts r = saysCoded r ≡ codeOf place parts
+
+abbrev pub Times : ℕ → Bool → Timed → Type 0
+Times place inTime r = saysTimed r ≡ timeOf place inTime
+
+abbrev pub Zeroes : ℕ → Bool → Zeroing → Type 0
+Zeroes place may r = saysZeroing r ≡ zeroOf place may
 
 abbrev pub Sends : Form → ℕ → Reply → List ℕ → List ℕ → Sent → Type 0
 Sends form operation holds old new r = Fills (saysSent r) (replyOf form operation holds (length old)) old new
@@ -123,6 +142,18 @@ coded-one C.Known (C.R7 q) e = cc
 coded-one (C.R7 p) C.Known e = cc
 coded-one (C.R7 p) (C.R7 q) e = cc
 
+pub timed-one : (a b : Timed) → saysTimed a ≡ saysTimed b → a ≡ b
+timed-one T.Allowed T.Allowed e = refl
+timed-one T.Allowed (T.R3 q) e = cc
+timed-one (T.R3 p) T.Allowed e = cc
+timed-one (T.R3 p) (T.R3 q) e = cc
+
+pub zeroing-one : (a b : Zeroing) → saysZeroing a ≡ saysZeroing b → a ≡ b
+zeroing-one Z.Allowed Z.Allowed e = refl
+zeroing-one Z.Allowed (Z.R4 q) e = cc
+zeroing-one (Z.R4 p) Z.Allowed e = cc
+zeroing-one (Z.R4 p) (Z.R4 q) e = cc
+
 pub sent-one : (a b : Sent) → saysSent a ≡ saysSent b → a ≡ b
 sent-one = back-one saysSent sentBack sent-back
 
@@ -134,6 +165,12 @@ address-determined place form address serial a b p q = addressed-one a b (same p
 
 pub code-determined : (place : ℕ) (parts : Parts) (a b : Coded) → Codes place parts a → Codes place parts b → a ≡ b
 code-determined place parts a b p q = coded-one a b (same p q)
+
+pub time-determined : (place : ℕ) (inTime : Bool) (a b : Timed) → Times place inTime a → Times place inTime b → a ≡ b
+time-determined place inTime a b p q = timed-one a b (same p q)
+
+pub zero-determined : (place : ℕ) (may : Bool) (a b : Zeroing) → Zeroes place may a → Zeroes place may b → a ≡ b
+zero-determined place may a b p q = zeroing-one a b (same p q)
 
 -- with the lent memory after the call
 pub reply-determined : (form : Form) (operation : ℕ) (holds : Reply) (old new new' : List ℕ) (a b : Sent)

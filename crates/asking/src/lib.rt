@@ -1,4 +1,4 @@
-// What a request on the line asks, stage by stage up to R7, and its reply; no controller and no settings.
+// What a request on the line asks, stage by stage up to R4, and its reply; no controller and no settings.
 use field::Field;
 use frame::Found;
 use frame::Wrote;
@@ -9,7 +9,7 @@ use message::Split;
 ghost use mathlib.Core.Path.{_≡_};
 ghost use Rattle.frame.specs.Says.{saysWrote};
 ghost use Rattle.asking.specs.Asking.{ours, replyBytes};
-ghost use Rattle.asking.specs.Says.{Hears, Addresses, Codes, Sends, Holds, unreadOf, unbuiltOf, saysSent};
+ghost use Rattle.asking.specs.Says.{Hears, Addresses, Codes, Times, Zeroes, Sends, Holds, unreadOf, unbuiltOf, saysSent};
 
 // The stage of R9 and R6: a finished body's parts, with the place of the second closing FF.
 pub enum Heard {
@@ -28,6 +28,18 @@ pub enum Addressed {
 pub enum Coded {
     Known,
     R7(usize),
+}
+
+// The stage of R3: C0 when not in Ready.
+pub enum Timed {
+    Allowed,
+    R3(usize),
+}
+
+// The stage of R4: what C0 asks of the samples.
+pub enum Zeroing {
+    Allowed,
+    R4(usize),
 }
 
 // What a reply holds beside the address form and the operation code.
@@ -109,6 +121,28 @@ pub fn code_stage(place: usize, parts: Parts) -> Coded
         return Coded::Known;
     }
     Coded::R7(place)
+}
+
+// R3: not in time.
+pub fn ready_stage(place: usize, timely: bool) -> Timed
+    ensures { λ r. ⌜ Times place timely r ⌝ }
+{
+    if timely {
+        Timed::Allowed
+    } else {
+        Timed::R3(place)
+    }
+}
+
+// R4: the samples do not allow it.
+pub fn zero_stage(place: usize, zeroable: bool) -> Zeroing
+    ensures { λ r. ⌜ Zeroes place zeroable r ⌝ }
+{
+    if zeroable {
+        Zeroing::Allowed
+    } else {
+        Zeroing::R4(place)
+    }
 }
 
 // No data, one byte, or the weight's three bytes and CON.

@@ -19,7 +19,7 @@ use Rattle.field.specs.Field.{four}
 use Rattle.text.specs.Scan.{TAB, onGood, fieldAt, expect}
 use Rattle.text.specs.ScanLaws.{expect-hit, expect-miss}
 use Rattle.calls.specs.Call.{Call, readField, isHex, hexValue, bytesAt, bytesField, fieldFrom, atEnd}
-use Rattle.calls.specs.Reading.{leadingBytes, carried, Asks}
+use Rattle.calls.specs.Reading.{leadingBytes, carried, Left, Asks}
 use Rattle.calls.specs.declared.Call as declared
 use Rattle.calls.proofs.Steps.{on-bad, on-on, at-on, from-byte}
 
@@ -47,9 +47,11 @@ both-at s p h =
     let z : p + 1 + 1 ≡ p + 2 = omega arith in
     from-byte s p (omega arith) ∙ ap (λ (r : List ℕ). getD s p 0 ∷ r) (from-byte s (p + 1) h ∙ ap (λ (i : ℕ). getD s (p + 1) 0 ∷ drop i s) z)
 
--- n bytes are counted, and those from place p on are the others
-abbrev pub Left : List ℕ → ℕ → ℕ → Type 0
-Left s p n = n + length (leadingBytes (drop p s)) ≡ length (carried s)
+-- two digits are a byte
+pub lead-two : (s : List ℕ) (p : ℕ) → p + 1 < length s → isHex (getD s p 0) ≡ true → isHex (getD s (p + 1) 0) ≡ true
+    → length (leadingBytes (drop p s)) ≡ suc (length (leadingBytes (drop (p + 2) s)))
+unfolding leadingBytes
+lead-two s p h e f = ap (λ (l : List ℕ). length (leadingBytes l)) (both-at s p h) ∙ ap length (pick-t _ _ _ (ap (λ (t : Bool). t && isHex (getD s (p + 1) 0)) e ∙ f))
 
 module _ (s : List ℕ) (p n : ℕ) (left : Left s p n) where
   counted : leadingBytes (drop p s) ≡ [] → n ≡ length (carried s)
@@ -68,11 +70,7 @@ module _ (s : List ℕ) (p n : ℕ) (left : Left s p n) where
     left-low e f = counted (ap leadingBytes (both-at s p h) ∙ pick-f _ _ _ (ap (λ (t : Bool). t && isHex (getD s (p + 1) 0)) e ∙ f))
 
     pub left-two : isHex (getD s p 0) ≡ true → isHex (getD s (p + 1) 0) ≡ true → Left s (p + 2) (n + 1)
-    unfolding leadingBytes
-    left-two e f =
-        let more : leadingBytes (drop p s) ≡ two (getD s p 0) (getD s (p + 1) 0) ∷ leadingBytes (drop (p + 2) s) =
-        ap leadingBytes (both-at s p h) ∙ pick-t _ _ _ (ap (λ (t : Bool). t && isHex (getD s (p + 1) 0)) e ∙ f) in
-        omega (arith, left, ap length more)
+    left-two e f = omega (arith, left, lead-two s p h e f)
 
 -- ---- the k-th of them
 

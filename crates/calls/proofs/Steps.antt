@@ -17,7 +17,7 @@ use Rattle.laws.specs.Over.{over, sets-over}
 use Rattle.text.specs.Scan.{onGood, expect, fieldAt, leads, Scans}
 use Rattle.text.specs.ScanLaws.{bad-good}
 use Rattle.text.specs.declared.Num.{Num}
-use Rattle.calls.specs.Call.{Call, settings, restart, greatest32, setWith, settingsFrom, restartFrom, atEnd, callBy, callOf}
+use Rattle.calls.specs.Call.{Call, greatest32, orLast, atEnd, callBy, callOf}
 use Rattle.calls.specs.Reads.{asCall, sizeOf, Within, bytesIn, readIn, Reads, known}
 use Rattle.calls.specs.Reading.{leadsSigned, ScansSigned, carried, Ended, Asks}
 use Rattle.calls.specs.declared.Signed.{Signed}
@@ -98,28 +98,16 @@ module _ {s : List ℕ} {rule : Parsed Call} where
   unfolding atEnd
   asked-last h a n w = record { reads = ap atEnd h ∙ a; carries = n; within = w }
 
--- ---- a product, or none where the line ends
+-- ---- a number more, or none where the line ends
 
-module _ (vs s : List ℕ) (next : ℕ) where
-  pub set-ends : length s ≤ next → settingsFrom vs (drop next s) ≡ good (settings (setWith vs 0)) []
-  unfolding settingsFrom
-  set-ends h = ap (settingsFrom vs) (drop-of-length-le s {i = next} h)
+module _ (without : Call) (behind : ℕ → Call) (s : List ℕ) (next : ℕ) where
+  pub last-none : length s ≤ next → orLast without behind (drop next s) ≡ good without []
+  unfolding orLast
+  last-none h = ap (orLast without behind) (drop-of-length-le s {i = next} h)
 
-  pub set-goes-on : next < length s → settingsFrom vs (drop next s) ≡ onGood (fieldAt greatest32 (drop next s)) (λ product rest. good (settings (setWith vs product)) rest)
-  unfolding settingsFrom
-  set-goes-on h =
-      let e = from-byte s next h in
-      ap (settingsFrom vs) e ∙ ap (λ (l : List ℕ). onGood (fieldAt greatest32 l) (λ product rest. good (settings (setWith vs product)) rest)) (sym e)
-
-  pub restart-ends : length s ≤ next → restartFrom vs (drop next s) ≡ good (restart (setWith vs 0) (getD vs 17 0) (getD vs 18 0)) []
-  unfolding restartFrom
-  restart-ends h = ap (restartFrom vs) (drop-of-length-le s {i = next} h)
-
-  pub restart-goes-on : next < length s → restartFrom vs (drop next s) ≡ onGood (fieldAt greatest32 (drop next s)) (λ total rest. good (restart (setWith vs (getD vs 17 0)) (getD vs 18 0) total) rest)
-  unfolding restartFrom
-  restart-goes-on h =
-      let e = from-byte s next h in
-      ap (restartFrom vs) e ∙ ap (λ (l : List ℕ). onGood (fieldAt greatest32 l) (λ total rest. good (restart (setWith vs (getD vs 17 0)) (getD vs 18 0) total) rest)) (sym e)
+  pub last-some : next < length s → orLast without behind (drop next s) ≡ onGood (fieldAt greatest32 (drop next s)) (λ n rest. good (behind n) rest)
+  unfolding orLast
+  last-some h = rw (from-byte s next h)
 
 -- ---- the answer to a whole line
 

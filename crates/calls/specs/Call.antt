@@ -130,21 +130,20 @@ setWith vs product =
       product = product;
     }
 
--- S SET: 17 settings and the product; a line that ends before the product has product 0
-unfoldable pub settingsFrom : List ℕ → List ℕ → Parsed Call
-settingsFrom vs [] = good (settings (setWith vs 0)) []
-settingsFrom vs (b ∷ bs) = onGood (fieldAt greatest32 (b ∷ bs)) (λ product rest. good (settings (setWith vs product)) rest)
+-- one number more, or none where the line ends
+unfoldable pub orLast : Call → (ℕ → Call) → List ℕ → Parsed Call
+orLast without behind [] = good without []
+orLast without behind (b ∷ bs) = onGood (fieldAt greatest32 (b ∷ bs)) (λ n rest. good (behind n) rest)
 
+-- S SET: 17 settings and the product; a line that ends before the product has product 0
 unfoldable pub settingsAt : List ℕ → Parsed Call
-settingsAt l = onGood (numbersField 17 l) settingsFrom
+settingsAt l = onGood (numbersField 17 l) (λ vs rest. orLast (settings (setWith vs 0)) (λ product. settings (setWith vs product)) rest)
 
 -- N SET count total; a line of one number less has no product: 17 settings with product 0, count and total
-unfoldable pub restartFrom : List ℕ → List ℕ → Parsed Call
-restartFrom vs [] = good (restart (setWith vs 0) (getD vs 17 0) (getD vs 18 0)) []
-restartFrom vs (b ∷ bs) = onGood (fieldAt greatest32 (b ∷ bs)) (λ total rest. good (restart (setWith vs (getD vs 17 0)) (getD vs 18 0) total) rest)
-
 unfoldable pub restartAt : List ℕ → Parsed Call
-restartAt l = onGood (numbersField 19 l) restartFrom
+restartAt l =
+    onGood (numbersField 19 l) (λ vs rest.
+    orLast (restart (setWith vs 0) (getD vs 17 0) (getD vs 18 0)) (λ total. restart (setWith vs (getD vs 17 0)) (getD vs 18 0) total) rest)
 
 -- B, M, W and j: bytes, and the room of a buffer; u: bytes, and an hour
 unfoldable pub roomAt : ℕ → (List ℕ → ℕ → Call) → List ℕ → Parsed Call

@@ -43,18 +43,29 @@ leadingBytes (a ∷ b ∷ l) = let more = (hexValue a * 16 + hexValue b) ∷ lea
 unfoldable pub carried : List ℕ → List ℕ
 carried s = leadingBytes (drop 2 s)
 
--- the call of a letter that takes bytes alone
-unfoldable pub aloneCall : ℕ → List ℕ → Call
-aloneCall letter bytes = pick (eqb letter 88) (readFrame bytes) (pick (eqb letter 108) (readLine Old bytes) (readLine New bytes))
+-- n bytes stand before place p, and those from there on are the others
+abbrev pub Left : List ℕ → ℕ → ℕ → Type 0
+Left s p n = n + length (leadingBytes (drop p s)) ≡ length (carried s)
 
--- the call of a letter that takes bytes and a number, and the greatest number that it takes
+-- eight bytes stand at place p, and the others behind them
+abbrev pub Digits16 : List ℕ → ℕ → Type 0
+Digits16 s p = length (leadingBytes (drop p s)) ≡ 8 + length (leadingBytes (drop (p + 16) s))
+
+-- the call of a letter that takes bytes, and the greatest number that it takes behind them
 unfoldable pub roomCall : ℕ → List ℕ → ℕ → Call
 roomCall letter bytes n =
     pick (eqb letter 66) (request bytes n)
-    (pick (eqb letter 77) (modbus bytes n) (pick (eqb letter 87) (writeFrame bytes n) (pick (eqb letter 106) (hours bytes n) (hour bytes n))))
+    (pick (eqb letter 77) (modbus bytes n)
+    (pick (eqb letter 87) (writeFrame bytes n)
+    (pick (eqb letter 106) (hours bytes n)
+    (pick (eqb letter 88) (readFrame bytes) (pick (eqb letter 108) (readLine Old bytes) (pick (eqb letter 109) (readLine New bytes) (hour bytes n)))))))
 
 unfoldable pub roomMost : ℕ → ℕ
 roomMost letter = pick (eqb letter 66) 64 (pick (eqb letter 77) 64 (pick (eqb letter 87) 600 (pick (eqb letter 106) 2000 greatest32)))
+
+-- and of one that takes bytes alone
+abbrev pub aloneCall : ℕ → List ℕ → Call
+aloneCall letter bytes = roomCall letter bytes 0
 
 -- a call where the line ends at a place
 pub record Ended (s : List ℕ) (end : ℕ) (call r : declared.Call) : Type 0 where

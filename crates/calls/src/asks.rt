@@ -100,7 +100,7 @@ pub(crate) fn restart(line: &[u8]) -> Call
     )
 }
 
-// The call of a letter that takes bytes and a number.
+// The call of a letter that takes bytes, and of most a number.
 fn room_call(letter: u8, n: usize, number: u32) -> Call
     requires { ⌜ (n ≤ 2048) × (number ≤ roomMost letter) ⌝ }
     ensures { λ r. ⌜ Carries (roomCall letter) n number r ⌝ }
@@ -110,6 +110,9 @@ fn room_call(letter: u8, n: usize, number: u32) -> Call
         b'M' => Call::Modbus(n, number as usize),
         b'W' => Call::WriteFrame(n, number as usize),
         b'j' => Call::Hours(n, number as usize),
+        b'X' => Call::ReadFrame(n),
+        b'l' => Call::ReadLine(Form::Old, n),
+        b'm' => Call::ReadLine(Form::New, n),
         _ => Call::Hour(n, number),
     }
 }
@@ -139,13 +142,7 @@ pub(crate) fn alone(line: &[u8], letter: u8) -> Call
         return Call::Unknown;
     }
     let n = fields::count(line);
-    if letter == b'X' {
-        return ended(line, 2 + 2 * n, Call::ReadFrame(n));
-    }
-    if letter == b'l' {
-        return ended(line, 2 + 2 * n, Call::ReadLine(Form::Old, n));
-    }
-    ended(line, 2 + 2 * n, Call::ReadLine(Form::New, n))
+    ended(line, 2 + 2 * n, room_call(letter, n, 0))
 }
 
 // G weight stable over point

@@ -6,11 +6,11 @@ use settings::Settings;
 use text::Num;
 ghost use mathlib.Core.Path.{_≡_};
 ghost use mathlib.Core.Bool.{true};
-ghost use Prim.Native.Nat.{_≤_, _<_};
+ghost use Prim.Native.Nat.{_+_, _≤_, _<_};
 ghost use lib.ListN.{length, take, drop, getD};
 ghost use lib.Seq.{sets};
 ghost use Rattle.calls.specs.Call.{signedField, isHex, hexValue, numbersField, setWith};
-ghost use Rattle.calls.specs.Reading.{ScansSigned, Counts, carried};
+ghost use Rattle.calls.specs.Reading.{ScansSigned, Counts, carried, Left, Digits16};
 
 const TAB: u8 = 9;
 
@@ -59,13 +59,27 @@ fn hex_value(b: u8) -> u8
     if text::is_digit(b) { b - 48 } else { b - 55 }
 }
 
-// How many bytes stand behind the letter and the tab.
-pub(crate) fn count(s: &[u8]) -> usize
-    requires { ⌜ length (now s) ≤ 4095 ⌝ }
+// Whether the 16 bytes from `at` on are hexadecimal digits: all are looked at, which a compiler does at once.
+fn all_hex(s: &[u8], at: usize) -> bool
+    requires { ⌜ at + 16 ≤ length (now s) ⌝ }
+    ensures { λ r. ⌜ (r ≡ true → Digits16 (now (s .entry)) at) ⌝ }
+{
+    let mut good = true;
+    let mut k: usize = 0;
+    while k < 8 {
+        good = good & is_hex(s[at + 2 * k]) & is_hex(s[at + 2 * k + 1]);
+        k += 1;
+    }
+    good
+}
+
+// How many bytes stand behind the letter and the tab, where `had` of them stand before place `at`.
+fn count_from(s: &[u8], at: usize, had: usize) -> usize
+    requires { ⌜ (length (now s) ≤ 4095) × (had ≤ at) × (at ≤ length (now s) + 2) × Left (now s) at had ⌝ }
     ensures { λ r. ⌜ r ≡ length (carried (now (s .entry))) ⌝ }
 {
-    let mut p: usize = 2;
-    let mut n: usize = 0;
+    let mut p = at;
+    let mut n = had;
     while p + 1 < s.len() {
         if !is_hex(s[p]) {
             return n;
@@ -77,6 +91,23 @@ pub(crate) fn count(s: &[u8]) -> usize
         p += 2;
     }
     n
+}
+
+// How many bytes stand behind the letter and the tab.
+pub(crate) fn count(s: &[u8]) -> usize
+    requires { ⌜ length (now s) ≤ 4095 ⌝ }
+    ensures { λ r. ⌜ r ≡ length (carried (now (s .entry))) ⌝ }
+{
+    let mut p: usize = 2;
+    let mut n: usize = 0;
+    while p + 16 <= s.len() {
+        if !all_hex(s, p) {
+            return count_from(s, p, n);
+        }
+        n += 8;
+        p += 16;
+    }
+    count_from(s, p, n)
 }
 
 // The k-th of the bytes that stand there.

@@ -25,16 +25,16 @@ impl Runs {
     pub const MISMATCHES: u32 = 64;
 }
 
-// The byte's bit of that worth is on.
-fn bit(byte: u8, worth: u8) -> bool
+// Whether the bit of this worth is on. This and `bit_of` are those of `field`: no crate with code lies below both.
+fn has_bit(byte: u8, worth: u8) -> bool
     requires { ⌜ 0 < worth ⌝ }
     ensures { λ r. ⌜ r ≡ eqb (byte / worth % 2) 1 ⌝ }
 {
     byte / worth % 2 == 1
 }
 
-// n where it is on, else 0.
-fn worth(on: bool, n: u8) -> u8
+// A bit's worth, n, where its output is on.
+fn bit_of(on: bool, n: u8) -> u8
     ensures { λ r. ⌜ r ≡ worth on n ⌝ }
 {
     if on { n } else { 0 }
@@ -44,10 +44,10 @@ fn worth(on: bool, n: u8) -> u8
 pub fn outputs_of(g: Gates, four: bool) -> u8
     ensures { λ r. ⌜ Shows g four r ⌝ }
 {
-    let one = worth(g.one, 1);
-    let two = worth(g.two, 2);
-    let three = worth(g.three, 4);
-    let alarm = worth(four, 8);
+    let one = bit_of(g.one, 1);
+    let two = bit_of(g.two, 2);
+    let three = bit_of(g.three, 4);
+    let alarm = bit_of(four, 8);
     one + two + three + alarm
 }
 
@@ -55,7 +55,7 @@ pub fn outputs_of(g: Gates, four: bool) -> u8
 pub fn start_of(set: Settings, link: bool, inputs: u8) -> bool
     ensures { λ r. ⌜ Starts set link inputs r ⌝ }
 {
-    link | (!(3 <= set.algorithm) & bit(inputs, 8))
+    link | (!(3 <= set.algorithm) & has_bit(inputs, 8))
 }
 
 // A mismatch adds 1 to the channel's run, a match puts it to 0; expected is the output at level 1, its opposite at level 0.
@@ -81,9 +81,9 @@ pub fn runs_after(set: Settings, g: Gates, inputs: u8, runs: Runs) -> Runs
     if set.algorithm == 0 {
         return runs;
     }
-    let one = run_after(set.in1, g.one, bit(inputs, 1), runs.one);
-    let two = run_after(set.in2, g.two, bit(inputs, 2), runs.two);
-    let three = run_after(set.in3, g.three, bit(inputs, 4), runs.three);
+    let one = run_after(set.in1, g.one, has_bit(inputs, 1), runs.one);
+    let two = run_after(set.in2, g.two, has_bit(inputs, 2), runs.two);
+    let three = run_after(set.in3, g.three, has_bit(inputs, 4), runs.three);
     Runs { one, two, three }
 }
 

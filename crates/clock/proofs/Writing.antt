@@ -13,10 +13,10 @@ use lib.Seq.{sets}
 use borrow.Author.Tests.{le-leb, le-ltb, lt-ltb, eq-eqb, ne-eqb}
 use borrow.Rule.Slice.PartMut.{midOf, putMid}
 use Rattle.laws.specs.Pick.{pick, pick-t, pick-f}
-use Rattle.laws.specs.Over.{sets-append, sets-over}
+use Rattle.laws.specs.Over.{over, sets-append, sets-over}
 use Rattle.laws.specs.Decimal.{numberAt, decimal, digitsOf, glyph}
 use Rattle.laws.specs.DecimalLaws.{decimal-small}
-use Rattle.paper.specs.Answer.{Answer, done, refused, told, inRoom, leaves, Fills}
+use Rattle.paper.specs.Answer.{Answer, done, told, inRoom, leaves, Fills}
 use Rattle.paper.specs.AnswerLaws.{refused-done}
 use Rattle.journal.specs.Line.{versionText, textOf, inRange, writeOf, writeVersionOf}
 use Rattle.journal.specs.LineLaws.{text-most, write-fits}
@@ -28,7 +28,7 @@ use Rattle.entry.specs.Says.{saysWrote}
 use Rattle.entry.specs.declared.Wrote.{Wrote}
 use Rattle.entry.specs.declared.Wrote.the-variants as W
 use Rattle.clock.specs.Clock.{ticksAnHour, greatestHour, Note, note, refusalText, refuse, firstOf, closing, nextHour, withTicks, oneMore, counts, heardBy, Runs}
-use Rattle.clock.specs.Marking.{Prints, prints-over, Adds, Writable, Writes, writes-as, writes-none, roomed, fitsLine, fitted, Opens, Marks}
+use Rattle.clock.specs.Marking.{sizeOf, Prints, prints-over, Adds, Writable, Writes, writes-as, writes-none, roomed, fitsLine, fitted, Opens, Marks}
 use Rattle.clock.specs.Keeps.{first-runs, heard-runs, roomed-is, roomed-none, fitted-is}
 use Rattle.clock.specs.Part.{put-part, part-length}
 use Rattle.clock.specs.declared.Heard.{Heard}
@@ -37,55 +37,36 @@ use Rattle.clock.specs.declared.Clock.{Clock}
 use Rattle.clock.specs.declared.Marked.{Marked}
 use Rattle.clock.proofs.Heard.{the-type as heard-type}
 
--- ---- a line in the part of a buffer from a place on
+-- ---- what a writer wrote
 
-module _ (old sub : List ℕ) (at : ℕ) (l : Line) (w : Wrote) (range : inRange New l ≡ true) (room : at + 31 ≤ length old)
-    (f : Fills (saysWrote w) (writeOf New l (length (midOf at (length old - at) old))) (midOf at (length old - at) old) sub) where
-  fits : writeOf New l (length (midOf at (length old - at) old)) ≡ done (textOf New l)
-  fits = write-fits New l _ range (omega (arith, text-most New l range, part-length old at))
+-- where its rule refuses nothing, it is the rule's text
+wrote : {text old new : List ℕ} {rule : Answer (List ℕ)} (w : Wrote) → rule ≡ done text → Fills (saysWrote w) rule old new → (sizeOf w ≡ length text) × (new ≡ over text old)
+unfolding sizeOf told leaves
+wrote {text} {old} w e f = (size w (f .says ∙ ap (told length) e), f .left ∙ ap (λ (a : Answer (List ℕ)). leaves a old) e)
+  where
+    size : (w : Wrote) → saysWrote w ≡ done (length text) → sizeOf w ≡ length text
+    size (W.Line n) q = cc
+    size W.R10 q = refused-done q
+    size W.R8 q = refused-done q
 
-  -- a line in range is written
-  pub wrote-line : (n : ℕ) → w ≡ W.Line n → Prints 31 old at (textOf New l) (putMid at (length old - at) old sub) (at + n)
-  unfolding told leaves
-  wrote-line n e =
-      let says : done n ≡ done (length (textOf New l)) = sym (ap saysWrote e) ∙ f .says ∙ ap (told length) fits in
-      let same : n ≡ length (textOf New l) = cc in
-      let most = text-most New l range in
-      record {
-        left = put-part old at (textOf New l) sub (omega arith) (omega arith) (f .left ∙ ap (λ (a : Answer (List ℕ)). leaves a (midOf at (length old - at) old)) fits);
-        next = ap (λ (k : ℕ). at + k) same;
-        short = most;
-      }
+-- a line in the part of a buffer from a place on
+pub line-put : {r : ℕ} (old sub : List ℕ) (at : ℕ) (l : Line) (w : Wrote) → inRange New l ≡ true → at + 31 ≤ length old → r ≡ sizeOf w
+    → Fills (saysWrote w) (writeOf New l (length (midOf at (length old - at) old))) (midOf at (length old - at) old) sub → Prints 31 old at (textOf New l) (putMid at (length old - at) old sub) (at + r)
+line-put old sub at l w range room e f =
+    let most = text-most New l range in
+    let is = wrote w (write-fits New l _ range (omega (arith, part-length old at))) f in
+    record {
+      left = put-part old at (textOf New l) sub (omega arith) (omega arith) (is .1);
+      next = ap (λ (k : ℕ). at + k) (e ∙ is .0);
+      short = most;
+    }
 
-  -- and never refused
-  pub wrote-always : {X : Type 0} (m : ℕ) (vs : List ℕ) → saysWrote w ≡ refused m vs → X
-  unfolding told
-  wrote-always m vs e = refused-done (sym e ∙ f .says ∙ ap (told length) fits)
-
--- ---- the V line
-
-version-fits : (room : ℕ) → 64 ≤ room → writeVersionOf room ≡ done versionText
+-- the V line
+pub version-put : {old new : List ℕ} {r : ℕ} (w : Wrote) → 64 ≤ length old → r ≡ sizeOf w → Fills (saysWrote w) (writeVersionOf (length old)) old new → Prints 4 old 0 versionText new r
 unfolding writeVersionOf inRoom versionText
-version-fits room h = pick-t _ _ _ (le-leb 4 room (omega arith))
-
-module _ (old new : List ℕ) (w : Wrote) (room : 64 ≤ length old) (f : Fills (saysWrote w) (writeVersionOf (length old)) old new) where
-  -- it is written
-  pub wrote-version : (n : ℕ) → w ≡ W.Line n → Prints 4 old 0 versionText new n
-  unfolding told leaves versionText
-  wrote-version n e =
-      let fits = version-fits (length old) room in
-      let says : done n ≡ done 4 = sym (ap saysWrote e) ∙ f .says ∙ ap (told length) fits in
-      let same : n ≡ 4 = cc in
-      record {
-        left = f .left ∙ ap (λ (a : Answer (List ℕ)). leaves a old) fits ∙ sym (sets-over old (86 ∷ 9 ∷ 50 ∷ 10 ∷ []) (omega arith));
-        next = same;
-        short = omega arith;
-      }
-
-  -- and never refused
-  pub version-always : {X : Type 0} (m : ℕ) (vs : List ℕ) → saysWrote w ≡ refused m vs → X
-  unfolding told
-  version-always m vs e = refused-done (sym e ∙ f .says ∙ ap (told length) (version-fits (length old) room))
+version-put {old} w room e f =
+    let is = wrote w (pick-t _ _ _ (le-leb 4 (length old) (omega arith))) f in
+    record { left = is .1 ∙ sym (sets-over old (86 ∷ 9 ∷ 50 ∷ 10 ∷ []) (omega arith)); next = e ∙ is .0; short = omega arith }
 
 -- the journal begins with it
 pub version-writes : {old new : List ℕ} {n : ℕ} {m : Note} {next : Clock} → 64 ≤ length old → note next versionText ≡ m → Prints 4 old 0 versionText new n → Writes m old new (record { next = next; len = n })

@@ -14,6 +14,8 @@ use Rattle.laws.specs.Decimal.{numberAt}
 use Rattle.paper.specs.Answer.{same}
 use Rattle.journal.specs.declared.Form.the-variants.{New}
 use Rattle.journal.specs.Line.{inRange}
+use Rattle.entry.specs.declared.Wrote.{Wrote}
+use Rattle.entry.specs.declared.Wrote.the-variants as W
 use Rattle.counters.specs.Laws.{Recordable}
 use Rattle.clock.specs.Clock.{greatestHour, startOf, Note, note, firstOf, doseIn, heardBy, Runs}
 use Rattle.clock.specs.declared.Heard.{Heard}
@@ -32,6 +34,12 @@ pub start-determined : {a b : Clock} → Starts a → Starts b → a ≡ b
 start-determined p q = same (p .is) (q .is)
 
 -- ---- text in a lent buffer
+
+-- how many bytes a writer wrote: none where it refused
+unfoldable pub sizeOf : Wrote → ℕ
+sizeOf (W.Line n) = n
+sizeOf W.R10 = 0
+sizeOf W.R8 = 0
 
 -- the text stands at `at`, everything else is as it was, and the place after it is answered; it has at most so many bytes
 pub record Prints (most : ℕ) (old : List ℕ) (at : ℕ) (text new : List ℕ) (r : ℕ) : Type 0 where

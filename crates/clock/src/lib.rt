@@ -14,7 +14,7 @@ ghost use Rattle.journal.specs.Line.{versionText, textOf, inRange};
 ghost use Rattle.journal.specs.declared.Form.the-variants.{New};
 ghost use Rattle.counters.specs.Laws.{Recordable};
 ghost use Rattle.clock.specs.Clock.{greatestHour, refusalText, refuse, firstOf, doseIn, oneMore, counts, restartedBy, heardBy, Runs};
-ghost use Rattle.clock.specs.Marking.{Starts, Prints, Adds, Writable, fitsLine, Writes, Opens, Marks};
+ghost use Rattle.clock.specs.Marking.{Starts, sizeOf, Prints, Adds, Writable, fitsLine, Writes, Opens, Marks};
 
 // Before the first line, recording, or over after a refusal.
 pub enum Stage {
@@ -86,16 +86,23 @@ fn refuse(k: Clock, line: u8, out: &mut [u8]) -> Marked
     }
 }
 
+// How many bytes a writer wrote.
+fn size_of(wrote: Wrote) -> usize
+    ensures { λ r. ⌜ r ≡ sizeOf wrote ⌝ }
+{
+    match wrote {
+        Wrote::Line(len) => len,
+        Wrote::R10 => 0,
+        Wrote::R8 => 0,
+    }
+}
+
 // The V line, with which the journal begins.
 fn put_version(out: &mut [u8]) -> usize
     requires { ⌜ 64 ≤ length (now out) ⌝ }
     ensures { λ r. ⌜ Prints 4 (now (out .entry)) 0 versionText (now (out .exit)) r ⌝ }
 {
-    match entry::write_version(out) {
-        Wrote::Line(len) => len,
-        Wrote::R10 => 0,
-        Wrote::R8 => 0,
-    }
+    size_of(entry::write_version(out))
 }
 
 // The first hour alone on a line.
@@ -125,11 +132,7 @@ fn put_line(out: &mut [u8], at: usize, line: Line) -> usize
     requires { ⌜ (inRange New line ≡ true) × (at + 31 ≤ length (now out)) ⌝ }
     ensures { λ r. ⌜ Prints 31 (now (out .entry)) at (textOf New line) (now (out .exit)) r ⌝ }
 {
-    match entry::write(Form::New, line, &mut out[at..]) {
-        Wrote::Line(len) => at + len,
-        Wrote::R10 => at,
-        Wrote::R8 => at,
-    }
+    at + size_of(entry::write(Form::New, line, &mut out[at..]))
 }
 
 // One tick more, behind `at` bytes: the last of an hour of a known box of which nothing was missed writes its H.

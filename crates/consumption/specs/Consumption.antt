@@ -48,7 +48,7 @@ use Rattle.series.specs.Records.{records-append}
 use Rattle.series.specs.Lines.{amountsOf, hourWith}
 use Rattle.lines.specs.Lines.{linesOf}
 use Rattle.calls.specs.Call.{Call, callOf}
-use Rattle.acts.specs.Acts.{Ask, event, counters, why, nothing, askOf, askBy, eventsIn, madeBy, saidAt, saidTo}
+use Rattle.acts.specs.Acts.{Ask, event, counters, why, nothing, unknown, askBy, eventsIn, madeBy, saidAt, saidTo}
 use Rattle.clock.specs.Clock.{ticksAnHour, greatestHour, Note, note, withStage, withHour, withTicks, withWhole, withKnown, refusalText, refuse, firstOf, doseIn, closing, nextHour, oneMore, counts, restartedBy, lostBy, heardBy, Runs}
 use Rattle.recorder.specs.Recording.{heardDoses, heardTick, heardRestart, heardSaid, heardOf, noteBy, noteOf, boxBy, nextOf, startOf, notesOf, recordOf}
 use Rattle.clock.specs.Clock as clock
@@ -189,11 +189,11 @@ ask-doses c (event e) s = event-doses c e s ∙ sym (append-nil (recordsAt c e))
 ask-doses c counters s = refl
 ask-doses c (why k) s = refl
 ask-doses c nothing s = refl
+ask-doses c unknown s = refl
 
 line-doses : (c : Controller) (p : Parsed Call) → Sound c → dosesIn (heardOf c p ∷ []) ≡ records c (eventsIn (askBy p))
-unfolding dosesIn heardOf askBy eventsIn records
-line-doses c (good call rest) s = ask-doses c (askOf call) s
-line-doses c bad s = refl
+unfolding heardOf
+line-doses c p s = ask-doses c (askBy p) s
 
 doses-cons : (h : Heard) (hs : List Heard) → dosesIn (h ∷ hs) ≡ dosesIn (h ∷ []) ++ dosesIn hs
 unfolding dosesIn
@@ -241,6 +241,7 @@ ask-product c (event e) s = rw append-nil (event-product c e s)
 ask-product c counters s = tt
 ask-product c (why k) s = tt
 ask-product c nothing s = tt
+ask-product c unknown s = tt
 
 set-only : (p : ℕ) (c : Controller) (h : Heard) → AllOf (c .set .product) (dosesIn (h ∷ [])) → whileSet p c h ≡ onlyOf p h
 unfolding whileSet onlyOf dosesIn AllOf

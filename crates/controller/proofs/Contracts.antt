@@ -10,12 +10,8 @@ use Rattle.paper.specs.Answer.{Answer, done, refused, fault, told, onDone}
 use Rattle.paper.specs.Numbers.{R3, R15}
 use Rattle.settings.specs.Table.{firstBad}
 use Rattle.settings.specs.declared.Settings.{Settings}
-use Rattle.dosing.proofs.Phase.{the-type as phase-type}
-use Rattle.dosing.specs.declared.Phase.{Phase}
-use Rattle.dosing.specs.declared.Phase.the-variants.{Ready, Coarse, Fine, Hold, Settle, Discharge, Load, Calm, DoseCoarse, DoseFine, DoseSettle}
 use Rattle.controller.specs.Calls.{isReady, storedBad, restartOf, noController, controllerIn, taken, after, settingsAnswer, settingsOf, resetOf}
 use Rattle.controller.specs.State.{restarted}
-use Rattle.controller.specs.Tick.{atReady}
 use Rattle.controller.specs.Sound.{Sound}
 use Rattle.paper.specs.AnswerLaws.{refused-done, fault-done, told-refused}
 use Rattle.controller.specs.Keeps.{restart-sound, settings-sound, reset-sound}
@@ -23,26 +19,13 @@ use Rattle.controller.specs.Says.{saysSet, saysReset, saysRestart, noVal
 use Rattle.controller.specs.declared.Controller.{Controller}
 use Rattle.controller.proofs.SetAnswer.{the-type as set-type}
 use Rattle.controller.specs.declared.SetAnswer.{SetAnswer}
+use Rattle.controller.specs.declared.SetTo.{SetTo}
 use Rattle.controller.specs.declared.SetAnswer.the-variants as S
 use Rattle.controller.specs.declared.ResetAnswer.{ResetAnswer}
 use Rattle.controller.specs.declared.RestartAnswer.{RestartAnswer}
+use Rattle.controller.specs.declared.Restarted.{Restarted}
 use Rattle.controller.specs.declared.RestartAnswer.the-variants as N
 use Rattle.controller.proofs.RestartAnswer.{the-type as restart-type}
-
--- the phases that are not Ready
-pub not-ready : (p : Phase) → OneOf (1 ∷ 2 ∷ 3 ∷ 4 ∷ 5 ∷ 6 ∷ 7 ∷ 8 ∷ 9 ∷ 10 ∷ []) (tagOf phase-type p) → false ≡ atReady p
-unfolding atReady
-not-ready Ready h = absurd (miss (1 ∷ 2 ∷ 3 ∷ 4 ∷ 5 ∷ 6 ∷ 7 ∷ 8 ∷ 9 ∷ 10 ∷ []) 0 tt h)
-not-ready (Coarse w0) h = refl
-not-ready (Fine w0) h = refl
-not-ready Hold h = refl
-not-ready (Settle w0 n) h = refl
-not-ready (Discharge w0 wS settled) h = refl
-not-ready Load h = refl
-not-ready (Calm n) h = refl
-not-ready (DoseCoarse wH) h = refl
-not-ready (DoseFine wH) h = refl
-not-ready (DoseSettle wH n) h = refl
 
 restarted-sound : (set : Settings) (count total : ℕ) (x : Answer Controller) → restartOf set count total ≡ x → told noValue x ≡ done tt → Sound (controllerIn x)
 unfolding told controllerIn
@@ -50,8 +33,8 @@ restarted-sound set count total (done c) e h = restart-sound set count total c e
 restarted-sound set count total (refused n vs) e h = refused-done h
 restarted-sound set count total (fault n vs) e h = fault-done h
 
-pub restarts : (set : Settings) (count total : ℕ) {next : Controller} {answer : RestartAnswer} → next ≡ controllerIn (restartOf set count total)
-    → saysRestart answer ≡ told noValue (restartOf set count total) → Restarts set count total (record { next = next; answer = answer })
+pub restarts : (set : Settings) (count total : ℕ) {r : Restarted} → r .next ≡ controllerIn (restartOf set count total)
+    → saysRestart (r .answer) ≡ told noValue (restartOf set count total) → Restarts set count total r
 restarts set count total n h =
     record { next = n; says = h; sound = λ d. subst Sound (sym n) (restarted-sound set count total (restartOf set count total) refl (sym h ∙ d)) }
 
@@ -95,8 +78,8 @@ pub set-answers : (c : Controller) (set : Settings) {ready : Bool} {checked : An
 unfolding settingsAnswer
 set-answers c set e f = ap₂ (λ (b : Bool) (a : Answer (Unit {0})). pick b a (refused R3 [])) e f
 
-pub sets : (c : Controller) (set : Settings) {next : Controller} {answer : SetAnswer} → Sound c → saysSet answer ≡ settingsAnswer c set
-    → next ≡ after (saysSet answer) (taken set c) c → Sets c set (record { next = next; answer = answer })
+pub sets : (c : Controller) (set : Settings) {r : SetTo} → Sound c → saysSet (r .answer) ≡ settingsAnswer c set
+    → r .next ≡ after (saysSet (r .answer)) (taken set c) c → Sets c set r
 unfolding settingsOf
 sets c set s e n =
     let m = n ∙ ap (λ (a : Answer (Unit {0})). after a (taken set c) c) e in

@@ -1,10 +1,9 @@
 -- A line request, put together from what its stages give. Assumes nothing.
 use mathlib.Core.Path.{_≡_, refl, sym, ap, subst, _∙_}
-use mathlib.Core.Bool.{Bool, true, false, not, _&&_}
+use mathlib.Core.Bool.{Bool, true, false, _&&_}
 use mathlib.Core.List.{List, [], _∷_}
 use Prim.Native.Nat.{ℕ}
-use native.Mathlib.Omega.{arith}
-use lib.Dec.{leb, eqb}
+use lib.Dec.{leb}
 use lib.ListN.{length}
 use types.Run.{OneOf, miss}
 use denote.Enum.Declared.{tagOf}
@@ -13,54 +12,42 @@ use Rattle.paper.specs.Answer.{Answer, done, refused, told, onDone, inRoom, lea
 use Rattle.paper.specs.AnswerLaws.{refused-done, done-refused, passed}
 use Rattle.paper.specs.Numbers.{R3, R4, R5, R7, R8}
 use Rattle.settings.specs.Good.{good-ranges}
-use Rattle.settings.specs.declared.Settings.{Settings}
-use Rattle.window.specs.declared.Window.{Window}
 use Rattle.asking.proofs.Sent.{the-type as sent-type}
 use Rattle.asking.specs.declared.Sent.{Sent}
 use Rattle.asking.specs.declared.Sent.the-variants as W
 use Rattle.message.specs.declared.Form.{Form}
 use Rattle.message.specs.declared.Parts.{Parts}
-use Rattle.dosing.specs.Rules.{units, nearZero}
-use Rattle.dosing.specs.declared.Units.{Units}
-use Rattle.scale.specs.Scale.{filtered}
-use Rattle.scale.specs.Laws.{none-held}
 use Rattle.asking.proofs.Addressed.{the-type as addressed-type}
 use Rattle.asking.proofs.Coded.{the-type as coded-type}
 use Rattle.asking.proofs.Heard.{the-type as heard-type}
-use Rattle.asking.specs.Asking.{Asked, askedBy, heardOf, ours, addressOf, known, bare, codeOf, askOf, replyBytes}
+use Rattle.asking.proofs.Timed.{the-type as timed-type}
+use Rattle.asking.proofs.Zeroing.{the-type as zeroing-type}
+use Rattle.asking.specs.Asking.{Asked, askedBy, heardOf, ours, addressOf, known, bare, codeOf, timeOf, zeroOf, askOf, replyBytes}
 use Rattle.asking.specs.Laws.{reply-framed}
-use Rattle.asking.specs.Says.{Hears, Addresses, Codes, Sends, saysSent, sent-one}
+use Rattle.asking.specs.Says.{Hears, Addresses, Codes, Times, Zeroes, Sends, saysSent, sent-one}
 use Rattle.asking.specs.declared.Addressed.{Addressed}
 use Rattle.asking.specs.declared.Addressed.the-variants as A
 use Rattle.asking.specs.declared.Coded.{Coded}
 use Rattle.asking.specs.declared.Coded.the-variants as C
 use Rattle.asking.specs.declared.Heard.{Heard}
 use Rattle.asking.specs.declared.Heard.the-variants as H
+use Rattle.asking.specs.declared.Timed.{Timed}
+use Rattle.asking.specs.declared.Timed.the-variants as T
+use Rattle.asking.specs.declared.Zeroing.{Zeroing}
+use Rattle.asking.specs.declared.Zeroing.the-variants as Z
 use Rattle.asking.specs.declared.Reply.{Reply}
+use Rattle.readout.specs.Readout.{mayZero, replyFor}
+use Rattle.readout.specs.Laws.{reply-bytes}
 use Rattle.controller.specs.Tick.{Result, still}
 use Rattle.controller.specs.Calls.{isReady}
-use Rattle.controller.specs.Line.{timely, timeOf, zeroable, mayZero, zeroOf, allowed, askedOf, replyData, replyFrame, zeroedBy, Replied, replied, repliesTo, requestOf}
+use Rattle.controller.specs.Line.{timely, allowed, askedOf, replyData, replyFrame, zeroedBy, Replied, replied, repliesTo, requestOf}
 use Rattle.controller.specs.Sound.{Sound}
 use Rattle.controller.specs.Says.{saysReply, placeAndLength, bytesOf, Replies}
-use Rattle.controller.specs.Stages.{Times, Zeroes, unheard}
+use Rattle.controller.specs.Stages.{unheard}
 use Rattle.controller.specs.Keeps.{request-sound}
+use Rattle.controller.specs.Promises.{weight-writable}
 use Rattle.controller.specs.declared.Controller.{Controller}
 use Rattle.controller.specs.declared.Requested.{Requested}
-use Rattle.controller.specs.declared.line.Timed.{Timed}
-use Rattle.controller.specs.declared.line.Timed.the-variants as T
-use Rattle.controller.specs.declared.line.Zeroing.{Zeroing}
-use Rattle.controller.specs.declared.line.Zeroing.the-variants as Z
-use Rattle.controller.proofs.line.Timed.{the-type as timed-type}
-use Rattle.controller.proofs.line.Zeroing.{the-type as zeroing-type}
-
--- ---- the zero
-
--- C0's test, by the samples held and F
-pub zeroable-by : (set : Settings) (window : Window) {near : Bool} {f : Units} → length (window .samples) ≡ 128
-    → f ≡ units (filtered window (set .p8)) → near ≡ nearZero set (f .v)
-    → zeroable set window ≡ (leb (set .algorithm) 1 && not (eqb (window .held) 0) && near)
-unfolding zeroable
-zeroable-by set window l m h = rw (none-held window l, h, m)
 
 -- ---- the stages
 
@@ -105,15 +92,21 @@ module _ (c : Controller) (s : List ℕ) {place : ℕ} {p : Parts} (heard : done
         unfolding allowed onDone
         is-asked zeroed = by-stages ∙ rw (← us, ← good, ← timed, ← zeroed)
 
+-- the data of a sound controller's reply
+reply-data : (c : Controller) (op : ℕ) {holds : Reply} → Sound c → holds ≡ replyFor op (c .set) (c .window) (c .z) (c .s) (c .inputs) (c .gates) (c .alarm) → replyBytes holds ≡ replyData c op
+unfolding replyData
+reply-data c op s e =
+    rw e (reply-bytes (c .set) (c .window) (c .z) (c .s) (c .inputs) (c .gates) (c .alarm) (weight-writable c (c .set .p8) s) (weight-writable c (c .set .p7) s) op)
+
 -- a reply to what is ours can always be framed
 pub framed : (c : Controller) (form : Form) (op place : ℕ) (holds : Reply) (w : Sent) {old new : List ℕ} → Sound c
-    → done tt ≡ addressOf place form (c .set .address) (c .set .serial) → replyBytes holds ≡ replyData c op → Sends form op holds old new w
+    → done tt ≡ addressOf place form (c .set .address) (c .set .serial) → holds ≡ replyFor op (c .set) (c .window) (c .z) (c .s) (c .inputs) (c .gates) (c .alarm) → Sends form op holds old new w
     → Fills (saysSent w) (inRoom [] (length old) (replyFrame c (record { place = place; form = form; operation = op }))) old new
 unfolding addressOf replyFrame
 framed c form op place holds w {old} {new} s us e fills =
     let r = good-ranges (c .set) (s .set) in
     let own = passed (ours form (c .set .address) (c .set .serial)) (done tt) R5 (place ∷ []) tt (sym us) .0 in
-    rw (← e) (subst (λ (x : Answer (List ℕ)). Fills (saysSent w) x old new) (reply-framed (c .set .address) (c .set .serial) (r .address .0) (r .address .1) form op holds (length old) (r .serial) own) fills)
+    rw (← reply-data c op s e) (subst (λ (x : Answer (List ℕ)). Fills (saysSent w) x old new) (reply-framed (c .set .address) (c .set .serial) (r .address .0) (r .address .1) form op holds (length old) (r .serial) own) fills)
 
 -- ---- the contract
 

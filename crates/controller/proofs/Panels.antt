@@ -16,16 +16,27 @@ use Rattle.modbus.specs.declared.Hearing.{Hearing}
 use Rattle.modbus.specs.declared.Hearing.the-variants as H
 use Rattle.modbus.specs.declared.Sent.{Sent}
 use Rattle.modbus.specs.declared.Sent.the-variants as S
+use Rattle.readout.specs.Readout.{valuesFor}
+use Rattle.readout.specs.Laws.{values-in}
 use Rattle.controller.specs.State.{withLink}
 use Rattle.controller.specs.Tick.{Result}
 use Rattle.controller.specs.Calls.{linkOf}
 use Rattle.controller.specs.Modbus.{valuesOf, linkedBy, servedBy, modbusOf}
-use Rattle.controller.specs.ModbusLaws.{silent-so, heard-so, modbus-refused, modbus-sound}
+use Rattle.controller.specs.ModbusLaws.{silent-so, heard-so, modbus-refused, modbus-sound, weight-held}
+use Rattle.controller.specs.Promises.{weight-writable}
 use Rattle.controller.specs.Sound.{Sound}
 use Rattle.controller.specs.Says.{saysPoll, Polls}
 use Rattle.controller.specs.declared.Controller.{Controller}
 use Rattle.controller.specs.declared.PollAnswer.the-variants as M
 use Rattle.controller.specs.declared.Polled.{Polled}
+
+-- the registers of a sound controller
+pub registers-so : (c : Controller) {words : List ℕ} → Sound c → words ≡ tableOf (valuesFor (c .set) (c .window) (c .z) (c .s) (c .inputs) (c .gates) (c .alarm) (c .counters) (c .link)) → words ≡ tableOf (valuesOf c)
+unfolding valuesOf
+registers-so c s e =
+    let fine = weight-writable c (c .set .p8) s in
+    let coarse = weight-writable c (c .set .p7) s in
+    e ∙ ap tableOf (values-in (c .set) (c .window) (c .z) (c .s) (c .inputs) (c .gates) (c .alarm) fine coarse (c .counters) (c .link) (weight-held c s (c .set .p8)) (weight-held c s (c .set .p7)))
 
 -- serving answers what the rule gives
 served-answer : (c : Controller) (ask : Ask) (a : Answer (List ℕ)) → servedBy c ask a .answer ≡ a

@@ -16,7 +16,8 @@ use Rattle.dosing.specs.declared.Phase.the-variants.{Ready, Coarse, Fine, Hold,
 use Rattle.channels.specs.Channels.{noRuns}
 use Rattle.counters.specs.Counters.{counters}
 use Rattle.controller.specs.State.{restarted, withSet, withWindow, withZ, withF, withS, withRuns, withLink, withCounters, withUnstarted}
-use Rattle.controller.specs.Tick.{Result, atReady}
+use Rattle.stepping.specs.Stepping.{atReady}
+use Rattle.controller.specs.Tick.{Result}
 use Rattle.controller.specs.declared.Controller.{Controller}
 use Rattle.controller.specs.declared.Condition.{Condition}
 use Rattle.controller.specs.declared.Condition.the-variants.{Clear, Faulted}

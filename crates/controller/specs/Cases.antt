@@ -18,8 +18,9 @@ use Rattle.dosing.specs.Rules.{units}
 use Rattle.channels.specs.Channels.{input, worth, outputsOf, startOf, expected, runAfter, runsAfter, watchOf}
 use Rattle.counters.specs.Counters.{countedOf, countersAfter, recordOf, recordsOf}
 use Rattle.scale.specs.Scale.{outside, filtered, filterOf, equalZ, none, calmRun, stableOf, changed, calmAfter, overCapacity}
+use Rattle.stepping.specs.Stepping.{atReady, unstartedOf}
 use Rattle.controller.specs.State.{restarted, withZ, withS, withAlarm, withLink, withInputs}
-use Rattle.controller.specs.Tick.{Told, atReady, unstartedOf, tickOf, step2, step3, steps4and5, steps6to8, mismatched, step7, step8, seenOf, wOf, faulted, saysFault}
+use Rattle.controller.specs.Tick.{Told, tickOf, step2, step3, steps4and5, steps6to8, mismatched, step7, step8, seenOf, wOf, faulted, saysFault}
 use Rattle.controller.specs.Calls.{readyIn, isReady, storedBad, restartOf, freshOf, taken, settingsAnswer, after, settingsOf, resetAnswer, resetOf, linkOf}
 use Rattle.controller.specs.declared.Controller.{Controller}
 

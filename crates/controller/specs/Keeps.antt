@@ -28,11 +28,13 @@ use Rattle.channels.specs.Channels.{noRuns}
 use Rattle.counters.specs.Laws.{after-storable}
 use Rattle.scale.specs.Scale.{filtered, none, overCapacity}
 use Rattle.scale.specs.Laws.{within-at, empty-within, calm-after-most}
-use Rattle.asking.specs.Asking.{Asked, askOf}
+use Rattle.stepping.specs.Stepping.{unstartedOf}
+use Rattle.asking.specs.Asking.{Asked, timeOf, zeroOf, askOf}
+use Rattle.readout.specs.Readout.{zeroable, mayZero}
 use Rattle.controller.specs.State.{restarted, withZ, withUnstarted}
-use Rattle.controller.specs.Tick.{Result, step8, step7, seenOf, wOf, unstartedOf, tickOf}
+use Rattle.controller.specs.Tick.{Result, step8, step7, seenOf, wOf, tickOf}
 use Rattle.controller.specs.Calls.{isReady, storedBad, restartOf, freshOf, noSet, noController, taken, settingsAnswer, after, settingsOf, resetAnswer, resetOf, linkOf}
-use Rattle.controller.specs.Line.{timely, timeOf, zeroable, mayZero, zeroOf, allowed, askedOf, zeroedBy, replied, repliesTo, requestOf}
+use Rattle.controller.specs.Line.{timely, allowed, askedOf, zeroedBy, replied, repliesTo, requestOf}
 use Rattle.controller.specs.Sound.{Sound, Abandoned, Waited}
 use Rattle.controller.specs.Setters.{zero-sound, counters-sound, unstarted-sound}
 use Rattle.controller.specs.Ways.{tick-ways, clear-watched}

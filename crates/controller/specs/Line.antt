@@ -1,21 +1,19 @@
 -- Requests on the line (document 01, "On the line", R9, R6, R5, R7, R3, R4, R8). Assumes nothing.
-use mathlib.Core.Bool.{Bool, not, _&&_, _||_}
+use mathlib.Core.Bool.{Bool, not, _||_}
 use mathlib.Core.List.{List, [], _∷_}
 use Prim.Native.Nat.{ℕ}
 use lib.Dec.{leb, eqb}
 use lib.ListN.{length}
 use Rattle.laws.specs.Pick.{pick}
 use Rattle.paper.specs.Answer.{Answer, done, refused, fault, onDone}
-use Rattle.paper.specs.Numbers.{R3, R4, R8}
-use Rattle.settings.specs.declared.Settings.{Settings}
-use Rattle.window.specs.Window.{samplesOf}
-use Rattle.window.specs.declared.Window.{Window}
+use Rattle.paper.specs.Numbers.{R8}
 use Rattle.field.specs.declared.Weight.{Weight}
 use Rattle.field.specs.Field.{fieldOf}
-use Rattle.dosing.specs.Rules.{units, nearZero}
+use Rattle.dosing.specs.Rules.{units}
 use Rattle.channels.specs.Channels.{outputsOf}
-use Rattle.scale.specs.Scale.{filtered, none, weightBy}
-use Rattle.asking.specs.Asking.{Asked, askOf, fieldBytes, answerFrame}
+use Rattle.scale.specs.Scale.{filtered, weightBy}
+use Rattle.asking.specs.Asking.{Asked, askOf, timeOf, zeroOf, fieldBytes, answerFrame}
+use Rattle.readout.specs.Readout.{mayZero}
 use Rattle.controller.specs.State.{withZ}
 use Rattle.controller.specs.Tick.{Result, still}
 use Rattle.controller.specs.Calls.{isReady}
@@ -26,21 +24,6 @@ use Rattle.controller.specs.declared.Controller.{Controller}
 -- C0 wants Ready; no other request does
 unfoldable pub timely : ℕ → Bool → Bool
 timely op ready = not (eqb op 0xC0) || ready
-
--- R3: C0 when not in Ready
-unfoldable pub timeOf : ℕ → Bool → Answer (Unit {0})
-timeOf place inTime = pick inTime (done tt) (refused R3 (place ∷ []))
-
--- not in AL2 or AL3, nor with no sample, and with -M < F < M
-unfoldable pub zeroable : Settings → Window → Bool
-zeroable set window = leb (set .algorithm) 1 && not (none (samplesOf window)) && nearZero set (filtered window (set .p8))
-
-unfoldable pub mayZero : ℕ → Settings → Window → Bool
-mayZero op set window = not (eqb op 0xC0) || zeroable set window
-
--- R4: C0 in AL2 or AL3, with no sample, or without -M < F < M
-unfoldable pub zeroOf : ℕ → Bool → Answer (Unit {0})
-zeroOf place may = pick may (done tt) (refused R4 (place ∷ []))
 
 -- R3, R4
 unfoldable pub allowed : Controller → Asked → Answer Asked

@@ -18,8 +18,9 @@ use Rattle.controller.specs.State.{restarted, withZ, withS, withGates, w
 use Rattle.controller.specs.Tick.{Told}
 use Rattle.controller.specs.Calls.{freshOf}
 use Rattle.scale.specs.Scale.{weightFrom, weightBy}
-use Rattle.asking.specs.Asking.{heardOf, ours, addressOf, known, bare, codeOf, askOf, fieldBytes, answerFrame}
-use Rattle.controller.specs.Line.{Replied, timely, timeOf, zeroable, mayZero, zeroOf, allowed, askedOf, weightOf, replyData, replyFrame, zeroedBy, replied, repliesTo, requestOf}
+use Rattle.asking.specs.Asking.{heardOf, ours, addressOf, known, bare, codeOf, timeOf, zeroOf, askOf, fieldBytes, answerFrame}
+use Rattle.readout.specs.Readout.{zeroable, mayZero}
+use Rattle.controller.specs.Line.{Replied, timely, allowed, askedOf, weightOf, replyData, replyFrame, zeroedBy, replied, repliesTo, requestOf}
 use Rattle.controller.specs.Cases.{answers, lastOf, ticked, rules}
 use Rattle.controller.specs.declared.Controller.{Controller}
 

@@ -25,8 +25,6 @@ use Rattle.controller.specs.Modbus.{valuesOf, linkedBy, servedBy, serves
 use Rattle.controller.specs.Sound.{Sound}
 use Rattle.controller.specs.Bounds.{samples-within}
 use Rattle.controller.specs.Keeps.{link-sound}
-use Rattle.controller.specs.Promises.{weight-writable}
-use Rattle.controller.specs.Parts.{Holdable}
 use Rattle.controller.specs.declared.Controller.{Controller}
 
 -- ---- what a frame changes
@@ -138,9 +136,6 @@ read-back c frame room start quantity e h = (
 module _ (c : Controller) (s : Sound c) where
   pub weight-held : (n : ℕ) → InRange (weightOf c n .value)
   weight-held n = scale.value-within (c .set) (c .window) (c .z) (c .s) n (samples-within c s) (s .zero)
-
-  pub weight-holdable : (n : ℕ) → Holdable (weightOf c n)
-  weight-holdable n = record { shown = weight-writable c n s; exact = weight-held n }
 
   -- Each weight must be exactly the whole number as an f32: read back as a whole number it is the weight of C3, and of C2
   pub c3-exact : weightIn (wordsAt (tableOf (valuesOf c)) 0) ≡ weightOf c (c .set .p8) .value

@@ -15,7 +15,7 @@ use Rattle.dosing.specs.Rules.{notBelowZero}
 use Rattle.dosing.specs.declared.Phase.{Phase}
 use Rattle.dosing.specs.declared.Phase.the-variants.{Ready, Coarse, Fine, Hold, Settle, Discharge, Load, Calm, DoseCoarse, DoseFine, DoseSettle}
 use Rattle.scale.specs.Scale.{filterOf}
-use Rattle.controller.specs.Tick.{atReady}
+use Rattle.stepping.specs.Stepping.{atReady}
 use Rattle.controller.specs.declared.Controller.{Controller}
 use Rattle.controller.specs.declared.Condition.{Condition}
 use Rattle.controller.specs.declared.Condition.the-variants.{Clear, Faulted}

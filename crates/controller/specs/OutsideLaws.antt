@@ -30,7 +30,8 @@ use Rattle.counters.specs.Counters.{countersAfter, recordsOf}
 use Rattle.counters.specs.Laws.{countedIn, Tells, amountsIn, counts-in, tells-one}
 use Rattle.counters.specs.declared.Counters.{Counters}
 use Rattle.scale.specs.Scale.{outside, filtered, filterOf}
-use Rattle.controller.specs.Tick.{Result, Told, still, saysFault, faulted, step8, wOf, seenOf, step7, mismatched, steps6to8, steps4and5, step3, step2, tickOf, atReady}
+use Rattle.stepping.specs.Stepping.{atReady}
+use Rattle.controller.specs.Tick.{Result, Told, still, saysFault, faulted, step8, wOf, seenOf, step7, mismatched, steps6to8, steps4and5, step3, step2, tickOf}
 use Rattle.controller.specs.Sound.{Sound}
 use Rattle.controller.specs.Outside.{wAt, clear, inDoseSettle, shuts3, leavesSettle, completes, Noted, begins, opens3, noted, amountSeen, dosesSeen, Agrees}
 use Rattle.controller.specs.declared.Controller.{Controller}

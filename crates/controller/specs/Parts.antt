@@ -1,12 +1,10 @@
--- What the functions of a tick and of a MODBUS frame ask and give. Assumes nothing.
+-- What the functions of a tick ask and give. Assumes nothing.
 use mathlib.Core.Path.{_≡_}
-use mathlib.Core.Bool.{true}
+use mathlib.Core.Bool.{false}
 use Prim.Native.Nat.{_≤_}
 use lib.IntN.{natAbs}
-use Rattle.field.specs.Field.{writable}
-use Rattle.field.specs.declared.Weight.{Weight}
-use Rattle.single.specs.Single.{InRange}
 use Rattle.dosing.specs.declared.Units.{Units}
+use Rattle.scale.specs.Scale.{outside}
 use Rattle.controller.specs.Tick.{Result, Told}
 use Rattle.controller.specs.Sound.{Sound}
 use Rattle.controller.specs.Says.{saysTick}
@@ -28,9 +26,4 @@ pub record Small (f z : Units) : Type 0 where
 pub record Takes (c : Controller) (x : Units) : Type 0 where
   pub sound : Sound c
   pub clear : c .condition ≡ Clear
-  pub inside : natAbs (x .v) ≤ 900000
-
--- the weight can be shown, and is exactly an f32
-pub record Holdable (v : Weight) : Type 0 where
-  pub shown : writable v ≡ true
-  pub exact : InRange (v .value)
+  pub inside : outside (x .v) ≡ false

@@ -1,5 +1,5 @@
 -- One tick (document 01, "One tick"), step by step. Assumes nothing.
-use mathlib.Core.Bool.{Bool, true, false, not, _&&_}
+use mathlib.Core.Bool.{Bool, true, false}
 use mathlib.Core.List.{List, [], _∷_}
 use Prim.Native.Nat.{ℕ}
 use lib.Dec.{ltb}
@@ -10,14 +10,14 @@ use Rattle.paper.specs.Answer.{Answer, done, refused, fault}
 use Rattle.paper.specs.Numbers.{R1, F14, F21}
 use Rattle.window.specs.Window.{samplesOf, pushOf}
 use Rattle.dosing.specs.Rules.{units, shut, stepOf}
-use Rattle.dosing.specs.declared.Phase.{Phase}
-use Rattle.dosing.specs.declared.Phase.the-variants.{Ready, Coarse, Fine, Hold, Settle, Discharge, Load, Calm, DoseCoarse, DoseFine, DoseSettle}
+use Rattle.dosing.specs.declared.Phase.the-variants.{Ready}
 use Rattle.dosing.specs.declared.Seen.{Seen}
 use Rattle.dosing.specs.declared.Moved.{Moved}
 use Rattle.channels.specs.Channels.{outputsOf, startOf, runsAfter, watchOf}
 use Rattle.counters.specs.declared.Record.{Record}
 use Rattle.counters.specs.Counters.{countersAfter, recordsOf}
 use Rattle.scale.specs.Scale.{outside, filtered, filterOf, none, calmRun, stableOf, calmAfter, overCapacity}
+use Rattle.stepping.specs.Stepping.{unstartedOf}
 use Rattle.controller.specs.State.{withWindow, withZ, withF, withS, withRuns, withPhase, withGates, withAlarm, withInputs, withCondition, withCounters, withUnstarted}
 use Rattle.controller.specs.declared.Controller.{Controller}
 use Rattle.controller.specs.declared.Fault.{Fault}
@@ -39,21 +39,6 @@ still c a = record { next = c; answer = a }
 pub record Told : Type 0 where
   pub outputs : ℕ
   pub doses : List Record
-
--- ---- Ready
-
-unfoldable pub atReady : Phase → Bool
-atReady Ready = true
-atReady (Coarse w0) = false
-atReady (Fine w0) = false
-atReady Hold = false
-atReady (Settle w0 n) = false
-atReady (Discharge w0 wS settled) = false
-atReady Load = false
-atReady (Calm n) = false
-atReady (DoseCoarse wH) = false
-atReady (DoseFine wH) = false
-atReady (DoseSettle wH n) = false
 
 -- ---- faults
 
@@ -87,10 +72,6 @@ wOf c = c .f .v -ℤ c .z .v
 
 unfoldable pub seenOf : Controller → Bool → Seen
 seenOf c start = record { f = c .f; z = c .z; w = units (wOf c); start = start; stable = stableOf (c .set) (c .s) }
-
--- the tick began and ended in Ready with start off (document 02, W6)
-unfoldable pub unstartedOf : Phase → Bool → Phase → Bool
-unstartedOf began start ended = atReady began && not start && atReady ended
 
 unfoldable pub step7 : Controller → Bool → Result Told
 step7 c start =

@@ -16,7 +16,7 @@ use Rattle.dosing.specs.declared.Phase.{Phase}
 use Rattle.dosing.specs.declared.Phase.the-variants.{Ready}
 use Rattle.dosing.specs.declared.Seen.{Seen}
 use Rattle.dosing.specs.declared.Moved.{Moved}
-use Rattle.controller.specs.Tick.{atReady, unstartedOf}
+use Rattle.stepping.specs.Stepping.{atReady, unstartedOf}
 use Rattle.controller.specs.Sound.{Waited}
 use Rattle.controller.specs.Bounds.{at-ready}
 use Rattle.controller.specs.declared.Condition.{Condition}

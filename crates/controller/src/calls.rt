@@ -23,7 +23,7 @@ ghost use Rattle.paper.specs.Answer.{done, refused, onDone};
 ghost use Rattle.paper.specs.Numbers.{R3, R15};
 ghost use Rattle.settings.specs.Says.{says};
 ghost use Rattle.controller.specs.State.{restarted};
-ghost use Rattle.controller.specs.Calls.{storedBad, noController, taken};
+ghost use Rattle.controller.specs.Calls.{storedBad, noSet, taken};
 ghost use Rattle.controller.specs.Sound.{Sound};
 ghost use Rattle.controller.specs.Says.{saysSet, saysRestart, Freshens, Restarts, Sets, Resets, Counted, Links};
 
@@ -41,15 +41,9 @@ impl Controller {
     {
         let answer = restart_answer(set.check(), count, total);
         if let RestartAnswer::Done = answer {
-            return Restarted {
-                next: restarted(set, count, total),
-                answer,
-            };
+            return made(set, count, total, answer);
         }
-        Restarted {
-            next: no_controller(),
-            answer,
-        }
+        made(no_set(), 0, 0, answer)
     }
 
     // Takes a set in Ready (R3), where it is good (R2).
@@ -61,10 +55,7 @@ impl Controller {
         let phase = self.phase;
         let answer = set_answer(is_ready(condition, phase), set.check());
         if let SetAnswer::Taken = answer {
-            return SetTo {
-                next: taken(set, self),
-                answer,
-            };
+            return taken(set, self);
         }
         SetTo { next: self, answer }
     }
@@ -171,11 +162,21 @@ fn restarted(set: Settings, count: u32, total: u32) -> Controller
     }
 }
 
-// What stands in the place of a refused restart's controller: its set is not good.
-fn no_controller() -> Controller
-    ensures { λ r. ⌜ r ≡ noController ⌝ }
+// A restart's controller beside its answer.
+fn made(set: Settings, count: u32, total: u32, answer: RestartAnswer) -> Restarted
+    ensures { λ r. ⌜ (r .next ≡ restarted set count total) × (r .answer ≡ answer) ⌝ }
 {
-    let set = Settings {
+    Restarted {
+        next: restarted(set, count, total),
+        answer,
+    }
+}
+
+// A set that is not good: a refused restart makes no controller.
+fn no_set() -> Settings
+    ensures { λ r. ⌜ r ≡ noSet ⌝ }
+{
+    Settings {
         algorithm: 0,
         capacity: 0,
         dose: 0,
@@ -194,13 +195,12 @@ fn no_controller() -> Controller
         serial: 0,
         point: 0,
         product: 0,
-    };
-    restarted(set, 0, 0)
+    }
 }
 
 // The filter is emptied, Z is 0, the runs are cleared and no tick was the last; all else is kept.
-fn taken(set: Settings, mut c: Controller) -> Controller
-    ensures { λ r. ⌜ r ≡ taken set c ⌝ }
+fn taken(set: Settings, mut c: Controller) -> SetTo
+    ensures { λ r. ⌜ (r .next ≡ taken set c) × (r .answer ≡ SetAnswer.Taken) ⌝ }
 {
     let zero = Units { v: 0 };
     let emptied = Window::new();
@@ -216,5 +216,8 @@ fn taken(set: Settings, mut c: Controller) -> Controller
     c.s = 0;
     c.runs = runs;
     c.unstarted = false;
-    c
+    SetTo {
+        next: c,
+        answer: SetAnswer::Taken,
+    }
 }

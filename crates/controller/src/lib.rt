@@ -13,11 +13,7 @@ use dosing::Units;
 use settings::Settings;
 use window::Window;
 ghost use mathlib.Core.Path.{_≡_};
-ghost use lib.IntN.{_-ℤ_};
-ghost use Rattle.dosing.specs.Rules.{units};
 ghost use Rattle.controller.specs.Calls.{readyIn};
-ghost use Rattle.controller.specs.Tick.{atReady};
-ghost use Rattle.controller.specs.Parts.{Small};
 
 // F14 names its channel.
 pub enum Fault {
@@ -148,25 +144,5 @@ fn is_ready(condition: Condition, phase: Phase) -> bool
     let Condition::Clear = condition else {
         return false;
     };
-    at_ready(phase)
-}
-
-// The phase is Ready.
-fn at_ready(phase: Phase) -> bool
-    ensures { λ r. ⌜ r ≡ atReady phase ⌝ }
-{
-    match phase {
-        Phase::Ready => true,
-        _ => false,
-    }
-}
-
-// w = F-Z
-fn weight(f: Units, z: Units) -> Units
-    requires { ⌜ Small f z ⌝ }
-    ensures { λ r. ⌜ r ≡ units (f .v -ℤ z .v) ⌝ }
-{
-    let x = f.v;
-    let y = z.v;
-    Units { v: x - y }
+    stepping::at_ready(phase)
 }

@@ -4,24 +4,18 @@ use crate::Controller;
 use crate::Fault;
 use crate::TickAnswer;
 use crate::Ticked;
-use crate::at_ready;
-use crate::weight;
 use channels::Watch;
 use counters::Counters;
 use dosing::Dose;
 use dosing::Gates;
 use dosing::Phase;
-use dosing::Seen;
 use dosing::Units;
-use settings::Settings;
 ghost use mathlib.Core.Path.{_≡_};
-ghost use lib.IntN.{_-ℤ_};
+ghost use mathlib.Core.Bool.{false};
 ghost use Rattle.paper.specs.Answer.{done};
-ghost use Rattle.dosing.specs.Rules.{units};
-ghost use Rattle.scale.specs.Scale.{stableOf};
 ghost use Rattle.counters.specs.Counters.{recordsOf};
-ghost use Rattle.controller.specs.State.{withInputs};
-ghost use Rattle.controller.specs.Tick.{unstartedOf, faulted, step7, steps6to8, steps4and5, step3};
+ghost use Rattle.controller.specs.State.{withInputs, withUnstarted};
+ghost use Rattle.controller.specs.Tick.{faulted, step7, step3};
 ghost use Rattle.controller.specs.Sound.{Sound};
 ghost use Rattle.controller.specs.Says.{Ticks, saysTick};
 ghost use Rattle.controller.specs.Parts.{Gives, Small, Takes};
@@ -45,7 +39,11 @@ impl Controller {
                 answer: TickAnswer::Fault(why),
             };
         }
-        step3(self, Units { v: sample }, inputs)
+        let x = Units { v: sample };
+        if scale::is_outside(x) {
+            return outside(self, inputs);
+        }
+        steps4to8(self, x, inputs)
     }
 }
 
@@ -71,6 +69,15 @@ fn faulted(why: Fault, c: Controller) -> Ticked
     }
 }
 
+// Step 3 on a sample outside -900,000..900,000: the inputs are kept, the sample is not, F21.
+fn outside(mut c: Controller, inputs: u8) -> Ticked
+    ensures { λ r. ⌜ Gives (faulted Fault.F21 (withUnstarted false (withInputs inputs c))) r ⌝ }
+{
+    c.inputs = inputs;
+    c.unstarted = false;
+    faulted(Fault::F21, c)
+}
+
 // The outputs, with the dose record if one completed.
 fn answer_of(outputs: u8, product: u32, after: Counters, dose: Dose) -> TickAnswer
     ensures { λ r. ⌜ saysTick r ≡ done (record { outputs = outputs; doses = recordsOf product after dose }) ⌝ }
@@ -84,103 +91,60 @@ fn answer_of(outputs: u8, product: u32, after: Counters, dose: Dose) -> TickAnsw
     }
 }
 
-// What the phase rule sees: F, Z, w, start and stable.
-fn seen_of(set: Settings, f: Units, z: Units, s: u32, start: bool) -> Seen
-    requires { ⌜ Small f z ⌝ }
-    ensures { λ r. ⌜ r ≡ record { f = f; z = z; w = units (f .v -ℤ z .v); start = start; stable = stableOf set s } ⌝ }
-{
-    let w = weight(f, z);
-    let stable = scale::stable_of(set, s);
-    Seen {
-        f,
-        z,
-        w,
-        start,
-        stable,
-    }
-}
-
 // Step 7, the phase rule, and step 8: output 4 and S, the counters, and the answer.
 fn steps7and8(c: Controller, start: bool) -> Ticked
     requires { ⌜ Small (c .f) (c .z) ⌝ }
     ensures { λ r. ⌜ Gives (step7 c start) r ⌝ }
 {
     let began = c.phase;
-    let seen = seen_of(c.set, c.f, c.z, c.s, start);
-    let moved = dosing::step(c.set, began, seen);
-    let phase = moved.phase;
-    let z = moved.z;
-    let gates = moved.gates;
-    let dose = moved.dose;
-    let unstarted = is_unstarted(began, start, phase);
-    let alarm = scale::over_capacity(c.set, c.f, z);
-    let s = scale::calm_after(c.gates, gates, c.s);
-    let counters = counters::counters_after(c.counters, dose);
-    let answer = answer_of(
-        channels::outputs_of(gates, alarm),
-        c.set.product,
-        counters,
-        dose,
-    );
+    let to = stepping::step(c.set, began, c.f, c.z, c.s, c.gates, c.counters, start);
+    let phase = to.phase;
+    let z = to.z;
+    let gates = to.gates;
+    let dose = to.dose;
+    let counters = to.counters;
+    let answer = answer_of(to.outputs, c.set.product, counters, dose);
     let next = Controller {
-        z,
-        s,
         phase,
+        z,
+        s: to.s,
         gates,
-        alarm,
+        alarm: to.alarm,
         counters,
-        unstarted,
+        unstarted: to.unstarted,
         ..c
     };
     Ticked { next, answer }
 }
 
-// The tick began and ended in Ready with start off.
-fn is_unstarted(began: Phase, start: bool, ended: Phase) -> bool
-    ensures { λ r. ⌜ r ≡ unstartedOf began start ended ⌝ }
+// From step 4 on: the inputs and the sample are kept; F, start and S; the lowest channel whose run reached its limit is F14, else the phase rule.
+fn steps4to8(mut c: Controller, x: Units, inputs: u8) -> Ticked
+    requires { ⌜ Takes c x ⌝ }
+    ensures { λ r. ⌜ Gives (step3 c (x .v) inputs) r ⌝ }
 {
-    at_ready(began) & !start & at_ready(ended)
-}
-
-// From step 6 on: the lowest channel whose run reached its limit is F14, else the phase rule.
-fn steps6to8(mut c: Controller, start: bool, s: u32) -> Ticked
-    requires { ⌜ Small (c .f) (c .z) ⌝ }
-    ensures { λ r. ⌜ Gives (steps6to8 c start s) r ⌝ }
-{
-    let runs = channels::runs_after(c.set, c.gates, c.inputs, c.runs);
-    c.s = s;
+    c.inputs = inputs;
+    c.unstarted = false;
+    let v = x.v;
+    let window = c.window.push(v);
+    let held = window.held;
+    let to = stepping::sample(
+        c.set,
+        c.gates,
+        c.window.held == 0,
+        &window.samples,
+        held,
+        c.f,
+        c.s,
+    );
+    let start = channels::start_of(c.set, c.link, inputs);
+    let runs = channels::runs_after(c.set, c.gates, inputs, c.runs);
+    let f = to.f;
+    c.window = window;
+    c.f = f;
+    c.s = to.s;
     c.runs = runs;
     match channels::reached(runs) {
         Watch::F14(channel) => faulted(Fault::F14(channel), c),
         Watch::Clear => steps7and8(c, start),
     }
-}
-
-// Steps 4 and 5, and those after: the sample and the inputs are kept, F, start and S.
-fn steps4and5(mut c: Controller, x: Units, inputs: u8) -> Ticked
-    requires { ⌜ Takes c x ⌝ }
-    ensures { λ r. ⌜ Gives (steps4and5 (withInputs inputs c) (x .v)) r ⌝ }
-{
-    let sample = x.v;
-    let window = c.window.push(sample);
-    let f = scale::mean_of(window, scale::filter_of(c.set, c.gates));
-    let s = scale::calm_run(c.window.held == 0, f, c.f, c.s);
-    let start = channels::start_of(c.set, c.link, inputs);
-    c.window = window;
-    c.f = f;
-    c.inputs = inputs;
-    steps6to8(c, start, s)
-}
-
-// Step 3, and those after: the inputs are kept; a sample outside -900,000..900,000 is F21 and is not kept.
-fn step3(mut c: Controller, x: Units, inputs: u8) -> Ticked
-    requires { ⌜ Sound c × (c .condition ≡ Condition.Clear) ⌝ }
-    ensures { λ r. ⌜ Gives (step3 c (x .v) inputs) r ⌝ }
-{
-    c.unstarted = false;
-    if scale::is_outside(x) {
-        c.inputs = inputs;
-        return faulted(Fault::F21, c);
-    }
-    steps4and5(c, x, inputs)
 }

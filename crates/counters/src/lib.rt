@@ -1,7 +1,7 @@
 // The counters, and the record of a completed dose.
 use dosing::Dose;
 ghost use mathlib.Core.Path.{_≡_};
-ghost use Prim.Native.Nat.{_+_, _%_, _<_};
+ghost use Prim.Native.Nat.{_+_, _%_};
 ghost use Rattle.counters.specs.Says.{Counts, Records};
 
 // The number of doses, and the sum of their amounts.

@@ -68,15 +68,10 @@ sees w start stable = record { f = units w; z = units (pos 0); w = units w; star
 abbrev seesFrom : ℤ → ℤ → Seen
 seesFrom f z = record { f = units f; z = units z; w = units (f -ℤ z); start = true; stable = false }
 
--- AL1: at 399 coarse is open; at 400 shut, fine open; at 479 fine open; at 480 both shut
-pub boundary :
-    (stepOf al1 (Coarse (units (pos 0))) (sees (pos 399) true false) .gates ≡ gates true false false)
-    × (stepOf al1 (Coarse (units (pos 0))) (sees (pos 400) true false) .gates ≡ gates false true false)
-    × (stepOf al1 (Fine (units (pos 0))) (sees (pos 479) true false) .gates ≡ gates false true false)
-    × (stepOf al1 (Fine (units (pos 0))) (sees (pos 480) true false) .gates ≡ shut)
-    × (stepOf al1 (Coarse (units (pos 0))) (sees (pos 480) true false) ≡ to (Settle (units (pos 0)) 0) shut (sees (pos 480) true false))
-unfolding stepOf coarseStage fineStage fill full reachedWf reachedWc Wc Wf pick
-boundary = (refl, refl, refl, refl, refl)
+-- AL1: at Wf the coarse stage shuts both and enters Settle at once
+pub fine-passed : stepOf al1 (Coarse (units (pos 0))) (sees (pos 480) true false) ≡ to (Settle (units (pos 0)) 0) shut (sees (pos 480) true false)
+unfolding stepOf coarseStage fill full reachedWf Wf pick
+fine-passed = refl
 
 -- coarse does not open again in the fine stage
 pub fine-stays : stepOf al1 (Fine (units (pos 0))) (sees (pos 300) true false) .gates ≡ gates false true false

@@ -83,9 +83,6 @@ pub ready-shut : (set : Settings) → gatesOf set Ready ≡ shut
 unfolding gatesOf
 ready-shut set = refl
 
-pub step-ready-shut : (set : Settings) (p : Phase) (t : Seen) → stepOf set p t .phase ≡ Ready → stepOf set p t .gates ≡ shut
-step-ready-shut set p t e = step-gates set p t ∙ ap (gatesOf set) e ∙ ready-shut set
-
 -- the zero: it changes only from Ready, where Fill begins
 
 zero-ways : (Q : Units → Type 0) (set : Settings) (p : Phase) (t : Seen) → Q (t .z) → (p ≡ Ready → leb (set .algorithm) 1 ≡ true → Q (zeroed set t .z)) → Q (stepOf set p t .z)

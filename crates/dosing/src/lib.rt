@@ -1,11 +1,16 @@
 // The phase rules of AL0 to AL3 as one step: no samples, no counters.
 use settings::Settings;
 ghost use mathlib.Core.Path.{_≡_};
+ghost use mathlib.Core.Bool.{not, _&&_};
 ghost use Prim.Native.Nat.{_+_, _-_};
+ghost use lib.Dec.{eqb};
 ghost use lib.IntN.{pos, negℤ, _-ℤ_};
 ghost use lib.Signed.{ltZ, leZ};
 ghost use Rattle.dosing.specs.Rules.{gates, shut, to, complete, reachedWf, reachedWc, notBelowZero, zeroed, full, coarseStage, fineStage, readyToFill, fill, hold, settleEnds, dischargeOpens, settle, amountOf, discharge, load, calm, doseCoarse, doseFine, doseSettle, readyToDose, ready};
 ghost use Rattle.dosing.specs.Calls.{TellsNear, Steps};
+
+// Settle and Calm last at most so many ticks for each 1 of p9.
+pub const SETTLE_TICKS: u64 = 256;
 
 // A weight in display units.
 pub struct Units {
@@ -119,18 +124,18 @@ fn not_below_zero(a: Units, b: Units) -> u32
     if v < 0 { 0 } else { v as u32 }
 }
 
-// a-b of two settings; 0 where b is the greater.
-fn less(a: u32, b: u32) -> u32
-    ensures { λ r. ⌜ r ≡ a - b ⌝ }
+// D less a lead: the weight at which that lead shuts its gate; 0 where the lead is the greater.
+fn shuts_at(dose: u32, lead: u32) -> u32
+    ensures { λ r. ⌜ r ≡ dose - lead ⌝ }
 {
-    if b <= a { a - b } else { 0 }
+    if lead <= dose { dose - lead } else { 0 }
 }
 
 // x >= Wf
 fn reached_wf(set: Settings, x: Wide) -> bool
     ensures { λ r. ⌜ r ≡ reachedWf set (x .v) ⌝ }
 {
-    let wf = less(set.dose, set.pf);
+    let wf = shuts_at(set.dose, set.pf);
     at_least(x, wf)
 }
 
@@ -138,7 +143,7 @@ fn reached_wf(set: Settings, x: Wide) -> bool
 fn reached_wc(set: Settings, x: Wide) -> bool
     ensures { λ r. ⌜ r ≡ reachedWc set (x .v) ⌝ }
 {
-    let wc = less(set.dose, set.pc);
+    let wc = shuts_at(set.dose, set.pc);
     at_least(x, wc)
 }
 
@@ -262,14 +267,31 @@ fn ready_to_fill(set: Settings, t: Seen) -> Moved
     rests(Phase::Ready, t)
 }
 
-// AL0: start off during Fill closes both, Ready; this is looked at before the weight.
-fn fill(set: Settings, t: Seen, stage: Moved) -> Moved
-    ensures { λ r. ⌜ r ≡ fill set t stage ⌝ }
+// AL0: start off during Fill ends it.
+fn start_gone(set: Settings, t: Seen) -> bool
+    ensures { λ r. ⌜ r ≡ (eqb (set .algorithm) 0 && not (t .start)) ⌝ }
 {
-    if (set.algorithm == 0) & !t.start {
+    (set.algorithm == 0) & !t.start
+}
+
+// Fill, coarse stage: start off closes both, Ready; this is looked at before the weight.
+fn fill_coarse(set: Settings, w0: Units, t: Seen) -> Moved
+    ensures { λ r. ⌜ r ≡ fill set t (coarseStage set w0 t) ⌝ }
+{
+    if start_gone(set, t) {
         return rests(Phase::Ready, t);
     }
-    stage
+    coarse_stage(set, w0, t)
+}
+
+// The same in the fine stage.
+fn fill_fine(set: Settings, w0: Units, t: Seen) -> Moved
+    ensures { λ r. ⌜ r ≡ fill set t (fineStage set w0 t) ⌝ }
+{
+    if start_gone(set, t) {
+        return rests(Phase::Ready, t);
+    }
+    fine_stage(set, w0, t)
 }
 
 // AL0: it holds with both closed until start goes off, then Ready.
@@ -286,7 +308,7 @@ fn hold(t: Seen) -> Moved
 fn settle_ends(set: Settings, n: u64, stable: bool) -> bool
     ensures { λ r. ⌜ r ≡ settleEnds set (n + 1) stable ⌝ }
 {
-    let last = 256 * (set.p9 as u64);
+    let last = SETTLE_TICKS * (set.p9 as u64);
     if n < last {
         return stable | (last <= n + 1);
     }
@@ -428,8 +450,8 @@ pub fn step(set: Settings, phase: Phase, seen: Seen) -> Moved
 {
     match phase {
         Phase::Ready => ready(set, seen),
-        Phase::Coarse { w0 } => fill(set, seen, coarse_stage(set, w0, seen)),
-        Phase::Fine { w0 } => fill(set, seen, fine_stage(set, w0, seen)),
+        Phase::Coarse { w0 } => fill_coarse(set, w0, seen),
+        Phase::Fine { w0 } => fill_fine(set, w0, seen),
         Phase::Hold => hold(seen),
         Phase::Settle { w0, n } => settle(set, w0, n, seen),
         Phase::Discharge { w0, ws, settled } => discharge(set, w0, ws, settled, seen),

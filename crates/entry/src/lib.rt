@@ -1,6 +1,12 @@
 // An entry of the journal: the text of a D or an H line of either form, or of the V line, written into a lent buffer.
+use journal::D;
 use journal::Form;
+use journal::H;
 use journal::Line;
+use journal::TWO;
+use journal::V;
+use text::LF;
+use text::TAB;
 ghost use mathlib.Core.Path.{_≡_};
 ghost use mathlib.Core.List.{[], _∷_};
 ghost use Prim.Native.Nat.{_+_, _≤_};
@@ -20,19 +26,6 @@ pub enum Wrote {
     R10,
     R8,
 }
-
-const TAB: u8 = 9;
-
-const LF: u8 = 10;
-
-const D: u8 = 68;
-
-const H: u8 = 72;
-
-const V: u8 = 86;
-
-// The number of the new form, as the V line has it.
-const TWO: u8 = 50;
 
 // The greatest product of a line: an old one has none but 0.
 fn product_most(form: Form) -> u32

@@ -87,12 +87,7 @@ four a b c d = record { low = a; middle = b; high = c; con = d }
 abbrev pub weight : ℤ → Bool → Bool → ℕ → Weight
 weight w s o p = record { value = w; stable = s; over = o; point = p }
 
--- document 01's boundary table: field 05 00 00 91: -5, stable, one place
-pub minus-five : (readOf (four 0x05 0x00 0x00 0x91) ≡ done (weight (negsuc 4) true false 1)) × (writeOf (weight (negsuc 4) true false 1) ≡ done (four 0x05 0x00 0x00 0x91))
-unfolding readOf readable isBcd weightOf signed hasBit valueOf writeOf writable fieldOf conOf bitOf negative bcdOf pick
-minus-five = (refl, refl)
-
--- minus zero reads as 0, bits 6 and 5 are not looked at, each digit above 9 is refused, the low byte stands first; six digits can be written and seven cannot, nor a point of 8
+-- minus zero reads as 0, bits 6 and 5 are not looked at, each digit above 9 is refused, the low byte stands first; -5, stable, one place is written as 05 00 00 91; six digits can be written and seven cannot, nor a point of 8
 pub edges :
     (readOf (four 0 0 0 0xE0) ≡ done (weight (pos 0) false false 0))
     × (readOf (four 0x0A 0 0 0) ≡ refused R16 [])
@@ -102,9 +97,10 @@ pub edges :
     × (readOf (four 0 0 0x0A 0) ≡ refused R16 [])
     × (readOf (four 0 0 0xA0 0) ≡ refused R16 [])
     × (readOf (four 0x56 0x34 0x12 0x60) ≡ done (weight (pos 123456) false false 0))
+    × (writeOf (weight (negsuc 4) true false 1) ≡ done (four 0x05 0x00 0x00 0x91))
     × (writeOf (weight (negsuc 999998) false true 7) ≡ done (four 0x99 0x99 0x99 0x8F))
     × (writeOf (weight (pos 0) false false 0) ≡ done (four 0 0 0 0))
     × (writeOf (weight (pos 1000000) false false 0) ≡ refused R16 [])
     × (writeOf (weight (pos 1) false false 8) ≡ refused R16 [])
 unfolding readOf readable isBcd weightOf signed hasBit valueOf writeOf writable fieldOf conOf bitOf negative bcdOf pick
-edges = (refl, refl, refl, refl, refl, refl, refl, refl, refl, refl, refl, refl)
+edges = (refl, refl, refl, refl, refl, refl, refl, refl, refl, refl, refl, refl, refl)

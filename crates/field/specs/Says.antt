@@ -38,11 +38,11 @@ got-one G.R16 G.R16 e = refl
 abbrev pub Sizes : ℤ → ℕ → Type 0
 Sizes v r = r ≡ natAbs v
 
-abbrev pub Writes : Weight → Written → Type 0
-Writes v r = saysWritten r ≡ writeOf v
+abbrev pub WritesWeight : Weight → Written → Type 0
+WritesWeight v r = saysWritten r ≡ writeOf v
 
-abbrev pub Reads : Field → Got → Type 0
-Reads f r = saysGot r ≡ readOf f
+abbrev pub ReadsWeight : Field → Got → Type 0
+ReadsWeight f r = saysGot r ≡ readOf f
 
 abbrev pub Echoes : Weight → Got → Type 0
 Echoes v r = saysGot r ≡ echoOf v
@@ -51,10 +51,10 @@ Echoes v r = saysGot r ≡ echoOf v
 pub size-determined : (v : ℤ) (a b : ℕ) → Sizes v a → Sizes v b → a ≡ b
 size-determined v a b p q = same p q
 
-pub write-determined : (v : Weight) (a b : Written) → Writes v a → Writes v b → a ≡ b
+pub write-determined : (v : Weight) (a b : Written) → WritesWeight v a → WritesWeight v b → a ≡ b
 write-determined v a b p q = written-one a b (same p q)
 
-pub read-determined : (f : Field) (a b : Got) → Reads f a → Reads f b → a ≡ b
+pub read-determined : (f : Field) (a b : Got) → ReadsWeight f a → ReadsWeight f b → a ≡ b
 read-determined f a b p q = got-one a b (same p q)
 
 pub echo-determined : (v : Weight) (a b : Got) → Echoes v a → Echoes v b → a ≡ b

@@ -4,7 +4,7 @@ ghost use mathlib.Core.Bool.{true};
 ghost use Prim.Native.Nat.{_≤_, _<_, _^_};
 ghost use lib.IntN.{natAbs};
 ghost use Rattle.field.specs.Field.{bcdOf, isBcd, valueOf, bitOf, hasBit, negative, conOf, fieldOf, writable, signed, weightOf};
-ghost use Rattle.field.specs.Says.{Sizes, Writes, Reads, Echoes};
+ghost use Rattle.field.specs.Says.{Sizes, WritesWeight, ReadsWeight, Echoes};
 
 // What a field stands for.
 pub struct Weight {
@@ -90,7 +90,7 @@ fn bcd_of(digits: u32) -> u8
 fn is_bcd(byte: u8) -> bool
     ensures { λ r. ⌜ r ≡ isBcd byte ⌝ }
 {
-    byte % 16 <= 9 && byte / 16 <= 9
+    (byte % 16 <= 9) & (byte / 16 <= 9)
 }
 
 // The number of a byte's two halves.
@@ -139,7 +139,7 @@ fn weight_of(f: Field) -> Weight
 
 // The field of a weight, or R16.
 pub fn write(weight: Weight) -> Written
-    ensures { λ r. ⌜ Writes weight r ⌝ }
+    ensures { λ r. ⌜ WritesWeight weight r ⌝ }
 {
     let size = size_of(weight.value);
     if size > 999999 {
@@ -153,7 +153,7 @@ pub fn write(weight: Weight) -> Written
 
 // What a field stands for, or R16.
 pub fn read(field: Field) -> Got
-    ensures { λ r. ⌜ Reads field r ⌝ }
+    ensures { λ r. ⌜ ReadsWeight field r ⌝ }
 {
     if !is_bcd(field.low) {
         return Got::R16;

@@ -5,11 +5,13 @@ use Prim.Native.Nat.{ℕ, _+_, _<_}
 use native.Mathlib.Numerals.{add-one}
 use lib.ListN.{length, getD, drop, set, length-append, length-set}
 use lib.Seq.{sets, length-sets, drop-cons}
+use borrow.Author.Tests.{ne-eqb, lt-ltb}
+use Rattle.laws.specs.Pick.{pick-t, pick-f}
 use Rattle.laws.specs.Over.{sets-append}
 use Rattle.frame.specs.Check.{check, enter, enterAll}
 use Rattle.frame.specs.Frame.{sentByte, sent, frame}
 use Rattle.frame.specs.FrameLaws.{frame-parts}
-use Rattle.frame.specs.Read.{Reading, step, run}
+use Rattle.frame.specs.Read.{Reading, seek, body, grown, step, run}
 
 pub enterAll-step : (l : List ℕ) (i s : ℕ) → i < length l → enterAll s (drop i l) ≡ enterAll (enter s (getD l i 0)) (drop (i + 1) l)
 unfolding enterAll
@@ -41,3 +43,17 @@ module _ (o body out₁ out₂ : List ℕ) (at end : ℕ)
 
   pub stores-length : length out₂ ≡ length o
   stores-length = ap length e₂ ∙ length-sets out₁ at (sentByte (check body)) ∙ ap length e₁ ∙ length-sets (set o 0 0xFF) 1 (sent body) ∙ length-set o 0 0xFF
+
+-- a byte other than FF leaves a search a search
+pub seek-step : (i : ℕ) (s : List ℕ) → i < length s → (getD s i 0 ≡ 0xFF → ⊥) → run seek (i + 1) (drop (i + 1) s) ≡ run seek i (drop i s)
+unfolding step
+seek-step i s h e = sym (run-step seek i s h ∙ ap (λ (r : Reading). run r (i + 1) (drop (i + 1) s)) (pick-f _ _ _ (ne-eqb (getD s i 0) 0xFF e)))
+
+-- a byte other than FF makes a body that has room one longer
+pub body-step : (p : ℕ) (l : List ℕ) (i : ℕ) (s : List ℕ) → i < length s → (getD s i 0 ≡ 0xFF → ⊥) → length l < 255
+    → run (body p (l ++ getD s i 0 ∷ [])) (i + 1) (drop (i + 1) s) ≡ run (body p l) i (drop i s)
+unfolding step grown
+body-step p l i s h e room =
+    sym
+    (run-step (body p l) i s h
+    ∙ ap (λ (r : Reading). run r (i + 1) (drop (i + 1) s)) (pick-f _ _ _ (ne-eqb (getD s i 0) 0xFF e) ∙ pick-t _ _ _ (lt-ltb (length l) 255 room)))

@@ -1,5 +1,4 @@
 -- The check byte (document 01, "On the line"). Assumes nothing.
-use mathlib.Core.Path.{_≡_, refl}
 use Prim.Native.Nat.{ℕ, zero, suc, _+_, _*_, _/_, _%_, _^_}
 use mathlib.Core.Bool.{Bool, true, false}
 use mathlib.Core.List.{List, [], _∷_}
@@ -31,8 +30,3 @@ enterAll s (x ∷ xs) = enterAll (enter s x) xs
 -- The check byte starts at 0; a zero byte is added at the end
 unfoldable pub check : List ℕ → ℕ
 check body = enter (enterAll 0 body) 0
-
--- document 01's boundary table: of 01 C3 it is E3, of 01 C2 8A, of 01 C0 58, of 01 alone 69
-pub cases : (check (0x01 ∷ 0xC3 ∷ []) ≡ 0xE3) × (check (0x01 ∷ 0xC2 ∷ []) ≡ 0x8A) × (check (0x01 ∷ 0xC0 ∷ []) ≡ 0x58) × (check (0x01 ∷ []) ≡ 0x69)
-unfolding check enterAll enter enterBits enterBit fellOut
-cases = (refl, refl, refl, refl)

@@ -34,10 +34,6 @@ unfolding enterAll
 enterAll-lt s [] h = h
 enterAll-lt s (x ∷ xs) h = enterAll-lt (enter s x) xs (enter-lt s x h)
 
-pub check-lt : (body : List ℕ) → check body < 256
-unfolding check
-check-lt body = enter-lt (enterAll 0 body) 0 (enterAll-lt 0 body (lit< tt))
-
 pub enterAll-append : (s : ℕ) (xs ys : List ℕ) → enterAll s (xs ++ ys) ≡ enterAll (enterAll s xs) ys
 unfolding enterAll
 enterAll-append s [] ys = refl

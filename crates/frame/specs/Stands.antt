@@ -1,9 +1,9 @@
 -- What the reader's state and buffer stand for. Assumes nothing.
 use mathlib.Core.Path.{_≡_}
 use mathlib.Core.List.{List}
-use Prim.Native.Nat.{ℕ, _≤_}
-use lib.ListN.{length, take}
-use Rattle.frame.specs.Read.{Reading, seek, lead, body, mark, ended}
+use Prim.Native.Nat.{ℕ, _+_, _≤_}
+use lib.ListN.{length, take, drop}
+use Rattle.frame.specs.Read.{Reading, seek, lead, body, mark, ended, run}
 use Rattle.frame.specs.declared.State.{State}
 use Rattle.frame.specs.declared.State.the-variants as S
 
@@ -31,3 +31,23 @@ pub record Held (st : State) (buf : List ℕ) : Type 0 where
 pub record Stands (st : State) (buf : List ℕ) (r : Reading) : Type 0 where
   pub reading : stands st buf ≡ r
   pub held : Held st buf
+
+-- a search from place i on of the bytes s is one from place r on
+pub record Skips (s : List ℕ) (i r : ℕ) : Type 0 where
+  pub on : i ≤ r
+  pub inside : r ≤ length s
+  pub same : run seek r (drop r s) ≡ run seek i (drop i s)
+
+-- r bytes from place i on go to the body of n bytes at the buffer's start, and reading goes on behind them
+pub record Takes (s : List ℕ) (i n : ℕ) (old new : List ℕ) (r : ℕ) : Type 0 where
+  pub inside : i + r ≤ length s
+  pub fits : n + r ≤ 255
+  pub full : length new ≡ 255
+  pub same : (p : ℕ) → run (body p (take (n + r) new)) (i + r) (drop (i + r) s) ≡ run (body p (take n old)) i (drop i s)
+
+-- reading from place j on with this state and buffer is reading from place i on with the others
+pub record Goes (s : List ℕ) (st : State) (buf : List ℕ) (i : ℕ) (next : State) (new : List ℕ) (j : ℕ) : Type 0 where
+  pub on : i ≤ j
+  pub inside : j ≤ length s
+  pub same : run (stands next new) j (drop j s) ≡ run (stands st buf) i (drop i s)
+  pub held : Held next new

@@ -10,7 +10,7 @@ ghost use Rattle.frame.specs.Frame.{sentByte, sent, frame};
 ghost use Rattle.frame.specs.Read.{grown, step, readAll, tooShort, bad};
 ghost use Rattle.frame.specs.Says.{ChecksTo, TellsFramable, Writes, Reads};
 ghost use Rattle.frame.specs.Puts.{Puts};
-ghost use Rattle.frame.specs.Stands.{stands, Held, Stands};
+ghost use Rattle.frame.specs.Stands.{stands, Held, Stands, Skips, Takes, Goes};
 
 mod table;
 
@@ -53,6 +53,12 @@ enum State {
         len: usize,
         place: usize,
     },
+}
+
+// How far reading has come, and the place to go on at.
+struct Ahead {
+    st: State,
+    at: usize,
 }
 
 // The table, made once for the bytes of a body.
@@ -250,6 +256,65 @@ fn step(st: State, buf: &mut [u8], i: usize, b: u8) -> State
     }
 }
 
+// The place of the first FF from place i on, or that after the last byte.
+fn skip(bytes: &[u8], i: usize) -> usize
+    requires { ⌜ i ≤ length (now bytes) ⌝ }
+    ensures { λ r. ⌜ Skips (now (bytes .entry)) i r ⌝ }
+{
+    let mut p = i;
+    while p < bytes.len() {
+        if bytes[p] == 0xFF {
+            return p;
+        }
+        p += 1;
+    }
+    p
+}
+
+// Takes the bytes from place i on into a body of n bytes, as long as none is FF and there is room, and answers how many.
+fn fill(bytes: &[u8], i: usize, buf: &mut [u8], n: usize) -> usize
+    requires { ⌜ (i ≤ length (now bytes)) × (length (now buf) ≡ 255) × (n ≤ 255) ⌝ }
+    ensures { λ r. ⌜ Takes (now (bytes .entry)) i n (now (buf .entry)) (now (buf .exit)) r ⌝ }
+{
+    let mut k: usize = 0;
+    while i + k < bytes.len() {
+        let b = bytes[i + k];
+        if b == 0xFF {
+            return k;
+        }
+        if 255 <= n + k {
+            return k;
+        }
+        buf[n + k] = b;
+        k += 1;
+    }
+    k
+}
+
+// Reads on from place i over the bytes that leave a search a search and a body a body.
+fn run_on(st: State, bytes: &[u8], i: usize, buf: &mut [u8]) -> Ahead
+    requires { ⌜ (i ≤ length (now bytes)) × Held st (now buf) ⌝ }
+    ensures { λ r. ⌜ Goes (now (bytes .entry)) st (now (buf .entry)) i (r .st) (now (buf .exit)) (r .at) ⌝ }
+{
+    match st {
+        State::Seek => Ahead {
+            st,
+            at: skip(bytes, i),
+        },
+        State::Body { before, len } => {
+            let k = fill(bytes, i, buf, len);
+            Ahead {
+                st: State::Body {
+                    before,
+                    len: len + k,
+                },
+                at: i + k,
+            }
+        }
+        _ => Ahead { st, at: i },
+    }
+}
+
 // Reads bytes up to the end of the first finished body, which is left at the buffer's start.
 fn scan(bytes: &[u8], buf: &mut [u8]) -> State
     requires { ⌜ length (now buf) ≡ 255 ⌝ }
@@ -263,6 +328,9 @@ fn scan(bytes: &[u8], buf: &mut [u8]) -> State
         if let State::Ended { len: _, place: _ } = st {
             return st;
         }
+        let ahead = run_on(st, bytes, i, buf);
+        st = ahead.st;
+        i = ahead.at;
     }
     st
 }

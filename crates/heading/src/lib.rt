@@ -2,8 +2,7 @@
 use libc::STDIN_FILENO;
 use lines::Intake;
 use lines::Next;
-ghost use lib.ListN.{length};
-ghost use Rattle.heading.specs.Heading.{Inside, Behind};
+ghost use Rattle.heading.specs.Heading.{Turns, ReadsHeading, Behind};
 
 // The first line, from one place of the buffer to another, its LF left out; that more has to be read; or that there is none.
 pub enum Found {
@@ -20,7 +19,7 @@ pub struct Headed {
 
 // Looks for the first line in what is held; where it is not there in full, reads on.
 fn turn(intake: Intake, buffer: &mut [u8]) -> Headed
-    ensures { λ r. ⌜ Inside (r .found) (length (now (buffer .exit))) ⌝ }
+    ensures { λ r. ⌜ Turns intake (now (buffer .entry)) (now (buffer .exit)) r ⌝ }
 {
     let taken = intake.next_line(buffer);
     let left = taken.intake;
@@ -47,7 +46,7 @@ fn turn(intake: Intake, buffer: &mut [u8]) -> Headed
 
 // Reads to the end of the first line; the turns are counted down from a number that no input uses up.
 pub fn read_heading(buffer: &mut [u8]) -> Headed
-    ensures { λ r. ⌜ Inside (r .found) (length (now (buffer .exit))) ⌝ }
+    ensures { λ r. ⌜ ReadsHeading (now (buffer .exit)) r ⌝ }
 {
     let mut headed = turn(Intake::start(), buffer);
     let mut turns: u64 = 9223372036854775808;
@@ -65,7 +64,7 @@ pub fn read_heading(buffer: &mut [u8]) -> Headed
 
 // Brings what is held of the journal to the buffer's start and reads on behind it; answers how many bytes stand there. Where the input ended before a first line there is no journal, and nothing is read again.
 pub fn read_journal(buffer: &mut [u8], headed: Headed) -> usize
-    ensures { λ r. ⌜ Behind (headed .found) r (length (now (buffer .exit))) ⌝ }
+    ensures { λ r. ⌜ Behind headed (headed .found) (now (buffer .entry)) (now (buffer .exit)) r ⌝ }
 {
     let found = headed.found;
     if let Found::Nothing = found {

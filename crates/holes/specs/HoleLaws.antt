@@ -238,3 +238,16 @@ counted-follows k h = rw (eq-eqb _ _ (next-is k h)) (or-true (eqb ((k + 1) % 100
 pub one-follows : (k : ℕ) → follows k 1 ≡ true
 unfolding follows
 one-follows k = refl
+
+or-elim : {Q : Type 0} (a b : Bool) → (a || b) ≡ true → (a ≡ true → Q) → (b ≡ true → Q) → Q
+or-elim true b e f g = f refl
+or-elim false b e f g = g e
+
+-- and nothing else follows: a count follows exactly if it is 1, or the one before it and one (0 after 999,999)
+pub follows-exactly : (before count : ℕ) → before ≤ 999999 → Exactly (follows before count ≡ true) ((count ≡ 1) ⊎ (count ≡ (before + 1) % 1000000))
+unfolding follows
+follows-exactly before count h = (λ e. or-elim _ _ e (λ p. inl (eqb-true _ _ p)) (λ p. inr (eqb-true _ _ p ∙ sym (next-is before h))), made)
+  where
+    made : (count ≡ 1) ⊎ (count ≡ (before + 1) % 1000000) → follows before count ≡ true
+    made (inl e) = ap (follows before) e ∙ one-follows before
+    made (inr e) = ap (follows before) e ∙ counted-follows before h

@@ -12,3 +12,4 @@ pub mod TallyLaws
 pub mod Refused
 pub mod Among
 pub mod ProductLaws
+pub mod Span

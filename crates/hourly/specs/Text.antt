@@ -80,7 +80,7 @@ printOf w s room = onDone (journalOf s) (λ ls. inRoom [] room (hoursText w ls))
 abbrev printed : ℕ → Row → HourRow
 printed h r = record { hour = h; row = r }
 
--- document 01's example, and its first and last row as bytes
+-- document 01's example, and its first, last and missing row as bytes
 pub example-rows : rowsOf All example ≡ printed 10 (rowM 2 998 0x407F300000000000) ∷ printed 11 rowI ∷ printed 12 rowX ∷ printed 13 rowI ∷ []
 unfolding rowsOf spanOf hoursFrom firstHour lastHour hourIn rowOf rowFrom hourOf inHole holeFrom endsHole doseBefore follows nextCount measuredOrIdle hasOn isOn amountsAt doseAt asksFor total greatest sumOf largestOf meanOf asF64 toBits div ofInt pick
 example-rows = refl
@@ -89,8 +89,19 @@ pub row-bytes :
     (rowText 10 (rowM 2 998 0x407F300000000000)
     ≡ 49 ∷ 48 ∷ 9 ∷ 77 ∷ 9 ∷ 50 ∷ 9 ∷ 57 ∷ 57 ∷ 56 ∷ 9 ∷ 52 ∷ 48 ∷ 55 ∷ 70 ∷ 51 ∷ 48 ∷ 48 ∷ 48 ∷ 48 ∷ 48 ∷ 48 ∷ 48 ∷ 48 ∷ 48 ∷ 48 ∷ 48 ∷ 10 ∷ [])
     × (rowText 13 rowI ≡ 49 ∷ 51 ∷ 9 ∷ 73 ∷ 10 ∷ [])
+    × (rowText 12 rowX ≡ 49 ∷ 50 ∷ 9 ∷ 88 ∷ 10 ∷ [])
 unfolding rowText decimal digitsOf glyph hexOf pick
-row-bytes = (refl, refl)
+row-bytes = (refl, refl, refl)
+
+-- An empty journal prints nothing
+pub empty-text : (w : Products) → hoursText w [] ≡ []
+unfolding hoursText rowsOf spanOf rowsText
+empty-text w = refl
+
+-- one division: 1, 1 and 3 by 3, where a product with a third would end in A
+pub mean-once : toBits binary64 (meanOf (1 ∷ 1 ∷ 3 ∷ [])) ≡ 0x3FFAAAAAAAAAAAAB
+unfolding meanOf sumOf total asF64 toBits div ofInt
+mean-once = refl
 
 -- a closing D without its H is missing; two D lines of an hour without an H too; hour 0; the mean of three amounts, rounded once
 pub closing-rows : rowsOf All (On 0 ∷ Dose 2 1 1 1 0 ∷ Dose 2 2 1 1 0 ∷ Dose 2 3 0 1 0 ∷ On 2 ∷ Dose 3 4 9 1 0 ∷ Dose 3 5 9 1 0 ∷ [])
@@ -125,6 +136,11 @@ pub product-rows :
     × (rowsOf (One 255) twoProducts ≡ printed 10 rowI ∷ printed 11 rowI ∷ printed 12 rowI ∷ printed 13 rowI ∷ printed 14 rowX ∷ [])
 unfolding rowsOf spanOf hoursFrom firstHour lastHour hourIn rowOf rowFrom hourOf inHole holeFrom endsHole doseBefore follows nextCount measuredOrIdle hasOn isOn amountsAt doseAt asksFor total greatest sumOf largestOf meanOf asF64 toBits div ofInt pick
 product-rows = (refl, refl, refl, refl)
+
+-- the first and the last hour are those of the journal's lines, also where another product was dosed there
+pub other-ends : rowsOf (One 7) (Dose 10 1 500 1 0 ∷ Dose 11 2 8 1 7 ∷ On 11 ∷ Dose 12 3 5 1 0 ∷ []) ≡ printed 10 rowX ∷ printed 11 (rowM 1 8 0x4020000000000000) ∷ printed 12 rowX ∷ []
+unfolding rowsOf spanOf hoursFrom firstHour lastHour hourIn rowOf rowFrom hourOf inHole holeFrom endsHole doseBefore follows nextCount measuredOrIdle hasOn isOn amountsAt doseAt asksFor total greatest sumOf largestOf meanOf asF64 toBits div ofInt pick
+other-ends = refl
 
 -- a hole makes its hours missing for every product, also for one with no D near it; and counts that follow over all products make none, though those of one product do not
 pub product-holes :

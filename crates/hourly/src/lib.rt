@@ -3,6 +3,7 @@ use holes::Before;
 use journal::Line;
 use journal::Past;
 use journal::Refusal;
+use text::LF;
 use text::Num;
 ghost use mathlib.Core.Path.{_≡_};
 ghost use mathlib.Core.Bool.{false};
@@ -32,8 +33,6 @@ pub enum Asked {
     Hour(Hour),
     Refused(Refusal),
 }
-
-const LF: u8 = 10;
 
 // What the lines tell of one hour: the number of its doses, their sum, the largest amount, whether its H was there, and whether it lies in a hole.
 pub struct Tally {

@@ -1,5 +1,7 @@
 // The journal: its V, D and H lines in two forms, their reader, the order of their hours, and what refuses a journal.
+use text::LF;
 use text::Num;
+use text::TAB;
 ghost use mathlib.Core.Path.{_≡_};
 ghost use Rattle.laws.specs.Pick.{pick};
 ghost use Rattle.journal.specs.Line.{versioned, isVersion, lineOf, whole};
@@ -70,18 +72,15 @@ pub struct Past {
     pub last: u32,
 }
 
-const TAB: u8 = 9;
+// The letters that lines begin with.
+pub const D: u8 = 68;
 
-const LF: u8 = 10;
+pub const H: u8 = 72;
 
-const D: u8 = 68;
-
-const H: u8 = 72;
-
-const V: u8 = 86;
+pub const V: u8 = 86;
 
 // The number of the new form, as the V line has it.
-const TWO: u8 = 50;
+pub const TWO: u8 = 50;
 
 // The V line has so many bytes.
 pub const VERSION_LEN: usize = 4;

@@ -1,13 +1,13 @@
 -- Laws of numbers as text: how a decimal is made of its digits, that reading gives back what was written and only that, and that two texts tell two numbers apart. Assumes nothing.
 use mathlib.Core.Path.{_≡_, refl, sym, ap, _∙_, subst}
-use mathlib.Core.Bool.{Bool, true, false, _&&_}
+use mathlib.Core.Bool.{Bool, true, false}
 use mathlib.Core.List.{List, [], _∷_, _++_, append-assoc}
 use Prim.Native.Nat.{ℕ, zero, suc, _+_, _-_, _*_, _/_, _%_, _^_, _≤_, _<_}
 use native.Mathlib.Nat.{pow-suc}
 use native.Mathlib.Omega.{arith}
 use native.Mathlib.Decide.{decLt}
 use lib.Dec.{T, leb, ltb}
-use lib.ListN.{length, getD, take, drop, length-append, List·getD-append, List·getD-eq-default}
+use lib.ListN.{length, getD, take, drop, length-append, List·getD-append}
 use lib.Seq.{take-at, drop-at}
 use borrow.Author.Tests.{lt-ltb, le-ltb, le-leb, lt-leb, leb-true}
 use Rattle.laws.specs.Pick.{pick, pick-t, pick-f}
@@ -123,13 +123,6 @@ decimal-at n k h = digit-range (getD (decimal n) k 0) (is-true (isDigit (getD (d
     is-true : (t : Bool) → T t → t ≡ true
     is-true true p = refl
     is-true false p = absurd p
-
-pub decimal-byte : (n k : ℕ) → getD (decimal n) k 0 < 256
-decimal-byte n k = go (decLt k (length (decimal n)))
-  where
-    go : Dec (k < length (decimal n)) → getD (decimal n) k 0 < 256
-    go (yes l) = omega (arith, decimal-at n k l)
-    go (no l) = omega (arith, List·getD-eq-default (decimal n) 0 {n = k} (omega arith))
 
 pub decimal-some : (n : ℕ) → 1 ≤ length (decimal n)
 decimal-some = by-tenths (λ (n : ℕ). 1 ≤ length (decimal n)) small more
@@ -286,11 +279,6 @@ number-only most (b ∷ bs) v rest e = go (isDigit b) refl (decLt 48 b) (decLt m
         let s = digits-only most (b - 48) bs v rest (omega arith) (omega arith) (ap (λ (x : ℕ). digitsFrom most x bs) (sym n) ∙ sym (digits-read most 0 b bs t (omega arith)) ∙ f) in
         let g : 48 + (b - 48) ≡ b = omega arith in
         (ap (λ (x : ℕ). x ∷ bs) (sym g) ∙ ap (λ (x : List ℕ). x ++ bs) (sym (decimal-small (b - 48) (omega (arith, digit-range b t)))) ∙ s .0, s .1)
-
--- what follows a number is shorter
-pub number-shorter : (most : ℕ) (l : List ℕ) (v : ℕ) (rest : List ℕ) → numberAt most l ≡ good v rest → length rest < length l
-number-shorter most l v rest e =
-    omega (arith, ap length (number-only most l v rest e .0), length-append (decimal v) rest, decimal-some v)
 
 -- each before what does not begin with a digit
 pub decimal-parts : (a b : ℕ) (x y : List ℕ) → Stops x → Stops y → decimal a ++ x ≡ decimal b ++ y → (a ≡ b) × (x ≡ y)

@@ -1,13 +1,13 @@
 -- An input that comes in blocks: what is carried from read to read, the line that is handed over next, and that over any blocks the lines are those of the whole input. Assumes nothing.
 use mathlib.Core.Path.{_≡_, refl, sym, ap, _∙_, subst}
 use mathlib.Core.Bool.{Bool, true, false, _||_, true≢false}
-use mathlib.Core.List.{List, [], _∷_, _++_, append-assoc, append-nil}
+use mathlib.Core.List.{List, [], _∷_, _++_, append-assoc}
 use Prim.Native.Nat.{ℕ, suc, _+_, _-_, _≤_, _<_}
 use native.Mathlib.Omega.{arith}
 use lib.Dec.{ltb}
 use lib.ListN.{length, take, drop, length-take, length-drop, length-append, length-replicate, drop-of-length-le}
 use lib.Seq.{length-take-le, take-take, drop-drop}
-use borrow.Author.Tests.{ltb-true, ltb-false, lt-ltb, le-ltb}
+use borrow.Author.Tests.{ltb-true, ltb-false, lt-ltb}
 use Rattle.laws.specs.Pick.{pick, pick-t, pick-f, pick-if, pick-all}
 use Rattle.paper.specs.Answer.{same}
 use Rattle.text.specs.Scan.{LF}

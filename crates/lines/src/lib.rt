@@ -1,6 +1,8 @@
 // An input that comes in blocks: the next whole line of what is held, and the bytes that are carried over to the next block.
 ghost use mathlib.Core.Path.{_≡_};
-ghost use Prim.Native.Nat.{_≤_, min};
+ghost use mathlib.Core.Bool.{false};
+ghost use Prim.Native.Nat.{_+_, _≤_, min};
+ghost use lib.ListN.{length};
 ghost use Rattle.lines.specs.Places.{endOf, Carries};
 ghost use Rattle.lines.specs.Intake.{overlong, HoldsNothing, HandsOver};
 
@@ -27,8 +29,8 @@ const LONGEST: usize = 4095;
 
 const LF: u8 = 10;
 
-// The place of the first LF from `at` on, or that after the last byte.
-fn line_end(block: &[u8], at: usize) -> usize
+// The place of the first LF from `at` on, or that after the last byte, byte by byte.
+fn end_from(block: &[u8], at: usize) -> usize
     ensures { λ r. ⌜ r ≡ endOf (now (block .entry)) at ⌝ }
 {
     let mut i = at;
@@ -37,6 +39,37 @@ fn line_end(block: &[u8], at: usize) -> usize
             return i;
         }
         i += 1;
+    }
+    i
+}
+
+// Whether an LF is among the 16 bytes from `at` on: all are looked at, which a compiler does at once.
+fn has_lf(block: &[u8], at: usize) -> bool
+    requires { ⌜ at + 16 ≤ length (now block) ⌝ }
+    ensures { λ r. ⌜ (r ≡ false → endOf (now (block .entry)) (at + 16) ≡ endOf (now (block .entry)) at) ⌝ }
+{
+    let mut found = false;
+    let mut k: usize = 0;
+    while k < 16 {
+        found = found | (block[at + k] == LF);
+        k += 1;
+    }
+    found
+}
+
+// The place of the first LF from `at` on, or that after the last byte.
+fn line_end(block: &[u8], at: usize) -> usize
+    ensures { λ r. ⌜ r ≡ endOf (now (block .entry)) at ⌝ }
+{
+    let mut i = at;
+    while i < block.len() {
+        if block.len() - i < 16 {
+            return end_from(block, i);
+        }
+        if has_lf(block, i) {
+            return end_from(block, i);
+        }
+        i += 16;
     }
     i
 }

@@ -1,4 +1,6 @@
 // The pieces of an answer's text, each put at a place of a lent buffer and answering the place after it. A piece without room is left out.
+ghost use Prim.Native.Nat.{_+_, _*_, _<_, _≤_};
+ghost use lib.ListN.{length};
 ghost use Rattle.io.specs.Counts.{Counts};
 
 // The letter of an answer, and its numbers: so many as `count` says, the first after a minus where `minus` is.
@@ -140,13 +142,34 @@ pub fn end(out: &mut [u8], at: usize) -> usize {
     text::put_byte(out, at, LF)
 }
 
+// The ASCII code of a hexadecimal digit, in upper case.
+fn digit(d: u8) -> u8
+    requires { ⌜ d < 16 ⌝ }
+{
+    if d < 10 { 48 + d } else { 55 + d }
+}
+
+// Bytes stored from `at` on, two digits a byte.
+fn store(out: &mut [u8], at: usize, bytes: &[u8])
+    requires { ⌜ at + 2 * length (now bytes) ≤ length (now out) ⌝ }
+{
+    for i in 0..bytes.len() {
+        let b = bytes[i];
+        out[at + 2 * i] = digit(b / 16);
+        out[at + 2 * i + 1] = digit(b % 16);
+    }
+}
+
 // Bytes, two digits a byte.
 fn digits(out: &mut [u8], at: usize, bytes: &[u8]) -> usize {
-    let mut p = at;
-    for i in 0..bytes.len() {
-        p = text::put_hex(out, p, 2, bytes[i] as u64);
+    if out.len() < at {
+        return at;
     }
-    p
+    if (out.len() - at) / 2 < bytes.len() {
+        return at;
+    }
+    store(out, at, bytes);
+    at + 2 * bytes.len()
 }
 
 // A tab, bytes, and the end of the line.

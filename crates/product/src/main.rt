@@ -2,12 +2,16 @@
 use chosen::Choice;
 use heading::Found;
 use libc::STDOUT_FILENO;
+ghost use mathlib.Core.Path.{_≡_};
 ghost use lib.ListN.{length};
-ghost use Rattle.heading.specs.Heading.{Inside};
+ghost use Rattle.chosen.specs.Choice.{noProduct, productLine};
+ghost use Rattle.chosen.specs.Says.{saysChoice};
+ghost use Rattle.heading.specs.Heading.{Inside, saidOf};
 
-// The product of the first line, if there is one.
+// The product of the first line; R2 where it is none, and where there is no first line.
 fn choice_in(found: Found, buffer: &[u8]) -> Choice
     requires { ⌜ Inside found (length (now buffer)) ⌝ }
+    ensures { λ r. ⌜ saysChoice r ≡ saidOf productLine noProduct found (now (buffer .entry)) ⌝ }
 {
     match found {
         Found::Line { from, to } => chosen::product_line(&buffer[from..to]),

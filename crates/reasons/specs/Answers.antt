@@ -2,12 +2,12 @@
 use mathlib.Core.Path.{_≡_, refl, sym, ap, subst, _∙_}
 use mathlib.Core.Bool.{Bool, true, false, not, _&&_}
 use mathlib.Core.List.{[]}
-use Prim.Native.Nat.{ℕ, _*_, _≤_}
+use Prim.Native.Nat.{ℕ, _≤_}
 use native.Mathlib.Omega.{arith}
 use lib.Dec.{leb, eqb}
 use lib.IntN.{ℤ, natAbs}
 use borrow.Author.Tests.{le-leb, le-ltb, ne-eqb}
-use Rattle.laws.specs.Pick.{pick, pick-t, pick-f, pick-if, pick-all}
+use Rattle.laws.specs.Pick.{pick, pick-t, pick-if, pick-all}
 use Rattle.laws.specs.Whole.{false-true}
 use Rattle.laws.specs.Bools.{and-left}
 use Rattle.paper.specs.Numbers.{R19}
@@ -19,7 +19,6 @@ use Rattle.settings.specs.Ranges.{Ranges}
 use Rattle.settings.specs.Good.{good-ranges}
 use Rattle.dosing.specs.Gates.{Kept}
 use Rattle.dosing.specs.Rules.{shut}
-use Rattle.dosing.specs.declared.Units.{Units}
 use Rattle.dosing.specs.declared.Gates.{Gates}
 use Rattle.dosing.specs.declared.Phase.{Phase}
 use Rattle.dosing.specs.declared.Phase.the-variants.{Ready, Coarse, Fine, Hold, Settle, Discharge, Load, Calm, DoseCoarse, DoseFine, DoseSettle}
@@ -39,10 +38,6 @@ use Rattle.reasons.specs.Weights.{Comparable, weight-most, comparable}
 pub gate-why : (c : Controller) (k : ℕ) → 1 ≤ k → k ≤ 3 → whyOf c k ≡ done (gateCause c k)
 unfolding whyOf noOutput pick
 gate-why c k a b = rw (le-ltb k 1 (omega arith), le-ltb 4 k (omega arith), ne-eqb k 4 (omega arith)) refl
-
-pub alarm-why : (c : Controller) → whyOf c 4 ≡ done (alarmCause (c .condition) (c .alarm))
-unfolding whyOf noOutput pick
-alarm-why c = refl
 
 -- ---- which reason it is
 

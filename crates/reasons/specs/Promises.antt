@@ -23,7 +23,8 @@ use Rattle.channels.specs.Channels.{startOf}
 use Rattle.window.specs.Window.{samplesOf}
 use Rattle.scale.specs.Scale.{stableOf, none, calmRun, equalZ}
 use Rattle.controller.specs.State.{withF, withS}
-use Rattle.controller.specs.Tick.{Result, Told, atReady, unstartedOf, seenOf, step7, step8, tickOf}
+use Rattle.stepping.specs.Stepping.{atReady, unstartedOf}
+use Rattle.controller.specs.Tick.{Result, Told, seenOf, step7, step8, tickOf}
 use Rattle.controller.specs.Calls.{linkOf}
 use Rattle.controller.specs.Sound.{Sound, Waited}
 use Rattle.controller.specs.Bounds.{at-ready}

@@ -2,7 +2,6 @@
 use mathlib.Core.Path.{_≡_, refl, sym, ap, _∙_}
 use mathlib.Core.List.{[]}
 use Prim.Native.Nat.{ℕ}
-use lib.IntN.{ℤ}
 use Rattle.paper.specs.Numbers.{R19}
 use Rattle.paper.specs.Answer.{Answer, done, refused, fault, same}
 use Rattle.controller.specs.declared.Controller.{Controller}

@@ -15,16 +15,16 @@ use Rattle.dosing.specs.Rules.{shut}
 use Rattle.dosing.specs.Gates.{gatesOf}
 use Rattle.dosing.specs.Laws.{ready-shut}
 use Rattle.dosing.specs.declared.Units.{Units}
-use Rattle.dosing.specs.declared.Phase.{Phase}
 use Rattle.dosing.specs.declared.Phase.the-variants.{Ready}
 use Rattle.channels.specs.Channels.{startOf}
-use Rattle.scale.specs.Scale.{filtered}
 use Rattle.asking.specs.Asking.{Asked}
 use Rattle.counters.specs.Counters.{counters}
 use Rattle.controller.specs.State.{withZ, withCounters}
-use Rattle.controller.specs.Tick.{Result, Told, atReady, wOf, unstartedOf, step7, step8, tickOf}
-use Rattle.controller.specs.Calls.{readyIn, isReady, after, taken, settingsAnswer, settingsOf, resetAnswer, resetOf, linkOf}
-use Rattle.controller.specs.Line.{Replied, zeroable, askedOf, zeroedBy, replied, repliesTo, requestOf}
+use Rattle.stepping.specs.Stepping.{atReady, unstartedOf}
+use Rattle.controller.specs.Tick.{Result, Told, wOf, step7, step8, tickOf}
+use Rattle.controller.specs.Calls.{readyIn, isReady, after, taken, settingsOf, resetAnswer, resetOf, linkOf}
+use Rattle.readout.specs.Readout.{zeroable}
+use Rattle.controller.specs.Line.{Replied, askedOf, zeroedBy, replied, repliesTo, requestOf}
 use Rattle.controller.specs.Modbus.{modbusOf}
 use Rattle.controller.specs.ModbusLaws.{modbus-only}
 use Rattle.controller.specs.Sound.{Sound, Waited}
@@ -34,7 +34,7 @@ use Rattle.controller.specs.declared.Controller.{Controller}
 use Rattle.controller.specs.declared.Fault.{Fault}
 use Rattle.controller.specs.declared.Condition.{Condition}
 use Rattle.controller.specs.declared.Condition.the-variants.{Clear, Faulted}
-use Rattle.reasons.specs.Reasons.{Cause, noStart, settlingOr, leadOr, phaseCause, gateBy, gateCause, whyOf}
+use Rattle.reasons.specs.Reasons.{noStart, settlingOr, leadOr, phaseCause, gateBy, gateCause, whyOf}
 use Rattle.reasons.specs.Answers.{unstarted-why}
 use Rattle.reasons.specs.Same.{found, Goes, goes-on, tick-goes}
 

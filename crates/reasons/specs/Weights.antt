@@ -1,6 +1,6 @@
 -- The weights that are compared with a limit, for every sound controller. Assumes nothing.
-use mathlib.Core.Path.{_≡_, sym, ap, _∙_}
-use Prim.Native.Nat.{ℕ, _≤_}
+use mathlib.Core.Path.{sym, ap, _∙_}
+use Prim.Native.Nat.{_≤_}
 use native.Mathlib.Omega.{arith}
 use lib.IntN.{ℤ, natAbs, _+ℤ_, _-ℤ_, -ℤ-+ℤ-cancel}
 use Rattle.laws.specs.Whole.{abs-sub}

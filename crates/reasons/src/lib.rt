@@ -138,8 +138,8 @@ fn phase_reason(set: Settings, phase: Phase, w: Units, output: u8) -> Reason
     requires { ⌜ Comparable phase (w .v) ⌝ }
     ensures { λ r. ⌜ saysReason r ≡ done (phaseCause set phase (w .v) output) ⌝ }
 {
-    let wc = less(set.dose, set.pc);
-    let wf = less(set.dose, set.pf);
+    let wc = shuts_at(set.dose, set.pc);
+    let wf = shuts_at(set.dose, set.pf);
     match phase {
         Phase::Ready => Reason::Phase(Name::Ready),
         Phase::Coarse { w0: _ } => Reason::Phase(Name::Fill),
@@ -186,7 +186,7 @@ fn in_settle(n: u64, p9: u32, x: Units, wf: u32, output: u8) -> Reason
     if output == 3 {
         return Reason::Settling {
             gone: n,
-            allowed: 256 * (p9 as u64),
+            allowed: dosing::SETTLE_TICKS * (p9 as u64),
         };
     }
     at_wf(x, wf, output, Name::Settle)
@@ -202,9 +202,9 @@ fn minus(a: Units, b: Units) -> Units
     Units { v: x - y }
 }
 
-// a-b of two settings; 0 where b is the greater.
-fn less(a: u32, b: u32) -> u32
-    ensures { λ r. ⌜ r ≡ a - b ⌝ }
+// D less a lead: the weight at which that lead shuts its gate; 0 where the lead is the greater.
+fn shuts_at(dose: u32, lead: u32) -> u32
+    ensures { λ r. ⌜ r ≡ dose - lead ⌝ }
 {
-    if b <= a { a - b } else { 0 }
+    if lead <= dose { dose - lead } else { 0 }
 }

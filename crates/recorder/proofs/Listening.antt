@@ -14,8 +14,6 @@ use Rattle.series.specs.Events.{run}
 use Rattle.calls.specs.Call.{callOf}
 use Rattle.calls.specs.Reads.{asCall, Reads, read-call}
 use Rattle.calls.specs.declared.Call as read
-use Rattle.calls.specs.declared.Call.the-variants as C
-use Rattle.calls.proofs.Call.{the-type as call-type}
 use Rattle.acts.specs.Acts.{Ask, askBy, eventsIn, madeBy, saidTo, lent}
 use Rattle.acts.specs.Makes.{saysAct, Acts, lent-read}
 use Rattle.acts.specs.declared.Acted.{Acted}
@@ -27,7 +25,7 @@ use Rattle.recorder.specs.Recording.{heardTick, heardSaid, heardOf, note
 use Rattle.clock.specs.Marking.{Writes}
 use Rattle.recorder.specs.Noting.{Hears, Notes}
 use Rattle.clock.specs.declared.Heard.{Heard}
-use Rattle.clock.specs.declared.Heard.the-variants.{Ticked, Lost, Other}
+use Rattle.clock.specs.declared.Heard.the-variants.{Ticked, Other}
 use Rattle.clock.specs.declared.Stage.{Stage}
 use Rattle.clock.specs.declared.Clock.{Clock}
 use Rattle.clock.specs.declared.Marked.{Marked}
@@ -39,68 +37,31 @@ unfolding heardTick saysFault
 fault-heard (F.F14 channel) = refl
 fault-heard F.F21 = refl
 
--- an answer that is neither a tick's nor a restart's
-pub other-answer : (a : acts.Answer) → OneOf (1 ∷ 2 ∷ 3 ∷ 4 ∷ 6 ∷ 7 ∷ 8 ∷ 9 ∷ []) (tagOf answer-type a) → Other ≡ heardSaid (saysAct a)
+-- an answer that is neither a tick's nor a restart's, nor that the line is no call
+abbrev others : List ℕ
+others = 1 ∷ 2 ∷ 3 ∷ 4 ∷ 6 ∷ 7 ∷ 8 ∷ 9 ∷ []
+
+pub other-answer : (a : acts.Answer) → OneOf others (tagOf answer-type a) → Other ≡ heardSaid (saysAct a)
 unfolding heardSaid saysAct
-other-answer (A.Tick a) h = absurd (miss (1 ∷ 2 ∷ 3 ∷ 4 ∷ 6 ∷ 7 ∷ 8 ∷ 9 ∷ []) 0 tt h)
+other-answer (A.Tick a) h = absurd (miss others 0 tt h)
 other-answer A.Link h = refl
 other-answer (A.Set a) h = refl
 other-answer (A.Reset a) h = refl
 other-answer (A.Counters n) h = refl
-other-answer (A.Restart a) h = absurd (miss (1 ∷ 2 ∷ 3 ∷ 4 ∷ 6 ∷ 7 ∷ 8 ∷ 9 ∷ []) 5 tt h)
+other-answer (A.Restart a) h = absurd (miss others 5 tt h)
 other-answer (A.Request a) h = refl
 other-answer (A.Modbus a) h = refl
 other-answer (A.Why a) h = refl
 other-answer A.Aside h = refl
+other-answer A.Unknown h = absurd (miss others 10 tt h)
 
--- a call is heard by what it answers
-heard-call : (c : Controller) (bytes : List ℕ) (call : read.Call) → OneOf (0 ∷ 1 ∷ 2 ∷ 3 ∷ 4 ∷ 5 ∷ 6 ∷ 7 ∷ 8 ∷ 9 ∷ 10 ∷ 11 ∷ 12 ∷ 13 ∷ 14 ∷ 15 ∷ 16 ∷ []) (tagOf call-type call) → heardOf c (asCall bytes call) ≡ heardSaid (saidTo c (askBy (asCall bytes call)))
-unfolding heardOf askBy asCall
-heard-call c bytes (C.Tick x i) h = refl
-heard-call c bytes (C.Link on) h = refl
-heard-call c bytes (C.Settings set) h = refl
-heard-call c bytes C.Reset h = refl
-heard-call c bytes C.Counters h = refl
-heard-call c bytes (C.Restart set count total) h = refl
-heard-call c bytes (C.Request n room) h = refl
-heard-call c bytes (C.Modbus n room) h = refl
-heard-call c bytes (C.Why k) h = refl
-heard-call c bytes (C.WriteFrame n room) h = refl
-heard-call c bytes (C.ReadFrame n) h = refl
-heard-call c bytes (C.WriteField v) h = refl
-heard-call c bytes (C.ReadField f) h = refl
-heard-call c bytes (C.WriteLine l room) h = refl
-heard-call c bytes (C.ReadLine f n) h = refl
-heard-call c bytes (C.Hour n k) h = refl
-heard-call c bytes (C.Hours n room) h = refl
-heard-call c bytes C.Unknown h = absurd (miss (0 ∷ 1 ∷ 2 ∷ 3 ∷ 4 ∷ 5 ∷ 6 ∷ 7 ∷ 8 ∷ 9 ∷ 10 ∷ 11 ∷ 12 ∷ 13 ∷ 14 ∷ 15 ∷ 16 ∷ []) 17 tt h)
-
-module _ (c : Controller) {l old new reply left : List ℕ} {call : read.Call} {r : Acted} (p : Reads l old new call) (room : 2048 ≤ length old) (short : length l ≤ 4095)
-    (enough : 64 ≤ length reply) (a : Acts c (lent (length reply) (askBy (asCall new call))) reply left r) where
-  is : asCall new call ≡ callOf l
-  is = read-call p room short
-
-  asks : lent (length reply) (askBy (asCall new call)) ≡ askBy (callOf l)
-  asks = lent-read (length reply) new call (p .within) enough ∙ ap askBy is
-
-  box : r .next ≡ madeBy c (callOf l)
-  unfolding madeBy
-  box = a .makes .next ∙ ap (λ (ask : Ask). run c (eventsIn ask)) asks
-
-  pub hears-lost : call ≡ C.Unknown → Hears c (callOf l) (record { next = r .next; heard = Lost })
-  unfolding asCall heardOf
-  hears-lost e = record { next = box; heard = ap (heardOf c) (sym (ap (asCall new) e) ∙ is) }
-
-  pub hears-call : {h : Heard} → OneOf (0 ∷ 1 ∷ 2 ∷ 3 ∷ 4 ∷ 5 ∷ 6 ∷ 7 ∷ 8 ∷ 9 ∷ 10 ∷ 11 ∷ 12 ∷ 13 ∷ 14 ∷ 15 ∷ 16 ∷ []) (tagOf call-type call) → h ≡ heardSaid (saysAct (r .answer)) → Hears c (callOf l) (record { next = r .next; heard = h })
-  hears-call k e =
-      record {
-        next = box;
-        heard =
-            e
-            ∙ ap heardSaid (a .makes .says ∙ ap (saidTo c) (asks ∙ ap askBy (sym is)))
-            ∙ sym (heard-call c new call k)
-            ∙ ap (heardOf c) is;
-      }
+-- a line is heard by what its call answers
+pub hears-call : {l old new reply left : List ℕ} {call : read.Call} {r : Acted} {h : Heard} (c : Controller) → Reads l old new call → 2048 ≤ length old → length l ≤ 4095
+    → 64 ≤ length reply → Acts c (lent (length reply) (askBy (asCall new call))) reply left r → h ≡ heardSaid (saysAct (r .answer)) → Hears c (callOf l) (record { next = r .next; heard = h })
+unfolding madeBy heardOf
+hears-call {new = new} {reply = reply} {call = call} c p room short enough a e =
+    let asks = lent-read (length reply) new call (p .within) enough ∙ ap askBy (read-call p room short) in
+    record { next = a .makes .next ∙ ap (λ (ask : Ask). run c (eventsIn ask)) asks; heard = e ∙ ap heardSaid (a .makes .says ∙ ap (saidTo c) asks) }
 
 -- ---- a line, by the stage
 

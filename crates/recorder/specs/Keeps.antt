@@ -2,7 +2,7 @@
 use mathlib.Core.Path.{_≡_, refl}
 use mathlib.Core.List.{List, [], _∷_}
 use Prim.Native.Nat.{ℕ}
-use Rattle.laws.specs.Decimal.{Parsed, good, bad}
+use Rattle.laws.specs.Decimal.{Parsed}
 use Rattle.paper.specs.Answer.{Answer, done, refused, fault}
 use Rattle.controller.specs.declared.Controller.{Controller}
 use Rattle.counters.specs.declared.Record.{Record}
@@ -14,7 +14,7 @@ use Rattle.controller.specs.Promises.{tick-recordable}
 use Rattle.series.specs.Events.{Event, tick, link, request, modbus, settings, reset, restart, run}
 use Rattle.series.specs.Kept.{event-sound}
 use Rattle.calls.specs.Call.{Call, callOf}
-use Rattle.acts.specs.Acts.{Ask, event, counters, why, nothing, askOf, askBy, eventsIn, madeBy, saidAt, saidTo}
+use Rattle.acts.specs.Acts.{Ask, event, counters, why, nothing, unknown, askBy, eventsIn, madeBy, saidAt, saidTo}
 use Rattle.clock.specs.Clock.{Runs}
 use Rattle.clock.specs.Marking.{Writable}
 use Rattle.clock.specs.Keeps.{start-runs, first-runs, heard-runs}
@@ -31,6 +31,7 @@ ask-sound c (event e) s = event-sound c e s
 ask-sound c counters s = s
 ask-sound c (why k) s = s
 ask-sound c nothing s = s
+ask-sound c unknown s = s
 
 pub made-sound : (c : Controller) (p : Parsed Call) → Sound c → Sound (madeBy c p)
 unfolding madeBy
@@ -78,12 +79,12 @@ ask-writable c (event e) s = event-writable c e s
 ask-writable c counters s = tt
 ask-writable c (why k) s = tt
 ask-writable c nothing s = tt
+ask-writable c unknown s = tt
 
 -- the D line of a dose that is heard is never refused
 pub heard-writable : (c : Controller) (p : Parsed Call) → Sound c → Writable (heardOf c p)
 unfolding heardOf
-heard-writable c (good call rest) s = ask-writable c (askOf call) s
-heard-writable c bad s = tt
+heard-writable c p s = ask-writable c (askBy p) s
 
 -- ---- the clock
 

@@ -1,7 +1,7 @@
 -- From samples to a journal (the program `record`): what each line of a script adds to it. Assumes nothing.
 use mathlib.Core.List.{List, [], _∷_, _++_}
 use Prim.Native.Nat.{ℕ}
-use Rattle.laws.specs.Decimal.{Parsed, good, bad, numberAt}
+use Rattle.laws.specs.Decimal.{Parsed, numberAt}
 use Rattle.paper.specs.Answer.{Answer, done, refused, fault}
 use Rattle.controller.specs.declared.Controller.{Controller}
 use Rattle.counters.specs.declared.Record.{Record}
@@ -10,7 +10,7 @@ use Rattle.controller.specs.Calls.{freshOf}
 use Rattle.controller.specs.Sound.{Sound}
 use Rattle.lines.specs.Lines.{linesOf}
 use Rattle.calls.specs.Call.{Call, callOf}
-use Rattle.acts.specs.Acts.{Said, ticked, linked, taken, cleared, counted, restarted, replied, polled, explained, aside, askOf, saidTo, madeBy}
+use Rattle.acts.specs.Acts.{Said, ticked, linked, taken, cleared, counted, restarted, replied, polled, explained, aside, unread, askBy, saidTo, madeBy}
 use Rattle.clock.specs.Clock.{greatestHour, Note, note, firstOf, heardBy, Runs}
 use Rattle.clock.specs.Clock as clock
 use Rattle.clock.specs.declared.Heard.{Heard}
@@ -48,11 +48,11 @@ heardSaid (replied a) = Other
 heardSaid (polled a) = Other
 heardSaid (explained a) = Other
 heardSaid aside = Other
-
 -- a line that is no call may have been a tick, a restart or a set
+heardSaid unread = Lost
+
 unfoldable pub heardOf : Controller → Parsed Call → Heard
-heardOf c (good call rest) = heardSaid (saidTo c (askOf call))
-heardOf c bad = Lost
+heardOf c p = heardSaid (saidTo c (askBy p))
 
 -- ---- a line of the script, its LF left out
 

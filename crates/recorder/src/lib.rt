@@ -1,6 +1,5 @@
 // From samples to a journal: what each line of a script adds to it.
 use acts::Answer;
-use calls::Call;
 use clock::Clock;
 use clock::Heard;
 use clock::Stage;
@@ -78,6 +77,7 @@ fn by_answer(answer: Answer) -> Heard
     match answer {
         Answer::Tick(tick) => heard_tick(tick),
         Answer::Restart(restart) => heard_restart(restart),
+        Answer::Unknown => Heard::Lost,
         _ => Heard::Other,
     }
 }
@@ -93,12 +93,6 @@ fn hear(c: Controller, line: &[u8], bytes: &mut [u8], reply: &mut [u8]) -> Heari
     let acted = acts::act(c, call, bytes, reply);
     let next = acted.next;
     let answer = acted.answer;
-    if let Call::Unknown = call {
-        return Hearing {
-            next,
-            heard: Heard::Lost,
-        };
-    }
     let heard = by_answer(answer);
     Hearing { next, heard }
 }

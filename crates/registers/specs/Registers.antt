@@ -1,6 +1,6 @@
 -- The registers of the box (document 02, W2). Assumes nothing.
 use mathlib.Core.Path.{_≡_, refl}
-use mathlib.Core.Bool.{true, false}
+use mathlib.Core.Bool.{true}
 use mathlib.Core.List.{List, [], _∷_}
 use Prim.Native.Nat.{ℕ, _/_, _%_}
 use Rattle.laws.specs.Pick.{pick}

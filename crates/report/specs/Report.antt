@@ -16,7 +16,7 @@ use Rattle.paper.specs.Answer.{Answer, done, refused, fault, told}
 use Rattle.paper.specs.AnswerLaws.{refused-done, told-refused}
 use Rattle.paper.specs.Numbers.{R10, R11, R12, R13}
 use Rattle.text.specs.Scan.{LF, TAB}
-use Rattle.journal.specs.Line.{lineOf}
+use Rattle.journal.specs.Line.{versionText, versioned, lineOf}
 use Rattle.journal.specs.Journal.{hourIn, outOfOrder, tooFar, pastAfter, noPast, ordered, onLine, readFrom, formOf, bodyOf, journalOf}
 use Rattle.journal.specs.JournalLaws.{journal-long}
 use Rattle.journal.specs.Says.{namesOf}
@@ -25,7 +25,7 @@ use Rattle.journal.specs.declared.Form.the-variants.{Old, New}
 use Rattle.journal.specs.declared.Line.{Line}
 use Rattle.journal.specs.declared.Past.{Past}
 use Rattle.journal.specs.declared.Refusal.{Refusal}
-use Rattle.hourly.specs.Text.{hoursText}
+use Rattle.hourly.specs.Text.{spanOf, rowsOf, rowsText, hoursText}
 use Rattle.hourly.specs.declared.Products.{Products}
 use Rattle.hourly.specs.declared.Products.the-variants.{All}
 use Rattle.hourly.specs.Accepted.{accepted}
@@ -56,6 +56,11 @@ pub cases :
     × (reportFrom All (refused R13 []) ≡ 82 ∷ 9 ∷ 49 ∷ 51 ∷ 9 ∷ 48 ∷ 10 ∷ [])
 unfolding reportFrom refusalText decimal digitsOf glyph pick
 cases = (refl, refl)
+
+-- An empty journal prints nothing, and neither does one of the V line alone
+pub empty-report : (w : Products) → (reportOf w [] ≡ []) × (reportOf w versionText ≡ [])
+unfolding reportOf reportFrom journalOf versionText formOf versioned bodyOf readFrom hoursText rowsOf spanOf rowsText pick
+empty-report w = (refl, refl)
 
 -- ---- its length
 

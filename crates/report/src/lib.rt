@@ -5,6 +5,8 @@ use hourly::Products;
 use hourly::Summary;
 use hourly::Tally;
 use journal::Refusal;
+use text::LF;
+use text::TAB;
 ghost use mathlib.Core.Path.{_≡_};
 ghost use mathlib.Core.List.{[], _∷_};
 ghost use Prim.Native.Nat.{_+_, _≤_, min};
@@ -34,10 +36,6 @@ pub struct Printout {
     pub bytes: [u8; ENOUGH],
     pub len: usize,
 }
-
-const TAB: u8 = 9;
-
-const LF: u8 = 10;
 
 // What is printed of an hour: its doses, their sum and the mean's bits; or I; or X.
 enum Shown {

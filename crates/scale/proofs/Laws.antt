@@ -11,8 +11,8 @@ use lib.Signed.{mag, ltZ, leZ}
 use mir.Syntax.{w32, w64}
 use mir.Val.{toZ, ofZ, SFits}
 use mir.Facts.{toZ-ofZ, toZ-pos}
-use borrow.Author.Tests.{ltb-true, ltb-false, lt-leb, eq-eqb, ne-eqb}
-use Rattle.laws.specs.Pick.{pick, pick-f}
+use borrow.Author.Tests.{ltb-true, ltb-false, lt-leb, le-leb, eq-eqb, ne-eqb}
+use Rattle.laws.specs.Pick.{pick, pick-t, pick-f}
 use Rattle.laws.specs.Bools.{or-left, or-right}
 use Rattle.laws.specs.Whole.{abs-sub, fits32, fits64, false-true}
 use Rattle.paper.specs.Answer.{done, refused}
@@ -24,7 +24,7 @@ use Rattle.field.specs.RoundTrip.{small-writable}
 use Rattle.field.specs.declared.Weight.{Weight}
 use Rattle.dosing.specs.Rules.{units}
 use Rattle.dosing.specs.declared.Units.{Units}
-use Rattle.scale.specs.Scale.{overCapacity, equalZ, outside, filtered, stableOf, weightFrom, weightBy, showable}
+use Rattle.scale.specs.Scale.{overCapacity, equalZ, outside, filtered, stableOf, netOf, weightFrom, weightBy, showable}
 use Rattle.scale.specs.Laws.{none-held, written-shows}
 
 -- S begins again at the first sample and where F is another
@@ -119,6 +119,16 @@ narrow-fits {x} f h = rw (toZ-ofZ f) (fits32 x (omega arith))
 
 pub narrow-is : {x : ℤ} → SFits w64 x → natAbs x ≤ 999999 → toZ w32 (ofZ w32 (toZ w64 (ofZ w64 x))) ≡ x
 narrow-is {x} f h = rw (toZ-ofZ f) (toZ-ofZ (fits32 x (omega arith)))
+
+-- w, by the same two tests
+module _ (f z : ℤ) where
+  pub no-net : 999999 < natAbs (f -ℤ z) → pos 0 ≡ netOf f z
+  unfolding netOf
+  no-net h = sym (pick-f _ _ _ (lt-leb (natAbs (f -ℤ z)) 999999 h))
+
+  pub is-net : natAbs (f -ℤ z) ≤ 999999 → f -ℤ z ≡ netOf f z
+  unfolding netOf
+  is-net h = sym (pick-t _ _ _ (le-leb (natAbs (f -ℤ z)) 999999 h))
 
 -- what can be shown, by the two tests
 module _ (v : Weight) where

@@ -15,7 +15,7 @@ use Rattle.window.specs.Mean.{meanOf, averagedOf, leftOf, without, alike, large
 use Rattle.window.specs.Window.{samplesOf}
 use Rattle.field.specs.Field.{weight, writable}
 use Rattle.dosing.specs.Rules.{units, gates, shut}
-use Rattle.scale.specs.Scale.{outside, filtered, filterOf, equalZ, none, calmRun, stableOf, changed, calmAfter, overCapacity, weightFrom, weightBy, showable}
+use Rattle.scale.specs.Scale.{outside, filtered, filterOf, equalZ, none, calmRun, stableOf, changed, calmAfter, overCapacity, netOf, seenBy, weightFrom, weightBy, showable}
 
 -- C 10,000, p7 4, p8 8, and a settle time p9 and a decimal point
 abbrev set : ℕ → ℕ → Settings
@@ -97,3 +97,12 @@ pub shows :
     × (showable (weight (pos 0) true true 8) ≡ refused R16 [])
 unfolding showable writable pick
 shows = (refl, refl, refl, refl, refl)
+
+-- w = F-Z, stable by S; beyond six digits w is 0
+pub seen :
+    (seenBy (set 1 0) (units (pos 30)) (units (negsuc 4)) 64 true ≡ record { f = units (pos 30); z = units (negsuc 4); w = units (pos 35); start = true; stable = true })
+    × (seenBy (set 1 0) (units (pos 30)) (units (pos 40)) 63 false ≡ record { f = units (pos 30); z = units (pos 40); w = units (negsuc 9); start = false; stable = false })
+    × (netOf (pos 999999) (pos 0) ≡ pos 999999)
+    × (netOf (pos 999999) (negsuc 0) ≡ pos 0)
+unfolding seenBy netOf stableOf setOf pick
+seen = (refl, refl, refl, refl)

@@ -1,14 +1,14 @@
 -- Sizes: samples and F within 900,000, Z within 24,998, weights within 924,998, S within 4,032; and such a weight can always be shown. Assumes nothing.
-use mathlib.Core.Path.{_≡_, refl, sym}
+use mathlib.Core.Path.{_≡_, refl, sym, ap}
 use mathlib.Core.Bool.{Bool, true, false}
 use mathlib.Core.List.{List, [], _∷_}
 use Prim.Native.Nat.{ℕ, zero, suc, _+_, _≤_, _<_}
 use native.Mathlib.Omega.{arith}
-use lib.Dec.{ltb, eqb}
+use lib.Dec.{leb, ltb, eqb}
 use lib.IntN.{ℤ, pos, negsuc, natAbs, _-ℤ_}
 use lib.ListN.{length, getD, take}
 use lib.Signed.{ltZ}
-use borrow.Author.Tests.{ltb-true, ltb-false, ne-eqb}
+use borrow.Author.Tests.{ltb-true, ltb-false, le-leb, ne-eqb}
 use Rattle.laws.specs.Pick.{pick-t, pick-all, pick-if}
 use Rattle.laws.specs.Whole.{abs-sub}
 use Rattle.laws.specs.Bools.{or-left, or-right}
@@ -18,14 +18,16 @@ use Rattle.window.specs.declared.Window.{Window}
 use Rattle.window.specs.Mean.{meanOf}
 use Rattle.window.specs.Window.{samplesOf, emptyWindow, pushOf}
 use Rattle.window.specs.Range.{Within}
-use Rattle.window.specs.Laws.{samples-push, samples-empty, within-nil, within-cons, within-take}
+use Rattle.window.specs.Laws.{held-of, samples-push, samples-empty, within-nil, within-cons, within-take}
 use Rattle.window.specs.MeanLaws.{mean-within}
 use Rattle.field.specs.Field.{writable}
 use Rattle.field.specs.RoundTrip.{small-writable}
 use Rattle.field.specs.declared.Weight.{Weight}
+use Rattle.dosing.specs.Rules.{units}
 use Rattle.dosing.specs.declared.Units.{Units}
 use Rattle.dosing.specs.declared.Gates.{Gates}
-use Rattle.scale.specs.Scale.{outside, filtered, none, calmRun, calmAfter, weightFrom, weightBy, showable}
+use Rattle.dosing.specs.declared.Seen.{Seen}
+use Rattle.scale.specs.Scale.{outside, filtered, none, calmRun, stableOf, calmAfter, netOf, seenBy, weightFrom, weightBy, showable, filteredLent}
 
 -- ---- samples
 
@@ -61,6 +63,11 @@ pub push-held : (w : Window) (x : ℤ) → pushOf w x .held ≤ 128
 unfolding pushOf
 push-held w x = pick-if (λ (n : ℕ). n ≤ 128) (ltb (w .held) 128) (λ a. omega (arith, ltb-true (w .held) 128 a)) (λ a. omega arith)
 
+-- a window that lends its samples is filtered as it stands
+pub lent-filtered : (w : Window) (n : ℕ) → length (w .samples) ≡ 128 → filteredLent (w .samples) (w .held) n ≡ filtered w n
+unfolding filteredLent filtered
+lent-filtered w n e = ap (λ (l : List ℤ). meanOf (take n l)) (held-of w e)
+
 -- no sample is held
 none-taken : (n : ℕ) (xs : List ℤ) → 0 < length xs → none (take n xs) ≡ eqb n 0
 unfolding none
@@ -93,6 +100,14 @@ calm-after-most old new s h = pick-all (λ (k : ℕ). k ≤ 4032) _ (omega arith
 -- a weight of the scale
 pub weight-within : (f z : ℤ) → natAbs f ≤ 900000 → natAbs z ≤ 24998 → natAbs (f -ℤ z) ≤ 924998
 weight-within f z a b = omega (arith, abs-sub f z)
+
+-- what the phase rule sees of a weight of the scale is w itself
+pub seen-weight : (set : Settings) (f z : Units) (s : ℕ) (start : Bool) → natAbs (f .v) ≤ 900000 → natAbs (z .v) ≤ 24998
+    → seenBy set f z s start ≡ record { f = f; z = z; w = units (f .v -ℤ z .v); start = start; stable = stableOf set s }
+unfolding seenBy netOf
+seen-weight set f z s start a b =
+    let h : natAbs (f .v -ℤ z .v) ≤ 999999 = omega (arith, weight-within (f .v) (z .v) a b) in
+    rw (pick-t (leb (natAbs (f .v -ℤ z .v)) 999999) (f .v -ℤ z .v) (pos 0) (le-leb (natAbs (f .v -ℤ z .v)) 999999 h))
 
 from-within : (empty : Bool) (set : Settings) (s : ℕ) (w : ℤ) → natAbs w ≤ 924998 → natAbs (weightFrom empty set s w .value) ≤ 924998
 unfolding weightFrom

@@ -1,9 +1,9 @@
 -- What a weighing says in the paper's words, the contract of each call, and that two results that both meet it are equal. Assumes nothing.
 use mathlib.Core.Path.{_≡_, refl}
 use mathlib.Core.Bool.{Bool}
-use mathlib.Core.List.{[]}
+use mathlib.Core.List.{List, []}
 use Prim.Native.Nat.{ℕ}
-use lib.IntN.{_-ℤ_}
+use lib.IntN.{ℤ, _-ℤ_}
 use Rattle.paper.specs.Answer.{Answer, done, refused, same}
 use Rattle.paper.specs.Numbers.{R16}
 use Rattle.settings.specs.declared.Settings.{Settings}
@@ -12,7 +12,8 @@ use Rattle.field.specs.declared.Weight.{Weight}
 use Rattle.dosing.specs.Rules.{units}
 use Rattle.dosing.specs.declared.Units.{Units}
 use Rattle.dosing.specs.declared.Gates.{Gates}
-use Rattle.scale.specs.Scale.{outside, filtered, filterOf, calmRun, calmAfter, stableOf, overCapacity, weightBy, showable}
+use Rattle.dosing.specs.declared.Seen.{Seen}
+use Rattle.scale.specs.Scale.{outside, filtered, filterOf, calmRun, calmAfter, stableOf, overCapacity, seenBy, weightBy, showable, filteredLent}
 use Rattle.scale.specs.declared.Weighed.{Weighed}
 use Rattle.scale.specs.declared.Weighed.the-variants as W
 
@@ -24,6 +25,9 @@ saysWeighed W.R16 = refused R16 []
 
 abbrev pub Excludes : Units → Bool → Type 0
 Excludes x r = r ≡ outside (x .v)
+
+abbrev pub MeansLent : List ℤ → ℕ → ℕ → Units → Type 0
+MeansLent samples held n r = r ≡ units (filteredLent samples held n)
 
 abbrev pub Means : Window → ℕ → Units → Type 0
 Means window n r = r ≡ units (filtered window n)
@@ -44,6 +48,9 @@ Steadies set s r = r ≡ stableOf set s
 abbrev pub Overs : Settings → Units → Units → Bool → Type 0
 Overs set f z r = r ≡ overCapacity set (f .v -ℤ z .v)
 
+abbrev pub Sees : Settings → Units → Units → ℕ → Bool → Seen → Type 0
+Sees set f z s start r = r ≡ seenBy set f z s start
+
 abbrev pub Weighs : Settings → Window → Units → ℕ → ℕ → Weighed → Type 0
 Weighs set window z s n r = saysWeighed r ≡ showable (weightBy set window z s n)
 
@@ -57,6 +64,9 @@ weighed-one W.R16 W.R16 e = refl
 
 pub outside-determined : (x : Units) (a b : Bool) → Excludes x a → Excludes x b → a ≡ b
 outside-determined x a b p q = same p q
+
+pub lent-determined : (samples : List ℤ) (held n : ℕ) (a b : Units) → MeansLent samples held n a → MeansLent samples held n b → a ≡ b
+lent-determined samples held n a b p q = same p q
 
 pub mean-determined : (window : Window) (n : ℕ) (a b : Units) → Means window n a → Means window n b → a ≡ b
 mean-determined window n a b p q = same p q
@@ -75,6 +85,9 @@ stable-determined set s a b p q = same p q
 
 pub over-determined : (set : Settings) (f z : Units) (a b : Bool) → Overs set f z a → Overs set f z b → a ≡ b
 over-determined set f z a b p q = same p q
+
+pub see-determined : (set : Settings) (f z : Units) (s : ℕ) (start : Bool) (a b : Seen) → Sees set f z s start a → Sees set f z s start b → a ≡ b
+see-determined set f z s start a b p q = same p q
 
 pub weigh-determined : (set : Settings) (window : Window) (z : Units) (s n : ℕ) (a b : Weighed) → Weighs set window z s n a → Weighs set window z s n b → a ≡ b
 weigh-determined set window z s n a b p q = weighed-one a b (same p q)

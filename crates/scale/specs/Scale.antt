@@ -3,7 +3,7 @@ use mathlib.Core.Bool.{Bool, true, false, xor, _&&_, _||_}
 use mathlib.Core.List.{List, [], _∷_}
 use Prim.Native.Nat.{ℕ, _+_, _*_}
 use lib.Dec.{leb, ltb}
-use lib.IntN.{ℤ, pos, negsuc, _-ℤ_}
+use lib.IntN.{ℤ, pos, negsuc, natAbs, _-ℤ_}
 use lib.ListN.{take}
 use lib.Signed.{ltZ, leZ}
 use Rattle.laws.specs.Pick.{pick}
@@ -11,12 +11,14 @@ use Rattle.paper.specs.Answer.{Answer, done, refused}
 use Rattle.paper.specs.Numbers.{R16}
 use Rattle.settings.specs.declared.Settings.{Settings}
 use Rattle.window.specs.Mean.{meanOf}
-use Rattle.window.specs.Window.{samplesOf}
+use Rattle.window.specs.Window.{samplesOf, heldOf}
 use Rattle.window.specs.declared.Window.{Window}
 use Rattle.field.specs.Field.{writable}
 use Rattle.field.specs.declared.Weight.{Weight}
+use Rattle.dosing.specs.Rules.{units}
 use Rattle.dosing.specs.declared.Units.{Units}
 use Rattle.dosing.specs.declared.Gates.{Gates}
+use Rattle.dosing.specs.declared.Seen.{Seen}
 
 -- ---- a tick
 
@@ -27,6 +29,10 @@ outside x = ltZ x (negsuc 899999) || ltZ (pos 900000) x
 -- F by a filter: the mean of the last n samples (of those held, if fewer)
 unfoldable pub filtered : Window → ℕ → ℤ
 filtered window n = meanOf (take n (samplesOf window))
+
+-- the same of samples that are lent
+unfoldable pub filteredLent : List ℤ → ℕ → ℕ → ℤ
+filteredLent samples held n = meanOf (take n (heldOf samples held))
 
 -- n is p7 if output 1 was open before the tick, else p8
 unfoldable pub filterOf : Settings → Gates → ℕ
@@ -60,6 +66,14 @@ calmAfter old new s = pick (changed old new) 0 s
 -- w > C+9
 unfoldable pub overCapacity : Settings → ℤ → Bool
 overCapacity set w = ltZ (pos (set .capacity + 9)) w
+
+-- w = F-Z; beyond six digits, where no sound controller comes, 0
+unfoldable pub netOf : ℤ → ℤ → ℤ
+netOf f z = pick (leb (natAbs (f -ℤ z)) 999999) (f -ℤ z) (pos 0)
+
+-- what the phase rule sees of a tick
+unfoldable pub seenBy : Settings → Units → Units → ℕ → Bool → Seen
+seenBy set f z s start = record { f = f; z = z; w = units (netOf (f .v) (z .v)); start = start; stable = stableOf set s }
 
 -- ---- a request
 

@@ -1,5 +1,6 @@
-// What a tick and a request read off the samples: F, its filter, the calm run, stable, over capacity and the weight.
+// What a tick and a request read off the samples: F, its filter, the calm run, stable, over capacity, what the phase rule sees and the weight.
 use dosing::Gates;
+use dosing::Seen;
 use dosing::Units;
 use field::Weight;
 use settings::Settings;
@@ -7,8 +8,9 @@ use window::Window;
 ghost use mathlib.Core.Path.{_≡_};
 ghost use mathlib.Core.Bool.{Bool};
 ghost use lib.IntN.{_-ℤ_};
-ghost use Rattle.scale.specs.Scale.{showable};
-ghost use Rattle.scale.specs.Says.{Excludes, Means, Filters, Calms, Calmer, Steadies, Overs, Weighs, saysWeighed};
+ghost use Rattle.dosing.specs.Rules.{units};
+ghost use Rattle.scale.specs.Scale.{netOf, showable};
+ghost use Rattle.scale.specs.Says.{Excludes, Means, Filters, Calms, Calmer, Steadies, Overs, Sees, Weighs, saysWeighed, MeansLent};
 
 // A weight that a reply can show, or R16 for one that is beyond six digits or has a point above 7.
 pub enum Weighed {
@@ -45,12 +47,20 @@ pub fn is_outside(x: Units) -> bool
     (v < 0 - SAMPLE_MOST) | (SAMPLE_MOST < v)
 }
 
+// F of the samples lent, of which so many are held: the mean of the last n.
+pub fn mean_lent(samples: &[i32], held: usize, n: u32) -> Units
+    ensures { λ r. ⌜ MeansLent (now (samples .entry)) held n r ⌝ }
+{
+    let v = window::mean_of(samples, held, n as usize);
+    Units { v }
+}
+
 // F: the mean of the last n samples.
 pub fn mean_of(window: Window, n: u32) -> Units
     ensures { λ r. ⌜ Means window n r ⌝ }
 {
-    let v = window.mean(n as usize);
-    Units { v }
+    let held = window.held;
+    mean_lent(&window.samples, held, n)
 }
 
 // n: p7 if output 1 was open before the tick, else p8.
@@ -107,6 +117,33 @@ pub fn over_capacity(set: Settings, f: Units, z: Units) -> bool
     let v = w.v;
     let most = set.capacity as i64 + Wide::OVER_CAPACITY;
     most < v
+}
+
+// w = F-Z where it has at most six digits, else 0.
+fn narrow_net(f: Units, z: Units) -> Units
+    ensures { λ r. ⌜ r ≡ units (netOf (f .v) (z .v)) ⌝ }
+{
+    let w = net(f, z);
+    let v = w.v;
+    if (v < 0 - Wide::SIX_DIGITS) | (Wide::SIX_DIGITS < v) {
+        return Units { v: 0 };
+    }
+    Units { v: v as i32 }
+}
+
+// What the phase rule sees: F, Z, w, start and stable.
+pub fn see(set: Settings, f: Units, z: Units, s: u32, start: bool) -> Seen
+    ensures { λ r. ⌜ Sees set f z s start r ⌝ }
+{
+    let w = narrow_net(f, z);
+    let stable = stable_of(set, s);
+    Seen {
+        f,
+        z,
+        w,
+        start,
+        stable,
+    }
 }
 
 // A weight with its flags and the decimal point, where a reply can show it.

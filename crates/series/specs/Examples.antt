@@ -9,7 +9,6 @@ use lib.ListN.{replicate}
 use Rattle.laws.specs.Pick.{pick}
 use Rattle.laws.specs.Whole.{false-true}
 use Rattle.laws.specs.Decimal.{decimal, digitsOf, glyph}
-use Rattle.journal.specs.declared.Form.the-variants.{New}
 use Rattle.journal.specs.declared.Line.{Line}
 use Rattle.journal.specs.declared.Line.the-variants.{Dose, On}
 use Rattle.journal.specs.Line.{versionText, textOf, doseFields, fieldsText}

@@ -1,8 +1,8 @@
 -- One step of the check down the table. Assumes nothing.
 use mathlib.Core.Path.{_≡_, refl, ap, _∙_}
-use mathlib.Core.Bool.{true, false}
+use mathlib.Core.Bool.{Bool, true, false, _||_}
 use mathlib.Core.List.{List, [], _∷_, map}
-use mathlib.Core.Logic.{inl, inr}
+use mathlib.Core.Logic.{_⊎_, inl, inr, ⊎-elim}
 use Prim.Native.Nat.{ℕ, zero, suc, _+_, _≤_, _<_}
 use native.Mathlib.Nat.{le-of-suc-le-suc, not-suc-le-zero}
 use native.Mathlib.Omega.{arith}
@@ -11,6 +11,7 @@ use lib.Dec.{ltb}
 use lib.ListN.{length, getD, drop, drop-of-length-le}
 use lib.Seq.{drop-cons}
 use borrow.Author.Tests.{ltb-true, ltb-false}
+use Rattle.laws.specs.Bools.{or-left, or-right}
 use Rattle.paper.specs.Answer.{Answer, done, refused}
 use Rattle.paper.specs.Numbers.{R2}
 use Rattle.settings.specs.Table.{Row, row, table, firstFrom, eighteen}
@@ -18,6 +19,10 @@ use Rattle.settings.specs.Named.{In, Out, goes-on, stops}
 use Rattle.settings.specs.Columns.{valueOf, rangeOf, bounds}
 use Rattle.settings.specs.declared.Settings.{Settings}
 use Rattle.settings.specs.declared.Range.{Range}
+
+either : (a b : Bool) → (a || b) ≡ true → (a ≡ true) ⊎ (b ≡ true)
+either true b e = inl refl
+either false b e = inr e
 
 -- a column of a table at a row
 pub column : {A B : Type 0} (f : A → B) (e : B) (l : List A) (d : A) (i : ℕ) → i < length l → getD (map f l) i e ≡ f (getD l i d)
@@ -56,14 +61,20 @@ module _ (s : Settings) (i : ℕ) (h : i < 18) {values : List ℕ} {ranges : Lis
   abbrev range : Range
   range = getD ranges i (bounds 0 0)
 
-  pub in-at : range .from ≤ value → ltb (range .to) value ≡ false → In (rowAt s i)
-  in-at a b = (rw (value-at, range-at) at a, rw (value-at, range-at) at (ltb-false (range .to) value b))
+  -- the test of the code
+  abbrev beyond : Bool
+  beyond = ltb value (range .from) || ltb (range .to) value
 
-  pub low-at : value < range .from → Out (rowAt s i)
-  low-at a = inl (rw (value-at, range-at) at a)
+  pub in-at : beyond ≡ false → In (rowAt s i)
+  in-at e =
+      let a = ltb-false value (range .from) (or-left (ltb value (range .from)) (ltb (range .to) value) e) in
+      let b = ltb-false (range .to) value (or-right (ltb value (range .from)) (ltb (range .to) value) e) in
+      (rw (value-at, range-at) at a, rw (value-at, range-at) at b)
 
-  pub high-at : ltb (range .to) value ≡ true → Out (rowAt s i)
-  high-at a = inr (rw (value-at, range-at) at (ltb-true (range .to) value a))
+  pub out-at : beyond ≡ true → Out (rowAt s i)
+  out-at e =
+      ⊎-elim (λ a. inl (rw (value-at, range-at) at (ltb-true value (range .from) a)))
+      (λ b. inr (rw (value-at, range-at) at (ltb-true (range .to) value b))) (either (ltb value (range .from)) (ltb (range .to) value) e)
 
 pub ended : (s : Settings) (i : ℕ) → 18 ≤ i → fromPlace s i ≡ done tt
 unfolding firstFrom

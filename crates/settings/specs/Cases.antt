@@ -52,8 +52,8 @@ worst = 4 ∷ 100000 ∷ 100001 ∷ 100002 ∷ 100003 ∷ 100004 ∷ 129 ∷ 130
 abbrev good : Answer (Unit {0})
 good = done tt
 
-abbrev bad : ℕ → Answer (Unit {0})
-bad n = refused R2 (n ∷ [])
+abbrev rowRefused : ℕ → Answer (Unit {0})
+rowRefused n = refused R2 (n ∷ [])
 
 -- a set with a value put into row n, and what the check answers
 pub record Case : Type 0 where
@@ -67,54 +67,54 @@ case l n v a = record { values = set l (n - 1) v; answer = a }
 unfoldable pub cases : List Case
 cases =
     case al2 1 3 good
-    ∷ case al2 1 4 (bad 1)
+    ∷ case al2 1 4 (rowRefused 1)
     -- with everything bad, the algorithm is named
-    ∷ case worst 1 4 (bad 1)
+    ∷ case worst 1 4 (rowRefused 1)
     -- with everything bad but the rows before, the first bad one is named
-    ∷ case worst 1 3 (bad 2)
-    ∷ case al1 2 0 (bad 2)
+    ∷ case worst 1 3 (rowRefused 2)
+    ∷ case al1 2 0 (rowRefused 2)
     ∷ case al1 2 99999 good
-    ∷ case al1 2 100000 (bad 2)
+    ∷ case al1 2 100000 (rowRefused 2)
     -- dose: 1..C
-    ∷ case al1 3 0 (bad 3)
+    ∷ case al1 3 0 (rowRefused 3)
     ∷ case al1 3 1000 good
-    ∷ case al1 3 1001 (bad 3)
+    ∷ case al1 3 1001 (rowRefused 3)
     -- coarse lead: 0..D; fine lead: 0..Pc
     ∷ case al1 4 500 good
-    ∷ case al1 4 501 (bad 4)
+    ∷ case al1 4 501 (rowRefused 4)
     ∷ case al1 5 100 good
-    ∷ case al1 5 101 (bad 5)
+    ∷ case al1 5 101 (rowRefused 5)
     -- level in AL1: 1..C/4
-    ∷ case al1 6 0 (bad 6)
+    ∷ case al1 6 0 (rowRefused 6)
     ∷ case al1 6 250 good
-    ∷ case al1 6 251 (bad 6)
+    ∷ case al1 6 251 (rowRefused 6)
     -- level in AL2: D..C
-    ∷ case al2 6 499 (bad 6)
+    ∷ case al2 6 499 (rowRefused 6)
     ∷ case al2 6 500 good
     ∷ case al2 6 1000 good
-    ∷ case al2 6 1001 (bad 6)
+    ∷ case al2 6 1001 (rowRefused 6)
     -- filters: 4..128 and p7..128
-    ∷ case al1 7 3 (bad 7)
+    ∷ case al1 7 3 (rowRefused 7)
     ∷ case al1 7 8 good
-    ∷ case al1 7 9 (bad 8)
-    ∷ case al2 7 129 (bad 7)
-    ∷ case al1 8 3 (bad 8)
-    ∷ case al1 8 129 (bad 8)
-    ∷ case al1 9 0 (bad 9)
-    ∷ case al1 9 64 (bad 9)
-    ∷ case al1 10 2 (bad 10)
-    ∷ case al1 11 2 (bad 11)
-    ∷ case al1 12 2 (bad 12)
-    ∷ case al1 13 2 (bad 13)
-    ∷ case al1 14 2 (bad 14)
-    ∷ case al1 15 0 (bad 15)
-    ∷ case al1 15 128 (bad 15)
-    ∷ case al1 16 16777216 (bad 16)
-    ∷ case al1 17 4 (bad 17)
+    ∷ case al1 7 9 (rowRefused 8)
+    ∷ case al2 7 129 (rowRefused 7)
+    ∷ case al1 8 3 (rowRefused 8)
+    ∷ case al1 8 129 (rowRefused 8)
+    ∷ case al1 9 0 (rowRefused 9)
+    ∷ case al1 9 64 (rowRefused 9)
+    ∷ case al1 10 2 (rowRefused 10)
+    ∷ case al1 11 2 (rowRefused 11)
+    ∷ case al1 12 2 (rowRefused 12)
+    ∷ case al1 13 2 (rowRefused 13)
+    ∷ case al1 14 2 (rowRefused 14)
+    ∷ case al1 15 0 (rowRefused 15)
+    ∷ case al1 15 128 (rowRefused 15)
+    ∷ case al1 16 16777216 (rowRefused 16)
+    ∷ case al1 17 4 (rowRefused 17)
     ∷ case al1 18 255 good
-    ∷ case al1 18 256 (bad 18)
+    ∷ case al1 18 256 (rowRefused 18)
     -- row 17 is named before row 18
-    ∷ case (set al2 17 256) 17 4 (bad 17)
+    ∷ case (set al2 17 256) 17 4 (rowRefused 17)
     ∷ []
 
 pub cases-hold : map (λ (k : Case). firstBad (setOf (k .values))) cases ≡ map (λ (k : Case). k .answer) cases

@@ -1,6 +1,6 @@
 -- A set is good exactly where each of its settings is in its range, and what a good set tells the rest of the box. Assumes nothing.
 use mathlib.Core.Path.{_≡_}
-use Prim.Native.Nat.{ℕ, _+_, _/_, _≤_, _<_}
+use Prim.Native.Nat.{ℕ, _+_, _/_, _≤_}
 use native.Mathlib.Omega.{arith}
 use Rattle.laws.specs.Pick.{pick-all, picks}
 use Rattle.paper.specs.Answer.{done}
@@ -39,17 +39,10 @@ ranges-bounds s r =
     let b : mostLevel s ≤ capacityMost = pick-all (λ (x : ℕ). x ≤ capacityMost) _ (omega arith) (omega arith) in
     omega arith
 
--- the level in AL0 and AL1, and in AL2 and AL3
+-- the level in AL0 and AL1
 pub filling-level : (s : Settings) → Ranges s → s .algorithm ≤ 1 → (1 ≤ s .level) × (s .level ≤ s .capacity / 4)
 unfolding leastLevel mostLevel
 filling-level s r h =
     let a : leastLevel s ≡ 1 = search picks in
     let b : mostLevel s ≡ s .capacity / 4 = search picks in
-    omega arith
-
-pub emptying-level : (s : Settings) → Ranges s → 1 < s .algorithm → (s .dose ≤ s .level) × (s .level ≤ s .capacity)
-unfolding leastLevel mostLevel
-emptying-level s r h =
-    let a : leastLevel s ≡ s .dose = search picks in
-    let b : mostLevel s ≡ s .capacity = search picks in
     omega arith

@@ -164,7 +164,7 @@ impl Settings {
         while i < 18 {
             let value = values[i];
             let range = ranges[i];
-            if value < range.from || range.to < value {
+            if (value < range.from) | (range.to < value) {
                 return Checked::R2(i as u32 + 1);
             }
             i += 1;

@@ -1,16 +1,18 @@
--- What the program prints for an input, by its first line and what follows it; and that a long first line is R21. Assumes nothing.
+-- What the program prints for an input, by its first line and what follows it; that a long first line is R21, and which lines are first hours. Assumes nothing.
 use mathlib.Core.Path.{_≡_, refl, sym, ap, _∙_}
 use mathlib.Core.List.{List, [], _∷_, _++_, append-assoc, append-nil}
-use Prim.Native.Nat.{ℕ, _<_}
+use Prim.Native.Nat.{ℕ, _≤_, _<_}
 use native.Mathlib.Omega.{arith}
 use lib.ListN.{length, length-append}
 use borrow.Author.Tests.{ne-eqb}
 use Rattle.laws.specs.Pick.{pick, pick-f}
 use Rattle.laws.specs.Decimal.{decimal, Parsed, good, bad, numberAt}
-use Rattle.laws.specs.DecimalLaws.{number-only, decimal-length}
-use Rattle.paper.specs.Answer.{refused}
+use Rattle.laws.specs.DecimalLaws.{number-only, number-decimal, decimal-length}
+use Rattle.paper.specs.Answer.{done, refused}
+use Rattle.paper.specs.AnswerLaws.{refused-done}
 use Rattle.paper.specs.Numbers.{R21}
 use Rattle.text.specs.Scan.{LF}
+use Rattle.holes.specs.HoleLaws.{Exactly}
 use Rattle.weekly.specs.Week.{latest}
 use Rattle.sheet.specs.Lines.{firstFrom, firstLine, reportOf, noLine, cut, cutFrom, programBy, programOf}
 
@@ -56,3 +58,29 @@ long-first line h = go (numberAt latest line) refl
 pub empty-first : firstLine [] ≡ refused R21 []
 unfolding firstLine firstFrom numberAt
 empty-first = refl
+
+-- a line is a first hour exactly if it is its decimal, and at most 9,999,832
+pub first-exactly : (line : List ℕ) (n : ℕ) → Exactly (firstLine line ≡ done n) ((line ≡ decimal n) × (n ≤ 9999832))
+unfolding firstLine firstFrom
+first-exactly line n = (only (numberAt latest line) refl, made)
+  where
+    only : (p : Parsed ℕ) → numberAt latest line ≡ p → firstFrom p ≡ done n → (line ≡ decimal n) × (n ≤ 9999832)
+    only (good v []) p e =
+        let is : v ≡ n = cc in
+        let o = number-only latest line v [] p in
+        (o .0 ∙ append-nil (decimal v) ∙ ap decimal is, omega (arith, o .1))
+    only (good v (b ∷ bs)) p e = refused-done e
+    only bad p e = refused-done e
+
+    made : (line ≡ decimal n) × (n ≤ 9999832) → firstFrom (numberAt latest line) ≡ done n
+    made b = ap (λ (l : List ℕ). firstFrom (numberAt latest l)) (b .0 ∙ sym (append-nil (decimal n))) ∙ ap firstFrom (number-decimal latest n [] (b .1) tt)
+
+-- every other line is R21
+pub first-none : (line : List ℕ) → ((n : ℕ) → line ≡ decimal n → n ≤ 9999832 → ⊥) → firstLine line ≡ refused R21 []
+unfolding firstLine firstFrom
+first-none line f = go (numberAt latest line) refl
+  where
+    go : (p : Parsed ℕ) → numberAt latest line ≡ p → firstFrom p ≡ refused R21 []
+    go (good v []) p = let o = number-only latest line v [] p in absurd (f v (o .0 ∙ append-nil (decimal v)) (o .1))
+    go (good v (b ∷ bs)) p = refl
+    go bad p = refl

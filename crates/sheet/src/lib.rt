@@ -1,6 +1,8 @@
 // What the week program prints for a journal and a first hour.
 use journal::Refusal;
+use text::LF;
 use text::Num;
+use text::TAB;
 use weekly::Day;
 use weekly::Kind;
 use weekly::Said;
@@ -40,10 +42,6 @@ pub struct Printout {
     pub bytes: [u8; ENOUGH],
     pub len: usize,
 }
-
-const TAB: u8 = 9;
-
-const LF: u8 = 10;
 
 // A number that is no first hour.
 const TOO_LATE: u32 = weekly::LATEST + 1;

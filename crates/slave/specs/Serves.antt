@@ -23,14 +23,14 @@ lenOf (M.Sent len) = len
 lenOf M.R17 = 0
 lenOf M.R8 = 0
 
--- the controller after a frame is the one of the rule
-pub record Serves (c : Controller) (frame reply : List ℕ) (d : Controller) : Type 0 where
-  pub next : d ≡ modbusOf c frame (length reply) .next
+-- the controller after a frame is the one of the rule, with so much room for a reply
+pub record Serves (c : Controller) (frame : List ℕ) (room : ℕ) (d : Controller) : Type 0 where
+  pub next : d ≡ modbusOf c frame room .next
   pub sound : Sound d
 
 -- and what is printed are the bytes of the rule's reply, none where it refuses
 pub record Replies (c : Controller) (frame old new : List ℕ) (r : Replied) : Type 0 where
-  pub serves : Serves c frame old (r .next)
+  pub serves : Serves c frame (length old) (r .next)
   pub prints : take (r .len) new ≡ bytesIn (modbusOf c frame (length old) .answer)
   pub within : r .len ≤ length new
 

@@ -80,36 +80,30 @@ fn bring(
 }
 
 // Reads lines up to the empty one, or to the end of the input.
-fn set_up(input: &mut [u8], bytes: &mut [u8], spare: &mut [u8]) -> Brought
-    requires { ⌜ (2048 ≤ length (now bytes)) × (64 ≤ length (now spare)) ⌝ }
+fn set_up(input: &mut [u8]) -> Brought
     ensures { λ r. ⌜ Sound (r .controller) ⌝ }
 {
-    let mut c = Controller::fresh();
-    let mut held = Intake::start();
+    let mut bytes = io::buffer();
+    let mut spare = io::buffer();
+    let mut brought = Brought {
+        controller: Controller::fresh(),
+        intake: Intake::start(),
+        open: false,
+    };
     let mut reads: u64 = MANY;
     while 0 < reads {
-        let refilled = refill::refill(held, input);
-        held = refilled.intake;
+        let refilled = refill::refill(brought.intake, input);
         if !refilled.more {
-            return Brought {
-                controller: c,
-                intake: held,
-                open: false,
-            };
+            return brought;
         }
-        let brought = bring(c, held, input, bytes, spare);
+        let intake = refilled.intake;
+        brought = bring(brought.controller, intake, input, &mut bytes, &mut spare);
         if brought.open {
             return brought;
         }
-        c = brought.controller;
-        held = brought.intake;
         reads -= 1;
     }
-    Brought {
-        controller: c,
-        intake: held,
-        open: false,
-    }
+    brought
 }
 
 // How many bytes a reply has: none where the frame is silent.
@@ -137,37 +131,36 @@ fn reply_to(c: Controller, frame: &[u8], reply: &mut [u8]) -> Replied
     }
 }
 
-// Serves a frame: the reply is written out.
-fn serve(c: Controller, frame: &[u8], reply: &mut [u8]) -> Controller
-    requires { ⌜ Sound c ⌝ }
-    ensures { λ r. ⌜ Serves c (now (frame .entry)) (now (reply .entry)) r ⌝ }
-{
-    let replied = reply_to(c, frame, reply);
-    let next = replied.next;
-    let len = replied.len;
-    io::write_all(STDOUT_FILENO, &reply[..len]);
-    next
-}
-
-// Bytes for one read: a frame has at most 256, and one byte more shows that it is too long.
+// Bytes for a frame: it has at most 256, and one byte more shows that it is too long.
 fn no_frame() -> [u8; 257]
     ensures { λ r. ⌜ 257 ≡ length r ⌝ }
 {
     [0u8; 257]
 }
 
+// Serves a frame: the reply is written out.
+fn serve(c: Controller, frame: &[u8]) -> Controller
+    requires { ⌜ Sound c ⌝ }
+    ensures { λ r. ⌜ Serves c (now (frame .entry)) 257 r ⌝ }
+{
+    let mut reply = no_frame();
+    let replied = reply_to(c, frame, &mut reply);
+    let next = replied.next;
+    let len = replied.len;
+    io::write_all(STDOUT_FILENO, &reply[..len]);
+    next
+}
+
 // Brings the box where it shall be, then serves frame after frame to the end of the input.
 fn main() {
     let mut input = io::large_buffer();
-    let mut bytes = io::buffer();
-    let mut spare = io::buffer();
-    let brought = set_up(&mut input, &mut bytes, &mut spare);
+    let brought = set_up(&mut input);
     if !brought.open {
         return;
     }
     let behind = brought.intake;
     let held = lines::carry(&mut input, behind.at, behind.have);
-    let mut c = serve(brought.controller, &input[..held], &mut spare);
+    let mut c = serve(brought.controller, &input[..held]);
     let mut frame = no_frame();
     let mut reads: u64 = MANY;
     while 0 < reads {
@@ -176,7 +169,7 @@ fn main() {
         if n == 0 {
             return;
         }
-        c = serve(c, &frame[..n], &mut spare);
+        c = serve(c, &frame[..n]);
         reads -= 1;
     }
 }

@@ -26,11 +26,6 @@ pub puts-fit : {old text new : List ℕ} {at r : ℕ} → hasRoom old at text �
 puts-fit {old} {text} {new} {at} {r} h p =
     (p .left ∙ pick-t (hasRoom old at text) (sets old at text) old h, p .next ∙ pick-t (hasRoom old at text) (at + length text) at h)
 
--- without room nothing changes
-pub puts-none : {old text new : List ℕ} {at r : ℕ} → hasRoom old at text ≡ false → Puts old at text new r → (new ≡ old) × (r ≡ at)
-puts-none {old} {text} {new} {at} {r} h p =
-    (p .left ∙ pick-f (hasRoom old at text) (sets old at text) old h, p .next ∙ pick-f (hasRoom old at text) (at + length text) at h)
-
 pub puts-length : {old text new : List ℕ} {at r : ℕ} → Puts old at text new r → length new ≡ length old
 puts-length {old} {text} {new} {at} {r} p =
     ap length (p .left) ∙ pick-all (λ (l : List ℕ). length l ≡ length old) (hasRoom old at text) (length-sets old at text) refl

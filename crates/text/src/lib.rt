@@ -14,7 +14,10 @@ pub enum Num {
     Bad,
 }
 
-const TAB: u8 = 9;
+// Fields are parted by tabs, each line ends in LF.
+pub const TAB: u8 = 9;
+
+pub const LF: u8 = 10;
 
 // Whether k bytes have room from `at` on in a buffer of `len`.
 fn has_room(len: usize, at: usize, k: usize) -> bool

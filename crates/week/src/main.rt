@@ -2,12 +2,19 @@
 use heading::Found;
 use libc::STDOUT_FILENO;
 use sheet::First;
+ghost use mathlib.Core.Path.{_≡_};
+ghost use mathlib.Core.List.{[]};
 ghost use lib.ListN.{length};
-ghost use Rattle.heading.specs.Heading.{Inside};
+ghost use Rattle.paper.specs.Answer.{refused};
+ghost use Rattle.paper.specs.Numbers.{R21};
+ghost use Rattle.sheet.specs.Lines.{firstLine};
+ghost use Rattle.sheet.specs.Says.{saysFirst};
+ghost use Rattle.heading.specs.Heading.{Inside, saidOf};
 
-// The first hour of the first line, if there is one.
+// The first hour of the first line; R21 where it is none, and where there is no first line.
 fn first_in(found: Found, buffer: &[u8]) -> First
     requires { ⌜ Inside found (length (now buffer)) ⌝ }
+    ensures { λ r. ⌜ saysFirst r ≡ saidOf firstLine (refused R21 []) found (now (buffer .entry)) ⌝ }
 {
     match found {
         Found::Line { from, to } => sheet::first_line(&buffer[from..to]),

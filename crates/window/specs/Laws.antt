@@ -12,7 +12,7 @@ use lib.ListN.{length, take, replicate, length-take}
 use lib.Seq.{take-take, take-all}
 use Rattle.laws.specs.Pick.{pick, pick-t, pick-f}
 use Rattle.window.specs.declared.Window.{Window}
-use Rattle.window.specs.Window.{places, samplesOf, emptyWindow, pushOf}
+use Rattle.window.specs.Window.{places, samplesOf, heldOf, emptyWindow, pushOf}
 use Rattle.window.specs.Range.{Within}
 
 pub samples-empty : samplesOf emptyWindow ≡ []
@@ -30,6 +30,11 @@ push-length w x e = omega (arith, length-take places (x ∷ w .samples))
 pub samples-most : (w : Window) → length (w .samples) ≡ places → length (samplesOf w) ≤ places
 unfolding samplesOf
 samples-most w e = omega (arith, length-take (w .held) (w .samples))
+
+-- a window that lends its samples lends those that it holds
+pub held-of : (w : Window) → length (w .samples) ≡ places → heldOf (w .samples) (w .held) ≡ samplesOf w
+unfolding heldOf samplesOf
+held-of w e = ap (λ (l : List ℤ). take (w .held) l) (take-all places (w .samples) (omega arith))
 
 room : (x : ℤ) (l : List ℤ) (h : ℕ) → h < places → take (h + 1) (take places (x ∷ l)) ≡ take places (x ∷ take h l)
 room x l h k =

@@ -15,6 +15,10 @@ places = 128
 unfoldable pub samplesOf : Window → List ℤ
 samplesOf w = take (w .held) (w .samples)
 
+-- the samples held of those that are lent, newest first: 128 at most
+unfoldable pub heldOf : List ℤ → ℕ → List ℤ
+heldOf s held = take held (take places s)
+
 -- no sample is held
 unfoldable pub emptyWindow : Window
 emptyWindow = record { samples = replicate places (pos 0); held = 0 }

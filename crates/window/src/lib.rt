@@ -47,18 +47,18 @@ impl Window {
             held: grown(self.held),
         }
     }
+}
 
-    // The mean of the last n samples, or of those held where they are fewer; of four or more without one largest and one smallest; of none it is 0.
-    pub fn mean(self, n: usize) -> i32
-        ensures { λ r. ⌜ Means self n r ⌝ }
-    {
-        let held = self.held;
-        let count = fewest(n, held);
-        if count == 0 {
-            return 0;
-        }
-        mean_of_first(&self.samples, count)
+// The mean of the last n of the samples lent, or of those held where they are fewer; of four or more without one largest and one smallest; of none it is 0.
+pub fn mean_of(samples: &[i32], held: usize, n: usize) -> i32
+    ensures { λ r. ⌜ Means (now (samples .entry)) held n r ⌝ }
+{
+    let there = fewest(held, samples.len());
+    let count = fewest(n, there);
+    if count == 0 {
+        return 0;
     }
+    mean_of_first(samples, count)
 }
 
 // What a pass over samples tells.

@@ -5,11 +5,11 @@ use lib.IntN.{ℤ}
 use mir.Syntax.{w32}
 use mir.Val.{SFits}
 use mir.Facts.{toZ-ofZ}
-use Rattle.series.specs.Events.{tick}
+use Rattle.series.specs.Events.{tick, run}
 use Rattle.calls.specs.Reads.{asCall}
-use Rattle.acts.specs.Acts.{event, askOf, askBy, leftAt, leftBy, lentTo, lent}
-use Rattle.acts.specs.Makes.{Makes}
-use Rattle.acts.proofs.Making.{acts-made, acts-as, as-call, asks-nothing, acts-none}
+use Rattle.acts.specs.Acts.{event, askOf, askBy, eventsIn, saidTo, leftAt, leftBy, lentTo, lent}
+use Rattle.acts.specs.Makes.{saysAct, Makes}
+use Rattle.acts.proofs.Making.{acts-made, acts-as, as-call, asks-nothing, acts-still}
 use borrow.Author.Needs.{needs}
 use Rattle.acts.proofs.act.Statement.{statement}
 use Rattle.acts.proofs.act.Tie as tie
@@ -72,9 +72,16 @@ returns-9 c =
     acts-as (as-call (length (now (a .reply))) (now (a .bytes)) (c .before .before .call7 .given .1)) (acts-made refl (c .why .ensures))
 
 returns-10 : tie.Need-returns-10
+unfolding lent askBy asCall eventsIn run saidTo saysAct leftBy
 returns-10 c =
+    let a = c .before .before .before .before .args in
+    acts-as (as-call (length (now (a .reply))) (now (a .bytes)) (c .enum-told3 .given .1)) (acts-still refl refl refl (c .before .before .before .before .pre))
+
+returns-11 : tie.Need-returns-11
+unfolding eventsIn run saidTo saysAct leftBy
+returns-11 c =
     let a = c .before .before .before .args in
-    acts-as (asks-nothing (length (now (a .reply))) (now (a .bytes)) (a .call) (c .match .keys10)) (acts-none (c .before .before .before .pre))
+    acts-as (asks-nothing (length (now (a .reply))) (now (a .bytes)) (a .call) (c .match .keys11)) (acts-still refl refl refl (c .before .before .before .pre))
 
 pub act-spec : {M : Type 1} → statement M
 act-spec =
@@ -83,9 +90,8 @@ act-spec =
     (λ c. search needs) (λ c κs. search needs) (λ c. search needs) (λ c κs. search needs) (λ c. search needs)
     (λ c κs. search needs) (λ c. search needs) (λ c κs. search needs) (λ c. search needs) (λ c κs. search needs)
     (λ c. search needs) (λ c κs. search needs) (λ c. search needs) (λ c κs. search needs) (λ c. search needs) (λ c κs. search needs)
-    (λ c. search needs) (λ c κs. search needs)
+    (λ c. search needs) (λ c κs. search needs) (λ c. search needs)
     returns returns-2 returns-3 returns-4 returns-5 returns-6
     (λ c. search needs) returns-7
     (λ c. search needs) returns-8
-    returns-9
-    returns-10)
+    returns-9 returns-10 returns-11)

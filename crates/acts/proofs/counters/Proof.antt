@@ -6,12 +6,10 @@ use borrow.Author.Needs.{needs}
 use Rattle.acts.proofs.counters.Statement.{statement}
 use Rattle.acts.proofs.counters.Tie as tie
 
-counters-requires : tie.Need-counters-requires
-counters-requires c κs = search needs
-
 returns : tie.Need-returns
 unfolding eventsIn run saidTo saysAct
 returns c = record { next = refl; says = ap counted (c .counters .ensures); sound = c .before .pre }
 
 pub counters-spec : {M : Type 1} → statement M
-counters-spec = tie.close (tie.spec counters-requires returns)
+counters-spec =
+    tie.close (tie.spec (λ c κs. search needs) returns)

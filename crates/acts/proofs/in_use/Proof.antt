@@ -5,15 +5,6 @@ use borrow.Author.Needs.{needs}
 use Rattle.acts.proofs.in_use.Statement.{statement}
 use Rattle.acts.proofs.in_use.Tie as tie
 
-enum-told : tie.Need-enum-told
-enum-told c = search needs
-
-enum-told-2 : tie.Need-enum-told-2
-enum-told-2 c = search needs
-
-enum-told-3 : tie.Need-enum-told-3
-enum-told-3 c = search needs
-
 returns : tie.Need-returns
 unfolding inUse
 returns c = sym (ap (λ (a : RestartAnswer). inUse a (c .before .before .args .old) (c .before .before .args .new)) (c .enum-told .given .1))
@@ -27,4 +18,5 @@ unfolding inUse
 returns-3 c = sym (ap (λ (a : RestartAnswer). inUse a (c .before .before .args .old) (c .before .before .args .new)) (c .enum-told3 .given .1))
 
 pub in-use-spec : {M : Type 1} → statement M
-in-use-spec = tie.close (tie.spec enum-told enum-told-2 enum-told-3 returns returns-2 returns-3)
+in-use-spec =
+    tie.close (tie.spec (λ c. search needs) (λ c. search needs) (λ c. search needs) returns returns-2 returns-3)

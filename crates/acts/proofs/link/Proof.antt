@@ -3,11 +3,9 @@ use borrow.Author.Needs.{needs}
 use Rattle.acts.proofs.link.Statement.{statement}
 use Rattle.acts.proofs.link.Tie as tie
 
-link-requires : tie.Need-link-requires
-link-requires c κs = search needs
-
 returns : tie.Need-returns
 returns c = makes-link (c .link .ensures)
 
 pub link-spec : {M : Type 1} → statement M
-link-spec = tie.close (tie.spec link-requires returns)
+link-spec =
+    tie.close (tie.spec (λ c κs. search needs) returns)

@@ -3,11 +3,9 @@ use borrow.Author.Needs.{needs}
 use Rattle.acts.proofs.reset.Statement.{statement}
 use Rattle.acts.proofs.reset.Tie as tie
 
-reset-requires : tie.Need-reset-requires
-reset-requires c κs = search needs
-
 returns : tie.Need-returns
 returns c = makes-reset (c .before .reset .ensures)
 
 pub reset-spec : {M : Type 1} → statement M
-reset-spec = tie.close (tie.spec reset-requires returns)
+reset-spec =
+    tie.close (tie.spec (λ c κs. search needs) returns)

@@ -3,14 +3,9 @@ use borrow.Author.Needs.{needs}
 use Rattle.acts.proofs.restart.Statement.{statement}
 use Rattle.acts.proofs.restart.Tie as tie
 
-restart-requires : tie.Need-restart-requires
-restart-requires c κs = search needs
-
-in-use-requires : tie.Need-in-use-requires
-in-use-requires c κs = search needs
-
 returns : tie.Need-returns
 returns c = makes-restart (c .before .before .restart .result) (c .before .before .before .pre) (c .before .before .restart .ensures) (c .in-use .ensures)
 
 pub restart-spec : {M : Type 1} → statement M
-restart-spec = tie.close (tie.spec restart-requires in-use-requires returns)
+restart-spec =
+    tie.close (tie.spec (λ c κs. search needs) (λ c κs. search needs) returns)

@@ -7,13 +7,11 @@ use borrow.Author.Needs.{needs}
 use Rattle.acts.proofs.tick.Statement.{statement}
 use Rattle.acts.proofs.tick.Tie as tie
 
-tick-requires : tie.Need-tick-requires
-tick-requires c κs = search needs
-
 returns : tie.Need-returns
 returns c =
     let a = c .before .before .args in
     makes-tick (subst (λ (x : ℤ). Ticks (a .c) x (a .inputs) (c .before .tick .result)) (toZ-ofZ (c .before .before .fits .sample)) (c .before .tick .ensures))
 
 pub tick-spec : {M : Type 1} → statement M
-tick-spec = tie.close (tie.spec tick-requires returns)
+tick-spec =
+    tie.close (tie.spec (λ c κs. search needs) returns)

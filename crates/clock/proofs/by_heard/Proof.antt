@@ -7,39 +7,12 @@ use borrow.Author.Needs.{needs}
 use Rattle.clock.proofs.by_heard.Statement.{statement}
 use Rattle.clock.proofs.by_heard.Tie as tie
 
-enum-told : tie.Need-enum-told
-enum-told c = search needs
-
-ticked-requires : tie.Need-ticked-requires
-ticked-requires c κs = search needs
-
-enum-known-heard : tie.Need-enum-known-heard
-enum-known-heard c = search needs
-
 dosed-requires : tie.Need-dosed-requires
 dosed-requires c κs = let p = c .before .before .before .before .before .pre in (p .0, subst Writable (c .before .before .heard .given .1) (p .1), p .2)
-
-enum-told-2 : tie.Need-enum-told-2
-enum-told-2 c = search needs
-
-restarted-requires : tie.Need-restarted-requires
-restarted-requires c κs = search needs
-
-enum-told-3 : tie.Need-enum-told-3
-enum-told-3 c = search needs
-
-enum-told-4 : tie.Need-enum-told-4
-enum-told-4 c = search needs
-
-same-length : tie.Need-same-length
-same-length c = search needs
 
 returns : tie.Need-returns
 unfolding heardBy
 returns c = writes-as (ap (heardBy (c .before .before .before .before .before .before .before .args .k)) (c .before .before .before .before .enum-told .given .1)) (c .before .before .ticked .ensures)
-
-same-length-2 : tie.Need-same-length-2
-same-length-2 c = search needs
 
 returns-2 : tie.Need-returns-2
 unfolding heardBy
@@ -61,18 +34,6 @@ pub by-heard-spec : {M : Type 1} → statement M
 by-heard-spec =
     tie.close
     (tie.spec
-    enum-told
-    ticked-requires
-    enum-known-heard
-    dosed-requires
-    enum-told-2
-    restarted-requires
-    enum-told-3
-    enum-told-4
-    same-length
-    returns
-    same-length-2
-    returns-2
-    returns-3
-    returns-4
-    returns-5)
+    (λ c. search needs) (λ c κs. search needs) (λ c. search needs) dosed-requires (λ c. search needs)
+    (λ c κs. search needs) (λ c. search needs) (λ c. search needs) (λ c. search needs) returns (λ c. search needs)
+    returns-2 returns-3 returns-4 returns-5)

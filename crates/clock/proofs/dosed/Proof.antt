@@ -12,26 +12,11 @@ use borrow.Author.Needs.{needs}
 use Rattle.clock.proofs.dosed.Statement.{statement}
 use Rattle.clock.proofs.dosed.Tie as tie
 
-refuse-requires : tie.Need-refuse-requires
-refuse-requires c κs = search needs
-
-same-length : tie.Need-same-length
-same-length c = search needs
-
 returns : tie.Need-returns
 returns c = writes-as (counts-refuses (c .before .before .before .before .before .before .before .args .k) _ (c .before .before .before .before .if1 .taken)) (c .before .before .refuse .ensures)
 
-dose-line-requires : tie.Need-dose-line-requires
-dose-line-requires c κs = search needs
-
 put-line-requires : tie.Need-put-line-requires
 put-line-requires c κs = let a = c .before .before .before .before .before .args in let p = c .before .before .before .before .before .pre in (ap (inRange New) (c .before .dose-line .ensures) ∙ dose-in-range (a .k .hour) (a .dose) (c .before .before .if1 .left) (p .1), omega (arith, p .2))
-
-one-more-requires : tie.Need-one-more-requires
-one-more-requires c κs = search needs
-
-same-length-2 : tie.Need-same-length-2
-same-length-2 c = search needs
 
 returns-2 : tie.Need-returns-2
 returns-2 c =
@@ -43,11 +28,5 @@ pub dosed-spec : {M : Type 1} → statement M
 dosed-spec =
     tie.close
     (tie.spec
-    refuse-requires
-    same-length
-    returns
-    dose-line-requires
-    put-line-requires
-    one-more-requires
-    same-length-2
-    returns-2)
+    (λ c κs. search needs) (λ c. search needs) returns (λ c κs. search needs) put-line-requires (λ c κs. search needs)
+    (λ c. search needs) returns-2)

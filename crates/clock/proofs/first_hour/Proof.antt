@@ -25,44 +25,17 @@ alone : (k : Clock) (h : ℕ) (s : List ℕ) (end : ℕ) → length s ≤ end �
 unfolding firstOf
 alone k h s end m = ap (λ (l : List ℕ). firstOf k (good h l)) (drop-of-length-le s {i = end} m)
 
-number-at-requires : tie.Need-number-at-requires
-number-at-requires c κs = search needs
-
-enum-known-hour : tie.Need-enum-known-hour
-enum-known-hour c = search needs
-
-enum-told : tie.Need-enum-told
-enum-told c = search needs
-
-refuse-requires : tie.Need-refuse-requires
-refuse-requires c κs = search needs
-
-same-length : tie.Need-same-length
-same-length c = search needs
-
 returns : tie.Need-returns
 unfolding firstOf
 returns c =
     let a = c .before .before .before .before .before .before .before .before .before .args in
     writes-as (ap (firstOf (a .k)) (c .before .before .before .before .before .before .number-at .ensures .reads ∙ ap (leads (now (a .line))) (c .before .before .before .before .enum-told .given .1))) (c .before .before .refuse .ensures)
 
-refuse-requires-2 : tie.Need-refuse-requires-2
-refuse-requires-2 c κs = search needs
-
-same-length-2 : tie.Need-same-length-2
-same-length-2 c = search needs
-
 returns-2 : tie.Need-returns-2
 returns-2 c =
     let a = c .before .before .before .before .before .before .before .before .before .before .before .args in
     let h = c .before .before .before .before .before .before .hour in
     writes-as (ap (firstOf (a .k)) (c .before .before .before .before .before .before .before .before .number-at .ensures .reads ∙ ap (leads (now (a .line))) (h .given .1)) ∙ followed (a .k) (h .given .0 .0) (now (a .line)) (h .given .0 .1 .0) (c .before .before .before .before .if1 .taken)) (c .before .before .refuse2 .ensures)
-
-put-version-requires : tie.Need-put-version-requires
-put-version-requires c κs = search needs
-
-same-length-3 : tie.Need-same-length-3
-same-length-3 c = search needs
 
 returns-3 : tie.Need-returns-3
 unfolding withStage withHour
@@ -77,15 +50,5 @@ pub first-hour-spec : {M : Type 1} → statement M
 first-hour-spec =
     tie.close
     (tie.spec
-    number-at-requires
-    enum-known-hour
-    enum-told
-    refuse-requires
-    same-length
-    returns
-    refuse-requires-2
-    same-length-2
-    returns-2
-    put-version-requires
-    same-length-3
-    returns-3)
+    (λ c κs. search needs) (λ c. search needs) (λ c. search needs) (λ c κs. search needs) (λ c. search needs) returns
+    (λ c κs. search needs) (λ c. search needs) returns-2 (λ c κs. search needs) (λ c. search needs) returns-3)

@@ -1,5 +1,4 @@
 use mathlib.Core.Path.{sym, ap, _∙_}
-use mathlib.Core.Bool.{and-true}
 use borrow.Author.Tests.{le-leb, lt-leb}
 use Rattle.journal.specs.Line.{inRange, productMost, within, mostOfD}
 use Rattle.clock.specs.Clock.{doseIn}
@@ -8,9 +7,6 @@ use Rattle.clock.proofs.Writing.{other-fits}
 use borrow.Author.Needs.{needs}
 use Rattle.clock.proofs.fits.Statement.{statement}
 use Rattle.clock.proofs.fits.Tie as tie
-
-enum-known-heard : tie.Need-enum-known-heard
-enum-known-heard c = search needs
 
 returns : tie.Need-returns
 returns c = other-fits (c .before .args .heard) (c .match .keys2)
@@ -32,4 +28,5 @@ unfolding fitsLine doseIn inRange productMost within mostOfD
 returns-5 c = sym (ap fitsLine (c .before .before .before .before .before .before .before .before .heard .given .1) ∙ rw (le-leb _ _ (c .before .before .before .before .before .if1 .left), le-leb _ _ (c .before .before .before .if2 .left), le-leb _ _ (c .before .if3 .left)))
 
 pub fits-spec : {M : Type 1} → statement M
-fits-spec = tie.close (tie.spec enum-known-heard returns returns-2 returns-3 returns-4 returns-5)
+fits-spec =
+    tie.close (tie.spec (λ c. search needs) returns returns-2 returns-3 returns-4 returns-5)

@@ -7,18 +7,9 @@ use borrow.Author.Needs.{needs}
 use Rattle.clock.proofs.one_more.Statement.{statement}
 use Rattle.clock.proofs.one_more.Tie as tie
 
-add-if1 : tie.Need-add-if1
-add-if1 c = search needs
-
-add-t8 : tie.Need-add-t8
-add-t8 c = search needs
-
 returns : tie.Need-returns
 unfolding withTicks
 returns c = let a = c .before .before .before .before .args in adds-none (a .at) (now (a .out)) (more-same (a .k) (c .before .if1 .taken))
-
-add-t6 : tie.Need-add-t6
-add-t6 c = search needs
 
 returns-2 : tie.Need-returns-2
 unfolding nextHour withWhole withTicks withHour
@@ -27,9 +18,6 @@ returns-2 c = let a = c .before .before .before .before .before .before .args in
 put-line-requires : tie.Need-put-line-requires
 put-line-requires c κs = let p = c .before .before .before .before .before .before .before .pre in (on-in-range (c .before .before .before .before .before .before .before .args .k .hour) (p .1), p .2)
 
-same-length : tie.Need-same-length
-same-length c = search needs
-
 returns-3 : tie.Need-returns-3
 unfolding nextHour withWhole withTicks withHour
 returns-3 c = let a = c .before .before .before .before .before .before .before .before .before .before .args in adds-text (more-closed (a .k) (c .before .before .before .before .before .before .before .if1 .left) (not-false _ (c .before .before .before .before .if2 .left))) (c .before .before .put-line .ensures)
@@ -37,4 +25,6 @@ returns-3 c = let a = c .before .before .before .before .before .before .before 
 pub one-more-spec : {M : Type 1} → statement M
 one-more-spec =
     tie.close
-    (tie.spec add-if1 add-t8 returns add-t6 returns-2 put-line-requires same-length returns-3)
+    (tie.spec
+    (λ c. search needs) (λ c. search needs) returns (λ c. search needs) returns-2 put-line-requires
+    (λ c. search needs) returns-3)

@@ -4,20 +4,8 @@ use borrow.Author.Needs.{needs}
 use Rattle.clock.proofs.ticked.Statement.{statement}
 use Rattle.clock.proofs.ticked.Tie as tie
 
-refuse-requires : tie.Need-refuse-requires
-refuse-requires c κs = search needs
-
-same-length : tie.Need-same-length
-same-length c = search needs
-
 returns : tie.Need-returns
 returns c = writes-as (counts-refuses (c .before .before .before .before .before .before .before .args .k) _ (c .before .before .before .before .if1 .taken)) (c .before .before .refuse .ensures)
-
-one-more-requires : tie.Need-one-more-requires
-one-more-requires c κs = search needs
-
-same-length-2 : tie.Need-same-length-2
-same-length-2 c = search needs
 
 returns-2 : tie.Need-returns-2
 returns-2 c = ticked-writes (c .before .before .before .before .before .before .before .args .k) (c .before .before .before .before .if1 .left) (c .before .before .before .before .before .before .before .pre .1) (c .before .before .one-more .ensures)
@@ -25,4 +13,5 @@ returns-2 c = ticked-writes (c .before .before .before .before .before .before .
 pub ticked-spec : {M : Type 1} → statement M
 ticked-spec =
     tie.close
-    (tie.spec refuse-requires same-length returns one-more-requires same-length-2 returns-2)
+    (tie.spec
+    (λ c κs. search needs) (λ c. search needs) returns (λ c κs. search needs) (λ c. search needs) returns-2)

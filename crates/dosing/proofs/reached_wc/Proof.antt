@@ -8,15 +8,15 @@ use Rattle.dosing.specs.Rules.{reachedWc}
 use Rattle.dosing.proofs.reached_wc.Tie as tie
 use Rattle.dosing.proofs.reached_wc.Statement.{statement}
 
-less-requires : tie.Need-less-requires
-less-requires c κs = search needs
+shuts-at-requires : tie.Need-shuts-at-requires
+shuts-at-requires c κs = search needs
 
 at-least-requires : tie.Need-at-least-requires
 at-least-requires c κs = search needs
 
 returns : tie.Need-returns
 unfolding reachedWc Wc
-returns c = c .at-least .ensures ∙ ap (λ (n : ℕ). leZ (pos n) (c .before .before .args .x .v)) (c .before .less .ensures)
+returns c = c .at-least .ensures ∙ ap (λ (n : ℕ). leZ (pos n) (c .before .before .args .x .v)) (c .before .shuts-at .ensures)
 
 pub reached-wc-spec : {M : Type 1} → statement M
-reached-wc-spec = tie.close (tie.spec less-requires at-least-requires returns)
+reached-wc-spec = tie.close (tie.spec shuts-at-requires at-least-requires returns)

@@ -12,20 +12,14 @@ ready-requires c κs = search needs
 enum-known-phase : tie.Need-enum-known-phase
 enum-known-phase c = search needs
 
-coarse-stage-requires : tie.Need-coarse-stage-requires
-coarse-stage-requires c κs = search needs
-
-fill-requires : tie.Need-fill-requires
-fill-requires c κs = search needs
+fill-coarse-requires : tie.Need-fill-coarse-requires
+fill-coarse-requires c κs = search needs
 
 enum-known-phase-2 : tie.Need-enum-known-phase-2
 enum-known-phase-2 c = search needs
 
-fine-stage-requires : tie.Need-fine-stage-requires
-fine-stage-requires c κs = search needs
-
-fill-requires-2 : tie.Need-fill-requires-2
-fill-requires-2 c κs = search needs
+fill-fine-requires : tie.Need-fill-fine-requires
+fill-fine-requires c κs = search needs
 
 enum-told-2 : tie.Need-enum-told-2
 enum-told-2 c = search needs
@@ -81,11 +75,11 @@ returns c = rw (c .before .enum-told .given .1) (c .ready .ensures)
 
 returns-2 : tie.Need-returns-2
 unfolding stepOf
-returns-2 c = rw (c .before .before .before .phase .given .1) (simp (c .fill .ensures, c .before .coarse-stage .ensures))
+returns-2 c = rw (c .before .before .phase .given .1) (c .fill-coarse .ensures)
 
 returns-3 : tie.Need-returns-3
 unfolding stepOf
-returns-3 c = rw (c .before .before .before .phase2 .given .1) (simp (c .fill2 .ensures, c .before .fine-stage .ensures))
+returns-3 c = rw (c .before .before .phase2 .given .1) (c .fill-fine .ensures)
 
 returns-4 : tie.Need-returns-4
 unfolding stepOf
@@ -126,11 +120,9 @@ step-spec =
     enum-told
     ready-requires
     enum-known-phase
-    coarse-stage-requires
-    fill-requires
+    fill-coarse-requires
     enum-known-phase-2
-    fine-stage-requires
-    fill-requires-2
+    fill-fine-requires
     enum-told-2
     hold-requires
     enum-known-phase-3

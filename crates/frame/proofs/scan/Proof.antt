@@ -57,11 +57,16 @@ returns c =
       held = c .before .before .before .before .step .ensures .held;
     }
 
+run-on-requires : tie.Need-run-on-requires Inv-loop μ-loop
+run-on-requires c κs = (omega arith, c .before .before .before .before .step .ensures .held)
+
 loop-less : tie.Need-loop-less Inv-loop μ-loop
-loop-less c = omega arith
+loop-less c = let g = c .before .before .run-on .ensures in omega (arith, g .on, g .inside)
 
 loop-again : tie.Need-loop-again Inv-loop μ-loop
-loop-again c = (omega arith, (turn (c .before .before .before), c .before .before .before .step .ensures .held))
+loop-again c =
+    let g = c .before .before .run-on .ensures in
+    (g .inside, (g .same ∙ turn (c .before .before .before .before .before .before .before), g .held))
 
 same-length-2 : tie.Need-same-length-2 Inv-loop μ-loop
 same-length-2 c = omega (arith, c .before .loop .inv .1 .1 .full)
@@ -87,6 +92,7 @@ scan-spec =
     enum-told
     same-length
     returns
+    run-on-requires
     loop-less
     loop-again
     same-length-2

@@ -1,12 +1,13 @@
 use mathlib.Core.Path.{_≡_}
 use lib.ListN.{length}
 use borrow.Author.Needs.{needs}
-use Rattle.heading.specs.Heading.{Inside}
+use Rattle.heading.specs.Heading.{ReadsHeading}
+use Rattle.heading.proofs.Coming.{headed-first, headed-on}
 use Rattle.heading.proofs.read_heading.Statement.{statement}
 use Rattle.heading.proofs.read_heading.Tie as tie
 
 abbrev Inv-loop : tie.InvT-loop
-Inv-loop buffer₀ headed₀ turns₀ buffer headed turns = (length buffer ≡ length buffer₀) × Inside (headed .found) (length buffer)
+Inv-loop buffer₀ headed₀ turns₀ buffer headed turns = (length buffer ≡ length buffer₀) × ReadsHeading buffer headed
 
 abbrev μ-loop : tie.MeasureT-loop
 μ-loop buffer₀ headed₀ turns₀ buffer headed turns = turns
@@ -18,7 +19,7 @@ turn-requires : tie.Need-turn-requires Inv-loop μ-loop
 turn-requires c κs = search needs
 
 loop-holds : tie.Need-loop-holds Inv-loop μ-loop
-loop-holds c = (search needs, c .before .before .turn .ensures)
+loop-holds c = (search needs, headed-first _ _ _ _ (c .before .before .before .before .start .ensures) (c .before .before .turn .ensures))
 
 enum-told : tie.Need-enum-told Inv-loop μ-loop
 enum-told c = search needs
@@ -39,7 +40,9 @@ loop-less : tie.Need-loop-less Inv-loop μ-loop
 loop-less c = search needs
 
 loop-again : tie.Need-loop-again Inv-loop μ-loop
-loop-again c = (search (needs, c .before .before .before .before .before .before .before .before .loop .inv .0), c .before .before .turn2 .ensures)
+loop-again c =
+    let at = c .before .before .before .before .before .before .before .before in
+    (search (needs, at .loop .inv .0), headed-on _ _ _ _ (at .loop .inv .1) (c .before .before .before .before .before .enum-told .given .1) (c .before .before .turn2 .ensures))
 
 same-length-2 : tie.Need-same-length-2 Inv-loop μ-loop
 same-length-2 c = search (needs, c .before .loop .inv .0)

@@ -7,23 +7,25 @@ use borrow.Author.Needs.{needs}
 use lib.ListN.{length, take, drop, length-append}
 use lib.Seq.{length-take-le}
 use Rattle.lines.specs.Places.{carry-inside}
-use Rattle.heading.specs.Heading.{Behind}
+use Rattle.heading.specs.Heading.{Continues, Behind}
 use Rattle.heading.specs.declared.Found.{Found}
 use Rattle.heading.specs.declared.Found.the-variants as F
+use Rattle.heading.specs.declared.Headed.{Headed}
 use Rattle.heading.proofs.Found.{the-type as found-type}
+use Rattle.heading.proofs.Coming.{continued}
 use Rattle.heading.proofs.read_journal.Statement.{statement}
 use Rattle.heading.proofs.read_journal.Tie as tie
+
+-- with a first line, or more to read
+behind : (h : Headed) (f : Found) (old new : List ℕ) (n : ℕ) → OneOf (0 ∷ 1 ∷ []) (tagOf found-type f) → Continues h old new n → Behind h f old new n
+behind h (F.Line from to) old new n k c = c
+behind h F.More old new n k c = c
+behind h F.Nothing old new n k c = absurd (miss (0 ∷ 1 ∷ []) 2 tt k)
 
 -- what was read stands behind the first bytes
 within : (old part : List ℕ) (held n k : ℕ) → held ≤ length old → n ≤ length part → held + n ≤ length (take held old ++ (part ++ drop k (drop held old)))
 within old part held n k h m =
     omega (arith, length-append (take held old) (part ++ drop k (drop held old)), length-append part (drop k (drop held old)), length-take-le held old h)
-
--- with a first line, or more to read
-behind : (f : Found) (n size : ℕ) → OneOf (0 ∷ 1 ∷ []) (tagOf found-type f) → n ≤ size → Behind f n size
-behind (F.Line from to) n size k h = h
-behind F.More n size k h = h
-behind F.Nothing n size k h = absurd (miss (0 ∷ 1 ∷ []) 2 tt k)
 
 enum-told : tie.Need-enum-told
 enum-told c = search needs
@@ -58,8 +60,9 @@ returns-2 c =
     let read = c .before .before .read-full in
     let i = carry-inside (p .carry .ensures) in
     let m = p .before .before .before in
-    behind (m .before .before .args .headed .found) _ _ (m .match .keys2)
-    (within (p .carry .last .0) (read .last .1 .0) (p .carry .result) (read .result) (length (p .carry .last .0) - p .carry .result) (omega (arith, i .0, i .1)) (read .ensures .0))
+    behind _ (m .before .before .args .headed .found) _ _ _ (m .match .keys2)
+    (continued (m .before .before .args .headed) _ (p .carry .last .0) _ _ _ (p .carry .ensures)
+    (within (p .carry .last .0) (read .last .1 .0) (p .carry .result) (read .result) (length (p .carry .last .0) - p .carry .result) (omega (arith, i .0, i .1)) (read .ensures .0)))
 
 pub read-journal-spec : {M : Type 1} → statement M
 read-journal-spec =

@@ -1,5 +1,5 @@
 use mathlib.Core.Path.{_≡_, refl, sym, ap, _∙_}
-use mathlib.Core.List.{List, [], _∷_, _++_}
+use mathlib.Core.List.{List, _++_}
 use Prim.Native.Nat.{ℕ, suc, _+_, _-_, _≤_, _<_, min}
 use native.Mathlib.Omega.{arith}
 use native.Mathlib.Numerals.{add-one}
@@ -71,9 +71,6 @@ Inv-loop buffer₀ from to end i₀ n₀ buffer i n = Moved from end buffer₀ b
 abbrev μ-loop : tie.MeasureT-loop
 μ-loop buffer₀ from to end i₀ n₀ buffer i n = end - i
 
-least-requires : tie.Need-least-requires Inv-loop μ-loop
-least-requires c κs = search needs
-
 loop-holds : tie.Need-loop-holds Inv-loop μ-loop
 loop-holds c = record { all = omega (arith, c .least .ensures); place = omega arith; most = omega arith; left = refl }
 
@@ -85,12 +82,6 @@ slice-write-buffer c = let m = c .before .before .loop .inv in omega (arith, m .
 
 add-n : tie.Need-add-n Inv-loop μ-loop
 add-n c = let m = c .before .before .loop .inv in omega (arith, m .place, c .before .loop-test .taken)
-
-add-i : tie.Need-add-i Inv-loop μ-loop
-add-i c = search needs
-
-loop-less : tie.Need-loop-less Inv-loop μ-loop
-loop-less c = search needs
 
 loop-again : tie.Need-loop-again Inv-loop μ-loop
 loop-again c = moved-more (c .before .before .loop .inv) (c .before .loop-test .taken)
@@ -105,15 +96,5 @@ pub carry-spec : {M : Type 1} → statement M
 carry-spec =
     tie.close
     (tie.spec
-    Inv-loop
-    μ-loop
-    least-requires
-    loop-holds
-    slice-read-buffer
-    slice-write-buffer
-    add-n
-    add-i
-    loop-less
-    loop-again
-    same-length
-    returns)
+    Inv-loop μ-loop (λ c κs. search needs) loop-holds slice-read-buffer slice-write-buffer add-n (λ c. search needs)
+    (λ c. search needs) loop-again same-length returns)

@@ -1,31 +1,12 @@
-use mathlib.Core.Path.{_≡_, refl, ap, _∙_}
-use mathlib.Core.List.{List}
-use Prim.Native.Nat.{ℕ, suc, _+_, _-_, _≤_, _<_}
+use mathlib.Core.Path.{_≡_, refl, _∙_}
+use Prim.Native.Nat.{_-_}
 use native.Mathlib.Omega.{arith}
-use lib.ListN.{length, getD, drop, drop-of-length-le}
-use lib.Seq.{drop-cons}
-use borrow.Author.Tests.{eq-eqb, ne-eqb}
-use Rattle.laws.specs.Pick.{pick-t, pick-f}
-use Rattle.text.specs.Scan.{LF}
-use Rattle.lines.specs.Places.{plainLength, endOf}
+use lib.ListN.{length}
 use borrow.Author.Needs.{needs}
+use Rattle.lines.specs.Places.{endOf}
+use Rattle.lines.proofs.Ends.{end-past}
 use Rattle.lines.proofs.line_end.Statement.{statement}
 use Rattle.lines.proofs.line_end.Tie as tie
-
--- nothing is left, an LF stands there, or another byte
-end-past : (block : List ℕ) (i : ℕ) → length block ≤ i → i ≡ endOf block i
-unfolding endOf plainLength
-end-past block i h = omega (arith, ap plainLength (drop-of-length-le block {i = i} h))
-
-end-here : (block : List ℕ) (i : ℕ) → i < length block → getD block i 0 ≡ LF → i ≡ endOf block i
-unfolding endOf plainLength
-end-here block i h e = omega (arith, ap plainLength (drop-cons block i 0 h) ∙ pick-t _ _ _ (eq-eqb _ _ e))
-
-end-on : (block : List ℕ) (i : ℕ) → i < length block → (getD block i 0 ≡ LF → ⊥) → endOf block (i + 1) ≡ endOf block i
-unfolding endOf plainLength
-end-on block i h n =
-    let next : suc i ≡ i + 1 = omega arith in
-    omega (arith, ap plainLength (drop-cons block i 0 h) ∙ pick-f _ _ _ (ne-eqb _ _ n), ap (λ (k : ℕ). plainLength (drop k block)) next)
 
 abbrev Inv-loop : tie.InvT-loop
 Inv-loop block at i₀ i = endOf block i ≡ endOf block at
@@ -36,23 +17,35 @@ abbrev μ-loop : tie.MeasureT-loop
 loop-holds : tie.Need-loop-holds Inv-loop μ-loop
 loop-holds c = refl
 
-shared-slice-read-if1 : tie.Need-shared-slice-read-if1 Inv-loop μ-loop
-shared-slice-read-if1 c = search needs
+sub-if1 : tie.Need-sub-if1 Inv-loop μ-loop
+sub-if1 c = search needs
+
+end-from-requires : tie.Need-end-from-requires Inv-loop μ-loop
+end-from-requires c κs = search needs
 
 returns : tie.Need-returns Inv-loop μ-loop
-returns c = end-here _ _ (c .before .before .loop-test .taken) (c .if1 .taken) ∙ c .before .before .before .loop .inv
+returns c = c .end-from .ensures ∙ c .before .before .before .loop .inv
 
-add-i : tie.Need-add-i Inv-loop μ-loop
-add-i c = search needs
+has-lf-requires : tie.Need-has-lf-requires Inv-loop μ-loop
+has-lf-requires c κs = omega arith
 
-loop-less : tie.Need-loop-less Inv-loop μ-loop
-loop-less c = search needs
-
-loop-again : tie.Need-loop-again Inv-loop μ-loop
-loop-again c = end-on _ _ (c .before .before .loop-test .taken) (c .if1 .left) ∙ c .before .before .before .loop .inv
+end-from-requires-2 : tie.Need-end-from-requires-2 Inv-loop μ-loop
+end-from-requires-2 c κs = search needs
 
 returns-2 : tie.Need-returns-2 Inv-loop μ-loop
-returns-2 c = end-past _ _ (c .loop-test .left) ∙ c .before .loop .inv
+returns-2 c = c .end-from2 .ensures ∙ c .before .before .before .before .before .loop .inv
+
+add-i : tie.Need-add-i Inv-loop μ-loop
+add-i c = omega arith
+
+loop-less : tie.Need-loop-less Inv-loop μ-loop
+loop-less c = omega arith
+
+loop-again : tie.Need-loop-again Inv-loop μ-loop
+loop-again c = c .before .has-lf .ensures (c .if2 .left) ∙ c .before .before .before .before .loop .inv
+
+returns-3 : tie.Need-returns-3 Inv-loop μ-loop
+returns-3 c = end-past _ _ (c .loop-test .left) ∙ c .before .loop .inv
 
 pub line-end-spec : {M : Type 1} → statement M
 line-end-spec =
@@ -61,9 +54,13 @@ line-end-spec =
     Inv-loop
     μ-loop
     loop-holds
-    shared-slice-read-if1
+    sub-if1
+    end-from-requires
     returns
+    has-lf-requires
+    end-from-requires-2
+    returns-2
     add-i
     loop-less
     loop-again
-    returns-2)
+    returns-3)

@@ -2,6 +2,7 @@ use mathlib.Core.Path.{sym}
 use borrow.Author.Needs.{needs}
 use lib.Seq.{length-take-le}
 use Rattle.report.specs.Contracts.{holds-inside}
+use Rattle.heading.specs.Heading.{heading-inside}
 use Rattle.product.proofs.main.Statement.{statement}
 use Rattle.product.proofs.main.Tie as tie
 
@@ -15,7 +16,7 @@ slice-aggregate-choice-in : tie.Need-slice-aggregate-choice-in
 slice-aggregate-choice-in c = search needs
 
 choice-in-requires : tie.Need-choice-in-requires
-choice-in-requires c κs = search needs
+choice-in-requires c κs = heading-inside _ _ (c .before .before .read-heading .ensures)
 
 slice-aggregate-read-journal : tie.Need-slice-aggregate-read-journal
 slice-aggregate-read-journal c = search needs

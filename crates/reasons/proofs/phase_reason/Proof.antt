@@ -5,11 +5,11 @@ use Rattle.reasons.specs.Reasons.{settlingOr, leadOr, nameOf, phaseCause
 use Rattle.reasons.proofs.phase_reason.Statement.{statement}
 use Rattle.reasons.proofs.phase_reason.Tie as tie
 
-less-requires : tie.Need-less-requires
-less-requires c κs = tt
+shuts-at-requires : tie.Need-shuts-at-requires
+shuts-at-requires c κs = tt
 
-less-requires-2 : tie.Need-less-requires-2
-less-requires-2 c κs = tt
+shuts-at-requires-2 : tie.Need-shuts-at-requires-2
+shuts-at-requires-2 c κs = tt
 
 enum-told : tie.Need-enum-told
 enum-told c = search needs
@@ -75,15 +75,15 @@ returns-2 c = rw (c .enum-told2 .given .1)
 
 returns-3 : tie.Need-returns-3
 unfolding phaseCause settlingOr leadOr nameOf Wc Wf
-returns-3 c = c .at-wc .ensures ∙ rw (c .before .before .before .before .less .ensures, c .before .enum-told3 .given .1)
+returns-3 c = c .at-wc .ensures ∙ rw (c .before .before .before .before .shuts-at .ensures, c .before .enum-told3 .given .1)
 
 returns-4 : tie.Need-returns-4
 unfolding phaseCause settlingOr leadOr nameOf Wc Wf
-returns-4 c = c .at-wf .ensures ∙ rw (c .before .before .before .less2 .ensures, c .before .enum-told4 .given .1)
+returns-4 c = c .at-wf .ensures ∙ rw (c .before .before .before .shuts-at2 .ensures, c .before .enum-told4 .given .1)
 
 returns-5 : tie.Need-returns-5
 unfolding phaseCause settlingOr leadOr nameOf Wc Wf
-returns-5 c = c .in-settle .ensures ∙ rw (c .before .before .before .before .less2 .ensures, c .before .before .phase .given .1)
+returns-5 c = c .in-settle .ensures ∙ rw (c .before .before .before .before .shuts-at2 .ensures, c .before .before .phase .given .1)
 
 returns-6 : tie.Need-returns-6
 unfolding phaseCause settlingOr leadOr nameOf Wc Wf
@@ -105,20 +105,20 @@ returns-10 : tie.Need-returns-10
 unfolding phaseCause settlingOr leadOr nameOf Wc Wf
 returns-10 c =
     let p = c .before .before .before in
-    c .at-wc2 .ensures ∙ rw (c .before .minus .ensures, p .before .before .before .less .ensures, p .phase2 .given .1)
+    c .at-wc2 .ensures ∙ rw (c .before .minus .ensures, p .before .before .before .shuts-at .ensures, p .phase2 .given .1)
 
 returns-11 : tie.Need-returns-11
 unfolding phaseCause settlingOr leadOr nameOf Wc Wf
 returns-11 c =
     let p = c .before .before .before in
-    c .at-wf2 .ensures ∙ rw (c .before .minus2 .ensures, p .before .before .less2 .ensures, p .phase3 .given .1)
+    c .at-wf2 .ensures ∙ rw (c .before .minus2 .ensures, p .before .before .shuts-at2 .ensures, p .phase3 .given .1)
 
 pub phase-reason-spec : {M : Type 1} → statement M
 phase-reason-spec =
     tie.close
     (tie.spec
-    less-requires
-    less-requires-2
+    shuts-at-requires
+    shuts-at-requires-2
     enum-told
     enum-told-2
     enum-told-3

@@ -7,18 +7,6 @@ use borrow.Author.Needs.{needs}
 use Rattle.recorder.proofs.by_answer.Statement.{statement}
 use Rattle.recorder.proofs.by_answer.Tie as tie
 
-enum-known-answer : tie.Need-enum-known-answer
-enum-known-answer c = search needs
-
-heard-tick-requires : tie.Need-heard-tick-requires
-heard-tick-requires c κs = search needs
-
-enum-known-answer-2 : tie.Need-enum-known-answer-2
-enum-known-answer-2 c = search needs
-
-heard-restart-requires : tie.Need-heard-restart-requires
-heard-restart-requires c κs = search needs
-
 returns : tie.Need-returns
 unfolding heardSaid saysAct
 returns c = c .heard-tick .ensures ∙ sym (ap (λ (a : Answer). heardSaid (saysAct a)) (c .before .before .answer .given .1))
@@ -28,16 +16,12 @@ unfolding heardSaid saysAct
 returns-2 c = c .heard-restart .ensures ∙ sym (ap (λ (a : Answer). heardSaid (saysAct a)) (c .before .before .answer2 .given .1))
 
 returns-3 : tie.Need-returns-3
-returns-3 c = other-answer (c .before .args .answer) (c .match .keys3)
+unfolding heardSaid saysAct
+returns-3 c = sym (ap (λ (a : Answer). heardSaid (saysAct a)) (c .enum-told .given .1))
 
 pub by-answer-spec : {M : Type 1} → statement M
 by-answer-spec =
     tie.close
     (tie.spec
-    enum-known-answer
-    heard-tick-requires
-    enum-known-answer-2
-    heard-restart-requires
-    returns
-    returns-2
-    returns-3)
+    (λ c. search needs) (λ c κs. search needs) (λ c. search needs) (λ c κs. search needs) (λ c. search needs)
+    returns returns-2 returns-3 (λ c. other-answer (c .before .args .answer) (c .match .keys4)))

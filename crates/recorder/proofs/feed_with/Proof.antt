@@ -31,27 +31,6 @@ added c =
 loop-holds : tie.Need-loop-holds Inv-loop μ-loop
 loop-holds c = let a = c .before .before .before .before .args in (feeding-none (a .r) (a .intake) (c .before .before .before .before .pre .0), refl, refl)
 
-sub-loop : tie.Need-sub-loop Inv-loop μ-loop
-sub-loop c = search needs
-
-next-line-requires : tie.Need-next-line-requires Inv-loop μ-loop
-next-line-requires c κs = search needs
-
-enum-known-next : tie.Need-enum-known-next Inv-loop μ-loop
-enum-known-next c = search needs
-
-enum-told : tie.Need-enum-told Inv-loop μ-loop
-enum-told c = search needs
-
-same-length : tie.Need-same-length Inv-loop μ-loop
-same-length c = search needs
-
-same-length-2 : tie.Need-same-length-2 Inv-loop μ-loop
-same-length-2 c = search needs
-
-same-length-3 : tie.Need-same-length-3 Inv-loop μ-loop
-same-length-3 c = search needs
-
 returns : tie.Need-returns Inv-loop μ-loop
 returns c = let l = c .before .before .before .before .before .loop in taken-more (l .inv .0) (c .before .before .before .next-line .result) (c .before .before .before .next-line .ensures) (c .before .before .before .before .loop-test .taken) (c .enum-told .given .1)
 
@@ -63,15 +42,6 @@ part-note-start c = lies (c .before) .order
 
 part-note-end : tie.Need-part-note-end Inv-loop μ-loop
 part-note-end c = let b = lies (c .before) in omega (arith, b .inside)
-
-sub-note-2 : tie.Need-sub-note-2 Inv-loop μ-loop
-sub-note-2 c = search needs
-
-part-note-start-2 : tie.Need-part-note-start-2 Inv-loop μ-loop
-part-note-start-2 c = search needs
-
-part-note-end-2 : tie.Need-part-note-end-2 Inv-loop μ-loop
-part-note-end-2 c = search needs
 
 note-requires : tie.Need-note-requires Inv-loop μ-loop
 note-requires c κs =
@@ -93,15 +63,6 @@ loop-again c =
     let t = c .before .before .before .before .before .before .before .before .before .before .before .before .before .before .before .before .before .next-line in
     (taken-line (l .inv .0) (t .result) (t .ensures) _ _ _ (n .result) (c .before .before .before .before .before .before .before .before .before .before .before .before .before .before .before .before .before .before .loop-test .taken) (c .before .before .before .before .before .before .before .before .before .before .before .before .before .before .next .given .1) (n .ensures) (n .kept .1 .1 .1 .1 .0), omega (arith, l .inv .1, n .kept .1 .1 .0), omega (arith, l .inv .2, n .kept .1 .1 .1 .0))
 
-same-length-4 : tie.Need-same-length-4 Inv-loop μ-loop
-same-length-4 c = search needs
-
-same-length-5 : tie.Need-same-length-5 Inv-loop μ-loop
-same-length-5 c = search needs
-
-same-length-6 : tie.Need-same-length-6 Inv-loop μ-loop
-same-length-6 c = search needs
-
 returns-2 : tie.Need-returns-2 Inv-loop μ-loop
 returns-2 c = feeding-full (c .before .loop .inv .0) (c .loop-test .left)
 
@@ -109,28 +70,7 @@ pub feed-with-spec : {M : Type 1} → statement M
 feed-with-spec =
     tie.close
     (tie.spec
-    Inv-loop
-    μ-loop
-    loop-holds
-    sub-loop
-    next-line-requires
-    enum-known-next
-    enum-told
-    same-length
-    same-length-2
-    same-length-3
-    returns
-    sub-note
-    part-note-start
-    part-note-end
-    sub-note-2
-    part-note-start-2
-    part-note-end-2
-    note-requires
-    add-len
-    loop-less
-    loop-again
-    same-length-4
-    same-length-5
-    same-length-6
-    returns-2)
+    Inv-loop μ-loop loop-holds (λ c. search needs) (λ c κs. search needs) (λ c. search needs) (λ c. search needs)
+    (λ c. search needs) (λ c. search needs) (λ c. search needs) returns sub-note part-note-start part-note-end
+    (λ c. search needs) (λ c. search needs) (λ c. search needs) note-requires add-len loop-less loop-again
+    (λ c. search needs) (λ c. search needs) (λ c. search needs) returns-2)

@@ -6,15 +6,6 @@ use borrow.Author.Needs.{needs}
 use Rattle.recorder.proofs.heard_restart.Statement.{statement}
 use Rattle.recorder.proofs.heard_restart.Tie as tie
 
-enum-told : tie.Need-enum-told
-enum-told c = search needs
-
-enum-told-2 : tie.Need-enum-told-2
-enum-told-2 c = search needs
-
-enum-told-3 : tie.Need-enum-told-3
-enum-told-3 c = search needs
-
 returns : tie.Need-returns
 unfolding heardRestart
 returns c = sym (ap (λ (a : RestartAnswer). heardRestart (saysRestart a)) (c .enum-told .given .1))
@@ -29,4 +20,4 @@ returns-3 c = sym (ap (λ (a : RestartAnswer). heardRestart (saysRestart a)) (c 
 
 pub heard-restart-spec : {M : Type 1} → statement M
 heard-restart-spec =
-    tie.close (tie.spec enum-told enum-told-2 enum-told-3 returns returns-2 returns-3)
+    tie.close (tie.spec (λ c. search needs) (λ c. search needs) (λ c. search needs) returns returns-2 returns-3)

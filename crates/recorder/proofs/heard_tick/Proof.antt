@@ -7,18 +7,6 @@ use borrow.Author.Needs.{needs}
 use Rattle.recorder.proofs.heard_tick.Statement.{statement}
 use Rattle.recorder.proofs.heard_tick.Tie as tie
 
-enum-told : tie.Need-enum-told
-enum-told c = search needs
-
-enum-known-answer : tie.Need-enum-known-answer
-enum-known-answer c = search needs
-
-enum-told-2 : tie.Need-enum-told-2
-enum-told-2 c = search needs
-
-enum-told-3 : tie.Need-enum-told-3
-enum-told-3 c = search needs
-
 returns : tie.Need-returns
 unfolding heardTick heardDoses
 returns c = sym (ap (λ (a : TickAnswer). heardTick (saysTick a)) (c .enum-told .given .1))
@@ -38,11 +26,5 @@ pub heard-tick-spec : {M : Type 1} → statement M
 heard-tick-spec =
     tie.close
     (tie.spec
-    enum-told
-    enum-known-answer
-    enum-told-2
-    enum-told-3
-    returns
-    returns-2
-    returns-3
+    (λ c. search needs) (λ c. search needs) (λ c. search needs) (λ c. search needs) returns returns-2 returns-3
     returns-4)

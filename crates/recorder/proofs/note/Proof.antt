@@ -9,36 +9,9 @@ use borrow.Author.Needs.{needs}
 use Rattle.recorder.proofs.note.Statement.{statement}
 use Rattle.recorder.proofs.note.Tie as tie
 
-enum-told : tie.Need-enum-told
-enum-told c = search needs
-
-first-requires : tie.Need-first-requires
-first-requires c κs = search needs
-
-enum-told-2 : tie.Need-enum-told-2
-enum-told-2 c = search needs
-
-recorded-requires : tie.Need-recorded-requires
-recorded-requires c κs = search needs
-
-enum-told-3 : tie.Need-enum-told-3
-enum-told-3 c = search needs
-
-same-length : tie.Need-same-length
-same-length c = search needs
-
 returns : tie.Need-returns
 unfolding noteBy boxBy
 returns c = let a = c .before .before .before .before .before .before .before .before .before .before .before .before .before .args in notes-by First (a .r) (now (a .line)) (c .before .before .before .before .before .before .enum-told .given .1) refl (opens-writes (c .before .before .before .before .before .before .before .before .before .before .before .before .before .pre .1 .1 .2) (c .before .before .before .before .first .ensures))
-
-same-length-2 : tie.Need-same-length-2
-same-length-2 c = search needs
-
-same-length-3 : tie.Need-same-length-3
-same-length-3 c = search needs
-
-same-length-4 : tie.Need-same-length-4
-same-length-4 c = search needs
 
 returns-2 : tie.Need-returns-2
 unfolding noteBy boxBy
@@ -52,15 +25,5 @@ pub note-spec : {M : Type 1} → statement M
 note-spec =
     tie.close
     (tie.spec
-    enum-told
-    first-requires
-    enum-told-2
-    recorded-requires
-    enum-told-3
-    same-length
-    returns
-    same-length-2
-    same-length-3
-    same-length-4
-    returns-2
-    returns-3)
+    (λ c. search needs) (λ c κs. search needs) (λ c. search needs) (λ c κs. search needs) (λ c. search needs)
+    (λ c. search needs) returns (λ c. search needs) (λ c. search needs) (λ c. search needs) returns-2 returns-3)

@@ -9,20 +9,8 @@ use borrow.Author.Needs.{needs}
 use Rattle.recorder.proofs.recorded.Statement.{statement}
 use Rattle.recorder.proofs.recorded.Tie as tie
 
-hear-requires : tie.Need-hear-requires
-hear-requires c κs = search needs
-
 heard-requires : tie.Need-heard-requires
 heard-requires c κs = c .before .before .before .before .before .before .before .before .before .before .before .before .before .pre .0 .runs
-
-same-length : tie.Need-same-length
-same-length c = search needs
-
-same-length-2 : tie.Need-same-length-2
-same-length-2 c = search needs
-
-same-length-3 : tie.Need-same-length-3
-same-length-3 c = search needs
 
 returns : tie.Need-returns
 returns c =
@@ -35,4 +23,5 @@ returns c =
 pub recorded-spec : {M : Type 1} → statement M
 recorded-spec =
     tie.close
-    (tie.spec hear-requires heard-requires same-length same-length-2 same-length-3 returns)
+    (tie.spec
+    (λ c κs. search needs) heard-requires (λ c. search needs) (λ c. search needs) (λ c. search needs) returns)

@@ -3,7 +3,7 @@ use mathlib.Core.List.{List, _++_}
 use Prim.Native.Nat.{ℕ, _+_}
 use native.Mathlib.Omega.{arith}
 use lib.Dec.{ltb}
-use lib.ListN.{length, take, drop, length-drop}
+use lib.ListN.{take, drop, length-drop}
 use lib.Seq.{length-take-le, take-add}
 use Rattle.lines.specs.declared.Intake.{Intake}
 use Rattle.lines.specs.Places.{Carries, carry-inside}
@@ -25,20 +25,12 @@ refills i old mid new held n p k = record {
   within = k .within;
 }
 
-carry-requires : tie.Need-carry-requires
-carry-requires c κs = search needs
-
 read-behind-requires : tie.Need-read-behind-requires
 read-behind-requires c κs = omega (arith, carry-inside (c .before .before .before .carry .ensures))
-
-add-t9 : tie.Need-add-t9
-add-t9 c = search needs
-
-same-length : tie.Need-same-length
-same-length c = search needs
 
 returns : tie.Need-returns
 returns c = refills _ _ _ _ _ _ (c .before .before .before .before .before .before .carry .ensures) (c .before .before .read-behind .ensures)
 
 pub refill-spec : {M : Type 1} → statement M
-refill-spec = tie.close (tie.spec carry-requires read-behind-requires add-t9 same-length returns)
+refill-spec =
+    tie.close (tie.spec (λ c κs. search needs) read-behind-requires (λ c. search needs) (λ c. search needs) returns)

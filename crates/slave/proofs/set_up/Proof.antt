@@ -7,39 +7,31 @@ use Rattle.slave.proofs.set_up.Statement.{statement}
 use Rattle.slave.proofs.set_up.Tie as tie
 
 abbrev Inv-loop : tie.InvT-loop
-Inv-loop input₀ bytes₀ spare₀ c₀ held₀ reads₀ input bytes spare c held reads = Sound c × (length input ≡ length input₀) × (length bytes ≡ length bytes₀) × (length spare ≡ length spare₀)
+Inv-loop input₀ bytes₀ spare₀ brought₀ reads₀ input bytes spare brought reads = Sound (brought .controller) × (length input ≡ length input₀) × (4096 ≡ length bytes) × (4096 ≡ length spare)
 
 abbrev μ-loop : tie.MeasureT-loop
-μ-loop input₀ bytes₀ spare₀ c₀ held₀ reads₀ input bytes spare c held reads = reads
-
-bring-requires : tie.Need-bring-requires Inv-loop μ-loop
-bring-requires c κs =
-    let inv = c .before .before .before .before .before .before .before .before .before .before .before .loop .inv in
-    let pre = c .before .before .before .before .before .before .before .before .before .before .before .before .before .before .before .before .before .pre in
-    (inv .0, (omega (arith, inv .2, pre .0), omega (arith, inv .3, pre .1)))
+μ-loop input₀ bytes₀ spare₀ brought₀ reads₀ input bytes spare brought reads = reads
 
 loop-again : tie.Need-loop-again Inv-loop μ-loop
 loop-again c =
-    let inv = c .before .before .before .before .before .before .before .before .before .before .before .before .before .before .before .before .before .before .before .loop .inv in
-    let bring = c .before .before .before .before .before .before .before .bring in
-    (bring .ensures .sound, omega (arith, inv .1, c .before .before .before .before .before .before .before .before .before .before .before .before .before .before .before .before .refill .kept .1 .0), omega (arith, inv .2, bring .kept .1 .1 .1 .0), omega (arith, inv .3, bring .kept .1 .1 .1 .1 .0))
+    let inv = c .before .before .before .before .before .before .before .before .before .before .before .before .before .before .before .loop .inv in
+    let bring = c .before .before .before .bring in
+    (bring .ensures .sound, omega (arith, inv .1, c .before .before .before .before .before .before .before .before .before .before .before .before .refill .kept .1 .0), omega (arith, inv .2, bring .kept .1 .1 .1 .0), omega (arith, inv .3, bring .kept .1 .1 .1 .1 .0))
 
 pub set-up-spec : {M : Type 1} → statement M
 set-up-spec =
     tie.close
     (tie.spec
-    Inv-loop
-    μ-loop
-    (λ c κs. search needs) (λ c κs. search needs)
-    (λ c. (c .before .fresh .ensures .sound, refl, refl, refl))
-    (λ c κs. search needs) (λ c. search needs) (λ c. search needs) (λ c. search needs)
-    (λ c. c .before .before .before .before .before .before .before .before .loop .inv .0)
-    bring-requires
-    (λ c. omega (arith, c .before .before .before .before .before .before .before .before .before .before .before .before .before .before .before .before .before .loop .inv .1, c .before .before .before .before .before .before .before .before .before .before .before .before .before .before .refill .kept .1 .0))
-    (λ c. omega (arith, c .before .before .before .before .before .before .before .before .before .before .before .before .before .before .before .before .before .loop .inv .2, c .before .before .before .before .before .bring .kept .1 .1 .1 .0))
-    (λ c. omega (arith, c .before .before .before .before .before .before .before .before .before .before .before .before .before .before .before .before .before .loop .inv .3, c .before .before .before .before .before .bring .kept .1 .1 .1 .1 .0))
-    (λ c. c .before .before .before .before .before .bring .ensures .sound)
+    Inv-loop μ-loop
+    (λ c κs. search needs) (λ c κs. search needs) (λ c κs. search needs) (λ c κs. search needs)
+    (λ c. (c .before .fresh .ensures .sound, refl, c .before .before .before .buffer .ensures, c .before .before .buffer2 .ensures))
+    (λ c κs. search needs) (λ c. search needs)
+    (λ c. c .before .before .before .before .before .before .before .loop .inv .0)
+    (λ c. search needs) (λ c. search needs)
+    (λ c κs. let inv = c .before .before .before .before .before .before .before .before .before .before .before .loop .inv in (inv .0, (omega (arith, inv .2), omega (arith, inv .3))))
+    (λ c. omega (arith, c .before .before .before .before .before .before .before .before .before .before .before .before .before .before .before .loop .inv .1, c .before .before .before .before .before .before .before .before .before .before .before .before .refill .kept .1 .0))
+    (λ c. c .before .before .before .bring .ensures .sound)
     (λ c. search needs) (λ c. search needs)
     loop-again
-    (λ c. search needs) (λ c. search needs) (λ c. search needs)
+    (λ c. search needs)
     (λ c. c .before .loop .inv .0))

@@ -1,8 +1,8 @@
-use mathlib.Core.Path.{_≡_, subst}
+use mathlib.Core.Path.{_≡_, sym, _∙_, subst}
 use Prim.Native.Nat.{ℕ, _≤_, _<_}
 use native.Mathlib.Omega.{arith}
 use borrow.Author.Needs.{needs}
-use Rattle.heading.specs.Heading.{Inside}
+use Rattle.heading.specs.Heading.{Inside, said-line, said-more, said-nothing}
 use Rattle.heading.specs.declared.Found.{Found}
 use Rattle.heading.specs.declared.Found.the-variants as F
 use Rattle.week.proofs.first_in.Statement.{statement}
@@ -34,13 +34,13 @@ enum-told-2 : tie.Need-enum-told-2
 enum-told-2 c = search needs
 
 returns : tie.Need-returns
-returns c = search needs
+returns c = c .first-line .ensures ∙ sym (said-line _ _ _ _ _ _ (c .before .before .before .found .given .1))
 
 returns-2 : tie.Need-returns-2
-returns-2 c = search needs
+returns-2 c = sym (said-more _ _ _ _ (c .enum-told .given .1))
 
 returns-3 : tie.Need-returns-3
-returns-3 c = search needs
+returns-3 c = sym (said-nothing _ _ _ _ (c .enum-told2 .given .1))
 
 pub first-in-spec : {M : Type 1} → statement M
 first-in-spec =

@@ -8,6 +8,7 @@ use lib.Seq.{length-take-le}
 use Rattle.paper.specs.Answer.{done, told, bytesIn}
 use Rattle.sheet.specs.Contracts.{Holds}
 use Rattle.sheet.specs.declared.Printout.{Printout}
+use Rattle.heading.specs.Heading.{heading-inside}
 use Rattle.week.proofs.main.Statement.{statement}
 use Rattle.week.proofs.main.Tie as tie
 
@@ -29,7 +30,7 @@ slice-aggregate-first-in : tie.Need-slice-aggregate-first-in
 slice-aggregate-first-in c = search needs
 
 first-in-requires : tie.Need-first-in-requires
-first-in-requires c κs = search needs
+first-in-requires c κs = heading-inside _ _ (c .before .before .read-heading .ensures)
 
 slice-aggregate-read-journal : tie.Need-slice-aggregate-read-journal
 slice-aggregate-read-journal c = search needs

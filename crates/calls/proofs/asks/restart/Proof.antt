@@ -7,7 +7,7 @@ use Rattle.laws.specs.Pick.{pick-t, pick-f}
 use Rattle.settings.specs.declared.Settings.{Settings}
 use Rattle.calls.specs.Call.{restart, restartAt}
 use Rattle.calls.specs.Reads.{asCall, sizeOf, Within}
-use Rattle.calls.proofs.Steps.{on-good, on-bad, num, good-as, unasked, asked, asked-last, restart-ends, restart-goes-on}
+use Rattle.calls.proofs.Steps.{on-good, on-bad, num, good-as, unasked, asked, asked-last, last-none, last-some}
 use borrow.Author.Needs.{needs}
 use Rattle.calls.proofs.asks.restart.Statement.{statement}
 use Rattle.calls.proofs.asks.restart.Tie as tie
@@ -18,7 +18,7 @@ returns-2 c =
     let v = c .before .before .before .before .before .before .numbers-at .result .values in
     let all : take 19 v ≡ v = take-all 19 v (omega (arith, c .before .before .before .before .before .before .numbers-at .ensures .all)) in
     let got = c .before .before .before .before .before .before .numbers-at .ensures .reads ∙ pick-t _ _ _ (not-false _ (c .before .before .before .before .if1 .left)) in
-    asked-last (on-good _ got ∙ restart-ends _ _ _ (c .before .if2 .taken))
+    asked-last (on-good _ got ∙ last-none _ _ _ _ (c .before .if2 .taken))
     (rw all (good-as (ap (λ (x : Settings). restart x (getD v 17 0) (getD v 18 0)) (sym (c .set-of .ensures)))))
     (omega arith)
     tt
@@ -27,7 +27,7 @@ returns-3 : tie.Need-returns-3
 unfolding restartAt
 returns-3 c =
     let got = c .before .before .before .before .before .before .before .before .numbers-at .ensures .reads ∙ pick-t _ _ _ (not-false _ (c .before .before .before .before .before .before .if1 .left)) in
-    unasked (on-good _ got ∙ restart-goes-on _ _ _ (c .before .before .before .if2 .left) ∙ on-bad _ (num (c .before .before .field-at .ensures) (c .enum-told .given .1)))
+    unasked (on-good _ got ∙ last-some _ _ _ _ (c .before .before .before .if2 .left) ∙ on-bad _ (num (c .before .before .field-at .ensures) (c .enum-told .given .1)))
 
 returns-4 : tie.Need-returns-4
 unfolding restartAt asCall sizeOf Within
@@ -36,7 +36,7 @@ returns-4 c =
     let all : take 19 v ≡ v = take-all 19 v (omega (arith, c .before .before .before .before .before .before .before .before .before .before .before .numbers-at .ensures .all)) in
     let got = c .before .before .before .before .before .before .before .before .before .before .before .numbers-at .ensures .reads ∙ pick-t _ _ _ (not-false _ (c .before .before .before .before .before .before .before .before .before .if1 .left)) in
     let total = num (c .before .before .before .before .before .field-at .ensures) (c .before .before .before .total .given .1) in
-    asked (c .ended .ensures) (on-good _ got ∙ restart-goes-on _ _ _ (c .before .before .before .before .before .before .if2 .left) ∙ on-good _ total)
+    asked (c .ended .ensures) (on-good _ got ∙ last-some _ _ _ _ (c .before .before .before .before .before .before .if2 .left) ∙ on-good _ total)
     (rw all (good-as (ap (λ (x : Settings). restart x (getD v 18 0) (c .before .before .before .total .given .0 .0)) (sym (c .before .set-of2 .ensures)))))
     (omega arith)
     tt

@@ -13,28 +13,33 @@ use Rattle.calls.proofs.asks.room_call.Tie as tie
 by-key : {letter k n number : ℕ} {r : declared.Call} → letter ≡ k → number ≤ roomMost letter → (number ≤ roomMost k → Carries (roomCall k) n number r) → Carries (roomCall letter) n number r
 by-key {letter} {k} {n} {number} {r} e h f = subst (λ (m : ℕ). Carries (roomCall m) n number r) (sym e) (f (subst (λ (m : ℕ). number ≤ roomMost m) e h))
 
-returns : tie.Need-returns
-unfolding roomCall roomMost pick asCall sizeOf Within
-returns c = by-key {k = 66} (c .match .keys1) (c .before .pre .1) (λ h. record { reads = λ bytes. refl; size = refl; within = (c .before .pre .0, h) })
-
-returns-2 : tie.Need-returns-2
-unfolding roomCall roomMost pick asCall sizeOf Within
-returns-2 c = by-key {k = 77} (c .match .keys2) (c .before .pre .1) (λ h. record { reads = λ bytes. refl; size = refl; within = (c .before .pre .0, h) })
-
-returns-3 : tie.Need-returns-3
-unfolding roomCall roomMost pick asCall sizeOf Within
-returns-3 c = by-key {k = 87} (c .match .keys3) (c .before .pre .1) (λ h. record { reads = λ bytes. refl; size = refl; within = (c .before .pre .0, h) })
-
-returns-4 : tie.Need-returns-4
-unfolding roomCall roomMost pick asCall sizeOf Within
-returns-4 c = by-key {k = 106} (c .match .keys4) (c .before .pre .1) (λ h. record { reads = λ bytes. refl; size = refl; within = (c .before .pre .0, h) })
-
-returns-5 : tie.Need-returns-5
+returns-8 : tie.Need-returns-8
 unfolding roomCall asCall sizeOf Within
-returns-5 c =
+returns-8 c =
     let n = c .match .rest in
-    record { reads = λ bytes. good-as (pick-f _ _ _ (ne-eqb _ _ (n .0 .0 .0 .1)) ∙ pick-f _ _ _ (ne-eqb _ _ (n .0 .0 .1)) ∙ pick-f _ _ _ (ne-eqb _ _ (n .0 .1)) ∙ pick-f _ _ _ (ne-eqb _ _ (n .1))); size = refl; within = c .before .pre .0 }
+    record {
+      reads = λ bytes. good-as (
+          pick-f _ _ _ (ne-eqb _ _ (n .0 .0 .0 .0 .0 .0 .1))
+          ∙ pick-f _ _ _ (ne-eqb _ _ (n .0 .0 .0 .0 .0 .1))
+          ∙ pick-f _ _ _ (ne-eqb _ _ (n .0 .0 .0 .0 .1))
+          ∙ pick-f _ _ _ (ne-eqb _ _ (n .0 .0 .0 .1))
+          ∙ pick-f _ _ _ (ne-eqb _ _ (n .0 .0 .1))
+          ∙ pick-f _ _ _ (ne-eqb _ _ (n .0 .1))
+          ∙ pick-f _ _ _ (ne-eqb _ _ (n .1)));
+      size = refl;
+      within = c .before .pre .0;
+    }
 
 pub room-call-spec : {M : Type 1} → statement M
+unfolding roomCall roomMost pick asCall sizeOf Within
 room-call-spec =
-    tie.close (tie.spec returns returns-2 returns-3 returns-4 returns-5)
+    tie.close
+    (tie.spec
+    (λ c. by-key {k = 66} (c .match .keys1) (c .before .pre .1) (λ h. record { reads = λ bytes. refl; size = refl; within = (c .before .pre .0, h) }))
+    (λ c. by-key {k = 77} (c .match .keys2) (c .before .pre .1) (λ h. record { reads = λ bytes. refl; size = refl; within = (c .before .pre .0, h) }))
+    (λ c. by-key {k = 87} (c .match .keys3) (c .before .pre .1) (λ h. record { reads = λ bytes. refl; size = refl; within = (c .before .pre .0, h) }))
+    (λ c. by-key {k = 106} (c .match .keys4) (c .before .pre .1) (λ h. record { reads = λ bytes. refl; size = refl; within = (c .before .pre .0, h) }))
+    (λ c. by-key {k = 88} (c .match .keys5) (c .before .pre .1) (λ h. record { reads = λ bytes. refl; size = refl; within = c .before .pre .0 }))
+    (λ c. by-key {k = 108} (c .match .keys6) (c .before .pre .1) (λ h. record { reads = λ bytes. refl; size = refl; within = c .before .pre .0 }))
+    (λ c. by-key {k = 109} (c .match .keys7) (c .before .pre .1) (λ h. record { reads = λ bytes. refl; size = refl; within = c .before .pre .0 }))
+    returns-8)

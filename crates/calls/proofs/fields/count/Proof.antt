@@ -1,13 +1,9 @@
-use native.Mathlib.Nat.{zero-add}
 use Prim.Native.Nat.{_+_, _-_, _≤_}
+use native.Mathlib.Nat.{zero-add}
 use native.Mathlib.Omega.{arith}
-use denote.Ref.{now}
 use lib.ListN.{length}
-use borrow.Author.Tests.{not-true, not-false}
-use Rattle.laws.specs.Pick.{so}
-use Rattle.calls.specs.Reading.{carried}
-use Rattle.calls.proofs.Hex.{Left, left-end, left-high, left-low, left-two}
-use borrow.Author.Needs.{needs}
+use borrow.Author.Tests.{not-false}
+use Rattle.calls.specs.Reading.{carried, Left}
 use Rattle.calls.proofs.fields.count.Statement.{statement}
 use Rattle.calls.proofs.fields.count.Tie as tie
 
@@ -21,32 +17,56 @@ loop-holds : tie.Need-loop-holds Inv-loop μ-loop
 unfolding carried
 loop-holds c = (omega arith, omega arith, zero-add _)
 
-returns : tie.Need-returns Inv-loop μ-loop
-returns c =
-    let h = c .before .before .before .before .loop in
-    left-high (now (c .before .before .before .before .before .before .args .s)) (h .p) (h .n) (h .inv .2) (c .before .before .before .loop-test .taken) (so (c .before .is-hex .ensures) (not-true _ (c .if1 .taken)))
+add-loop : tie.Need-add-loop Inv-loop μ-loop
+add-loop c = omega arith
 
-returns-2 : tie.Need-returns-2 Inv-loop μ-loop
-returns-2 c =
-    let h = c .before .before .before .before .before .before .before .loop in
-    left-low (now (c .before .before .before .before .before .before .before .before .before .args .s)) (h .p) (h .n) (h .inv .2) (c .before .before .before .before .before .before .loop-test .taken) (so (c .before .before .before .before .is-hex .ensures) (not-false _ (c .before .before .before .if1 .left))) (so (c .before .is-hex2 .ensures) (not-true _ (c .if2 .taken)))
+all-hex-requires : tie.Need-all-hex-requires Inv-loop μ-loop
+all-hex-requires c κs = omega arith
+
+count-from-requires : tie.Need-count-from-requires Inv-loop μ-loop
+count-from-requires c κs =
+    let inv = c .before .before .before .loop .inv in
+    (c .before .before .before .before .before .pre, inv .0, inv .1, inv .2)
+
+returns : tie.Need-returns Inv-loop μ-loop
+returns c = c .count-from .ensures
+
+add-n : tie.Need-add-n Inv-loop μ-loop
+add-n c = omega arith
+
+add-p : tie.Need-add-p Inv-loop μ-loop
+add-p c = omega arith
+
+loop-less : tie.Need-loop-less Inv-loop μ-loop
+loop-less c = omega arith
 
 loop-again : tie.Need-loop-again Inv-loop μ-loop
 loop-again c =
-    let h = c .before .before .before .before .before .before .before .loop in
-    let t = c .before .before .before .before .before .before .loop-test .taken in
-    (omega arith, omega (arith, t), left-two (now (c .before .before .before .before .before .before .before .before .before .args .s)) (h .p) (h .n) (h .inv .2) t (so (c .before .before .before .before .is-hex .ensures) (not-false _ (c .before .before .before .if1 .left))) (so (c .before .is-hex2 .ensures) (not-false _ (c .if2 .left))))
+    let inv = c .before .before .before .loop .inv in
+    (omega arith, omega arith, omega (arith, inv .2, c .before .all-hex .ensures (not-false _ (c .if1 .left))))
 
-returns-3 : tie.Need-returns-3 Inv-loop μ-loop
-returns-3 c = let h = c .before .loop in left-end (now (c .before .before .before .args .s)) (h .p) (h .n) (h .inv .2) (c .loop-test .left)
+count-from-requires-2 : tie.Need-count-from-requires-2 Inv-loop μ-loop
+count-from-requires-2 c κs =
+    let inv = c .before .loop .inv in
+    (c .before .before .before .pre, inv .0, inv .1, inv .2)
+
+returns-2 : tie.Need-returns-2 Inv-loop μ-loop
+returns-2 c = c .count-from2 .ensures
 
 pub count-spec : {M : Type 1} → statement M
 count-spec =
     tie.close
     (tie.spec
-    Inv-loop μ-loop loop-holds (λ c. omega (arith, c .before .before .pre)) (λ c. search needs)
-    (λ c κs. search needs) returns (λ c. omega (arith, c .before .before .before .loop-test .taken))
-    (λ c. omega (arith, c .before .before .before .before .loop-test .taken)) (λ c κs. search needs) returns-2
-    (λ c. omega (arith, c .before .before .before .before .before .before .loop-test .taken))
-    (λ c. omega (arith, c .before .before .before .before .before .before .loop-test .taken))
-    (λ c. omega (arith, c .before .before .before .before .before .before .loop-test .taken)) loop-again returns-3)
+    Inv-loop
+    μ-loop
+    loop-holds
+    add-loop
+    all-hex-requires
+    count-from-requires
+    returns
+    add-n
+    add-p
+    loop-less
+    loop-again
+    count-from-requires-2
+    returns-2)

@@ -9,9 +9,6 @@ use Rattle.clock.proofs.Clock.heard.Tie as tie
 returns : tie.Need-returns
 returns c = let a = c .before .before .args in marks-none (a .self) (c .before .before .pre) (a .heard) (c .if1 .taken)
 
-fits-requires : tie.Need-fits-requires
-fits-requires c κs = search needs
-
 returns-2 : tie.Need-returns-2
 returns-2 c =
     let a = c .before .before .before .before .args in
@@ -22,9 +19,6 @@ by-heard-requires c κs =
     let a = c .before .before .before .before .before .args in
     (c .before .before .before .before .before .pre, fits-writable (a .heard) (sym (c .before .before .fits2 .ensures) ∙ not-false _ (c .before .if2 .left)), c .before .before .before .if1 .left)
 
-same-length : tie.Need-same-length
-same-length c = search needs
-
 returns-3 : tie.Need-returns-3
 returns-3 c =
     let a = c .before .before .before .before .before .before .before .before .args in
@@ -33,4 +27,4 @@ returns-3 c =
 
 pub heard-spec : {M : Type 1} → statement M
 heard-spec =
-    tie.close (tie.spec returns fits-requires returns-2 by-heard-requires same-length returns-3)
+    tie.close (tie.spec returns (λ c κs. search needs) returns-2 by-heard-requires (λ c. search needs) returns-3)

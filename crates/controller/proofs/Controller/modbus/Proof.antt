@@ -1,10 +1,8 @@
 -- R17, then the reply or R8.
-use mathlib.Core.Path.{ap, _∙_}
 use Prim.Native.Nat.{_≤_}
 use borrow.Author.Needs.{needs}
 use Rattle.settings.specs.Good.{good-ranges}
-use Rattle.registers.specs.Registers.{tableOf}
-use Rattle.controller.proofs.Panels.{silent, too-short, replied-to}
+use Rattle.controller.proofs.Panels.{silent, registers-so, too-short, replied-to}
 use Rattle.controller.proofs.Controller.modbus.Statement.{statement}
 use Rattle.controller.proofs.Controller.modbus.Tie as tie
 
@@ -36,11 +34,8 @@ returns c =
 link-after-requires : tie.Need-link-after-requires
 link-after-requires c κs = tt
 
-values-of-requires : tie.Need-values-of-requires
-values-of-requires c κs = c .before .before .before .before .before .before .before .before .pre
-
-words-requires : tie.Need-words-requires
-words-requires c κs = tt
+table-requires : tie.Need-table-requires
+table-requires c κs = tt
 
 serve-requires : tie.Need-serve-requires
 serve-requires c κs = tt
@@ -62,10 +57,10 @@ returns-2 : tie.Need-returns-2
 returns-2 c =
     let w = c .before .before .before .before .before in
     let t = w .before .before in
-    let a = t .before .before .before .before in
+    let a = t .before .before .before in
     let h = a .before .before in
     too-short _ _ _ (h .before .before .before .before .pre) (h .hear .result) (h .hear .ensures) (a .asked .given .0 .0) (a .asked .given .1)
-    (t .words .ensures ∙ ap tableOf (t .before .values-of .ensures)) (w .serve .result) (w .serve .ensures)
+    (registers-so _ (h .before .before .before .before .pre) (t .table .ensures)) (w .serve .result) (w .serve .ensures)
     (c .before .enum-told2 .given .1) (c .polled2 .ensures .0) (c .polled2 .ensures .1)
 
 polled-requires-3 : tie.Need-polled-requires-3
@@ -78,11 +73,11 @@ returns-3 : tie.Need-returns-3
 returns-3 c =
     let w = c .before .before .before .before .before .before in
     let t = w .before .before in
-    let l = t .before .before in
+    let l = t .before in
     let a = l .before .before in
     let h = a .before .before in
     replied-to _ _ _ (h .before .before .before .before .pre) (h .hear .result) (h .hear .ensures) (a .asked .given .0 .0) (a .asked .given .1)
-    (t .words .ensures ∙ ap tableOf (t .before .values-of .ensures)) (w .serve .result) (w .serve .ensures)
+    (registers-so _ (h .before .before .before .before .pre) (t .table .ensures)) (w .serve .result) (w .serve .ensures)
     (c .before .before .len .given .1) (l .link-after .ensures) (c .polled3 .ensures .0) (c .polled3 .ensures .1)
 
 pub modbus-spec : {M : Type 1} → statement M
@@ -96,8 +91,7 @@ modbus-spec =
     polled-requires
     returns
     link-after-requires
-    values-of-requires
-    words-requires
+    table-requires
     serve-requires
     enum-known-len
     enum-told-2

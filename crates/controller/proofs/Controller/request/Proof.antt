@@ -1,16 +1,17 @@
 -- Each stage's refusal is the rule's, and the reply is what is left when none refuses.
-use mathlib.Core.Path.{_≡_, refl, sym, ap, _∙_}
+use mathlib.Core.Path.{_≡_, sym, ap, _∙_}
 use mathlib.Core.List.{List}
 use Prim.Native.Nat.{ℕ}
 use borrow.Author.Needs.{needs}
+use Rattle.laws.specs.Pick.{pick-false}
 use Rattle.paper.specs.Answer.{done}
 use Rattle.message.specs.declared.Parts.{Parts}
-use Rattle.asking.specs.Asking.{askedBy, heardOf, addressOf, codeOf}
-use Rattle.asking.specs.Says.{saysHeard, saysAddressed, saysCoded}
+use Rattle.asking.specs.Asking.{askedBy, heardOf, addressOf, codeOf, timeOf}
+use Rattle.asking.specs.Says.{saysHeard, saysAddressed, saysCoded, saysTimed, saysZeroing, Times, Zeroes}
+use Rattle.readout.specs.Readout.{mayZero}
 use Rattle.controller.specs.Calls.{isReady}
-use Rattle.controller.specs.Line.{timely, timeOf, mayZero, askedOf}
+use Rattle.controller.specs.Line.{timely, zeroedBy, askedOf}
 use Rattle.controller.specs.Says.{saysReply}
-use Rattle.controller.specs.Stages.{saysTimed, saysZeroing, Times, Zeroes}
 use Rattle.controller.specs.declared.Controller.{Controller}
 use Rattle.controller.proofs.Lines.{not-ours, not-known, not-timed, not-zeroable, is-asked, framed, refuses, unheard-refuses, no-room, sends}
 use Rattle.controller.proofs.Controller.request.Statement.{statement}
@@ -80,7 +81,7 @@ asked c =
     (sym (ap saysZeroing (c .enum-told7 .given .1)) ∙ zeroes (c .before .before))
 
 abbrev at-written : tie.After-write-reply → tie.After-enum-told7
-at-written c = c .before .before .before .before
+at-written c = c .before .before .before
 
 -- ---- the needs
 
@@ -93,15 +94,15 @@ enum-known-heard c = search needs
 unread-requires : tie.Need-unread-requires
 unread-requires c κs = tt
 
-refused-requires : tie.Need-refused-requires
-refused-requires c κs = tt
+answered-requires : tie.Need-answered-requires
+answered-requires c κs = tt
 
 -- R9, R6
 returns : tie.Need-returns
 returns c =
     let h = c .before .before .before in
     unheard-refuses _ _ _ (h .before .before .before .pre) (h .hear .result) (c .before .before .match .keys2) (h .hear .ensures)
-    (c .refused .ensures .0) (c .refused .ensures .1 ∙ c .before .unread .ensures)
+    (c .answered .ensures .0 ∙ pick-false _ _) (c .answered .ensures .1 ∙ c .before .unread .ensures)
 
 address-stage-requires : tie.Need-address-stage-requires
 address-stage-requires c κs = tt
@@ -112,8 +113,8 @@ enum-told c = search needs
 enum-told-2 : tie.Need-enum-told-2
 enum-told-2 c = search needs
 
-refused-requires-2 : tie.Need-refused-requires-2
-refused-requires-2 c κs = tt
+answered-requires-2 : tie.Need-answered-requires-2
+answered-requires-2 c κs = tt
 
 -- R5
 returns-2 : tie.Need-returns-2
@@ -122,7 +123,7 @@ returns-2 c =
     let h = a .before .before in
     refuses _ _ _ (start h .pre)
     (not-ours _ _ (heard h) (a .address-stage .result) (c .before .before .match2 .keys2) (a .address-stage .ensures))
-    (c .refused2 .ensures .0) (ap saysReply (c .refused2 .ensures .1))
+    (c .answered2 .ensures .0 ∙ pick-false _ _) (ap saysReply (c .answered2 .ensures .1))
 
 code-stage-requires : tie.Need-code-stage-requires
 code-stage-requires c κs = tt
@@ -133,8 +134,8 @@ enum-told-3 c = search needs
 enum-told-4 : tie.Need-enum-told-4
 enum-told-4 c = search needs
 
-refused-requires-3 : tie.Need-refused-requires-3
-refused-requires-3 c κs = tt
+answered-requires-3 : tie.Need-answered-requires-3
+answered-requires-3 c κs = tt
 
 -- R7
 returns-3 : tie.Need-returns-3
@@ -143,7 +144,7 @@ returns-3 c =
     let h = at-ours (a .before) in
     refuses _ _ _ (start h .pre)
     (not-known _ _ (heard h) (ours (a .before)) (a .code-stage .result) (c .before .before .match3 .keys2) (a .code-stage .ensures))
-    (c .refused3 .ensures .0) (ap saysReply (c .refused3 .ensures .1))
+    (c .answered3 .ensures .0 ∙ pick-false _ _) (ap saysReply (c .answered3 .ensures .1))
 
 is-timely-requires : tie.Need-is-timely-requires
 is-timely-requires c κs = tt
@@ -160,8 +161,8 @@ enum-told-5 c = search needs
 enum-told-6 : tie.Need-enum-told-6
 enum-told-6 c = search needs
 
-refused-requires-4 : tie.Need-refused-requires-4
-refused-requires-4 c κs = tt
+answered-requires-4 : tie.Need-answered-requires-4
+answered-requires-4 c κs = tt
 
 -- R3
 returns-4 : tie.Need-returns-4
@@ -171,7 +172,7 @@ returns-4 c =
     let h = at-ours (at-known k) in
     refuses _ _ _ (start h .pre)
     (not-timed _ _ (heard h) (ours (at-known k)) (known k) (a .ready-stage .result) (c .before .before .match4 .keys2) (times a))
-    (c .refused4 .ensures .0) (ap saysReply (c .refused4 .ensures .1))
+    (c .answered4 .ensures .0 ∙ pick-false _ _) (ap saysReply (c .answered4 .ensures .1))
 
 zero-stage-requires : tie.Need-zero-stage-requires
 zero-stage-requires c κs = tt
@@ -182,8 +183,8 @@ enum-told-7 c = search needs
 enum-told-8 : tie.Need-enum-told-8
 enum-told-8 c = search needs
 
-refused-requires-5 : tie.Need-refused-requires-5
-refused-requires-5 c κs = tt
+answered-requires-5 : tie.Need-answered-requires-5
+answered-requires-5 c κs = tt
 
 -- R4
 returns-5 : tie.Need-returns-5
@@ -194,13 +195,10 @@ returns-5 c =
     let h = at-ours (at-known k) in
     refuses _ _ _ (start h .pre)
     (not-zeroable _ _ (heard h) (ours (at-known k)) (known k) (timed t) (a .zero-stage .result) (c .before .before .match5 .keys2) (zeroes a))
-    (c .refused5 .ensures .0) (ap saysReply (c .refused5 .ensures .1))
-
-zeroed-by-requires : tie.Need-zeroed-by-requires
-zeroed-by-requires c κs = tt
+    (c .answered5 .ensures .0 ∙ pick-false _ _) (ap saysReply (c .answered5 .ensures .1))
 
 reply-of-requires : tie.Need-reply-of-requires
-reply-of-requires c κs = start (ends (c .before)) .pre
+reply-of-requires c κs = tt
 
 write-reply-requires : tie.Need-write-reply-requires
 write-reply-requires c κs = tt
@@ -208,8 +206,8 @@ write-reply-requires c κs = tt
 enum-known-len : tie.Need-enum-known-len
 enum-known-len c = search needs
 
-refused-requires-6 : tie.Need-refused-requires-6
-refused-requires-6 c κs = tt
+answered-requires-6 : tie.Need-answered-requires-6
+answered-requires-6 c κs = tt
 
 same-length : tie.Need-same-length
 same-length c = search needs
@@ -221,18 +219,22 @@ returns-6 c =
     let z = at-written w in
     no-room _ _ _ (start (ends z) .pre) (w .write-reply .result) (asked z)
     (framed _ _ _ _ (w .before .before .reply-of .result) (w .write-reply .result) (start (ends z) .pre) (ours (at-ends z)) (w .before .before .reply-of .ensures) (w .write-reply .ensures))
-    (c .before .match6 .keys2) (c .refused6 .ensures .0) (ap saysReply (c .refused6 .ensures .1))
+    (c .before .match6 .keys2) (c .answered6 .ensures .0 ∙ pick-false _ _) (ap saysReply (c .answered6 .ensures .1))
+
+answered-requires-7 : tie.Need-answered-requires-7
+answered-requires-7 c κs = tt
 
 same-length-2 : tie.Need-same-length-2
 same-length-2 c = search needs
 
 returns-7 : tie.Need-returns-7
+unfolding zeroedBy
 returns-7 c =
-    let w = c .before .before .before .before .before in
+    let w = c .before .before .before .before .before .before in
     let z = at-written w in
     sends _ _ _ (start (ends z) .pre) (w .write-reply .result) (asked z)
     (framed _ _ _ _ (w .before .before .reply-of .result) (w .write-reply .result) (start (ends z) .pre) (ours (at-ends z)) (w .before .before .reply-of .ensures) (w .write-reply .ensures))
-    (c .before .len .given .1) (w .before .before .before .zeroed-by .ensures) refl
+    (c .before .before .len .given .1) (c .answered7 .ensures .0) (ap saysReply (c .answered7 .ensures .1))
 
 pub request-spec : {M : Type 1} → statement M
 request-spec =
@@ -241,36 +243,36 @@ request-spec =
     hear-requires
     enum-known-heard
     unread-requires
-    refused-requires
+    answered-requires
     returns
     address-stage-requires
     enum-told
     enum-told-2
-    refused-requires-2
+    answered-requires-2
     returns-2
     code-stage-requires
     enum-told-3
     enum-told-4
-    refused-requires-3
+    answered-requires-3
     returns-3
     is-timely-requires
     may-zero-requires
     ready-stage-requires
     enum-told-5
     enum-told-6
-    refused-requires-4
+    answered-requires-4
     returns-4
     zero-stage-requires
     enum-told-7
     enum-told-8
-    refused-requires-5
+    answered-requires-5
     returns-5
-    zeroed-by-requires
     reply-of-requires
     write-reply-requires
     enum-known-len
-    refused-requires-6
+    answered-requires-6
     same-length
     returns-6
+    answered-requires-7
     same-length-2
     returns-7)

@@ -1,7 +1,9 @@
 use mathlib.Core.Path.{_≡_, sym, ap, _∙_}
 use borrow.Author.Needs.{needs}
 use Rattle.paper.specs.Answer.{told}
-use Rattle.controller.specs.Calls.{restartOf}
+use Rattle.settings.specs.declared.Settings.{Settings}
+use Rattle.controller.specs.State.{restarted}
+use Rattle.controller.specs.Calls.{restartOf, noController}
 use Rattle.controller.specs.Says.{saysRestart, noValue}
 use Rattle.controller.proofs.Contracts.{restarts, restart-says, restart-made, not-made}
 use Rattle.controller.proofs.Controller.restart.Statement.{statement}
@@ -16,8 +18,8 @@ restart-answer-requires c κs = tt
 enum-told : tie.Need-enum-told
 enum-told c = search needs
 
-restarted-requires : tie.Need-restarted-requires
-restarted-requires c κs = tt
+made-requires : tie.Need-made-requires
+made-requires c κs = tt
 
 -- what the answer says
 says : (c : tie.After-restart-answer) → let a = c .before .before .args in saysRestart (c .restart-answer .result) ≡ told noValue (restartOf (a .set) (a .count) (a .total))
@@ -28,19 +30,23 @@ returns c =
     let k = c .before .before .before in
     let a = k .before .before .args in
     restarts (a .set) (a .count) (a .total)
-    (c .restarted .ensures ∙ restart-made _ _ _ (k .before .check .ensures) (k .restart-answer .result) (k .restart-answer .ensures) (c .before .enum-told .given .1))
-    (says k)
+    (c .made .ensures .0 ∙ restart-made _ _ _ (k .before .check .ensures) (k .restart-answer .result) (k .restart-answer .ensures) (c .before .enum-told .given .1))
+    (ap saysRestart (c .made .ensures .1) ∙ says k)
 
-no-controller-requires : tie.Need-no-controller-requires
-no-controller-requires c κs = tt
+no-set-requires : tie.Need-no-set-requires
+no-set-requires c κs = tt
+
+made-requires-2 : tie.Need-made-requires-2
+made-requires-2 c κs = tt
 
 returns-2 : tie.Need-returns-2
+unfolding noController
 returns-2 c =
-    let k = c .before .before in
+    let k = c .before .before .before in
     let a = k .before .before .args in
     restarts (a .set) (a .count) (a .total)
-    (c .no-controller .ensures ∙ not-made _ _ _ (k .restart-answer .result) (c .before .match .keys2) (says k))
-    (says k)
+    (c .made2 .ensures .0 ∙ ap (λ (set : Settings). restarted set 0 0) (c .before .no-set .ensures) ∙ not-made _ _ _ (k .restart-answer .result) (c .before .before .match .keys2) (says k))
+    (ap saysRestart (c .made2 .ensures .1) ∙ says k)
 
 pub restart-spec : {M : Type 1} → statement M
 restart-spec =
@@ -49,7 +55,8 @@ restart-spec =
     check-requires
     restart-answer-requires
     enum-told
-    restarted-requires
+    made-requires
     returns
-    no-controller-requires
+    no-set-requires
+    made-requires-2
     returns-2)

@@ -1,6 +1,7 @@
-use mathlib.Core.Path.{_∙_}
+use mathlib.Core.Path.{sym, ap, _∙_}
 use borrow.Author.Needs.{needs}
 use Rattle.controller.specs.Calls.{isReady, after}
+use Rattle.controller.specs.Says.{saysSet}
 use Rattle.controller.proofs.Contracts.{sets, set-answers, not-taken}
 use Rattle.controller.proofs.Controller.settings.Statement.{statement}
 use Rattle.controller.proofs.Controller.settings.Tie as tie
@@ -26,8 +27,8 @@ returns c =
     let k = c .before .before .before in
     let p = k .before .before .before in
     sets (p .args .self) (p .args .set) (p .pre)
-    (k .set-answer .ensures ∙ set-answers (p .args .self) (p .args .set) (k .before .before .is-ready .ensures) (k .before .check .ensures))
-    (rw (c .before .enum-told .given .1) (c .taken .ensures))
+    (ap saysSet (c .taken .ensures .1 ∙ sym (c .before .enum-told .given .1)) ∙ k .set-answer .ensures ∙ set-answers (p .args .self) (p .args .set) (k .before .before .is-ready .ensures) (k .before .check .ensures))
+    (rw (c .taken .ensures .1) (c .taken .ensures .0))
 
 returns-2 : tie.Need-returns-2
 unfolding isReady

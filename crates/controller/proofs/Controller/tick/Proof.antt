@@ -1,8 +1,13 @@
-use mathlib.Core.Path.{refl}
+use mathlib.Core.Path.{_≡_, refl}
 use native.Mathlib.Omega.{arith}
 use borrow.Author.Needs.{needs}
+use lib.IntN.{ℤ}
+use mir.Syntax.{w32}
+use mir.Val.{toZ, ofZ}
 use mir.Facts.{toZ-ofZ}
-use Rattle.controller.proofs.Steps.{tick-refused, tick-clear, tick-fault}
+use Rattle.laws.specs.Pick.{so}
+use Rattle.scale.specs.Scale.{outside}
+use Rattle.controller.proofs.Steps.{step3-outside, tick-refused, tick-clear, tick-fault}
 use Rattle.controller.proofs.Controller.tick.Statement.{statement}
 use Rattle.controller.proofs.Controller.tick.Tie as tie
 
@@ -23,14 +28,53 @@ returns-2 c =
 enum-told : tie.Need-enum-told
 enum-told c = search needs
 
-step3-requires : tie.Need-step3-requires
-step3-requires c κs = (c .before .before .before .pre, c .enum-told .given .1)
+is-outside-requires : tie.Need-is-outside-requires
+is-outside-requires c κs = tt
+
+outside-requires : tie.Need-outside-requires
+outside-requires c κs = tt
+
+-- the sample as the test sees it
+module _ (c : tie.After-is-outside) where
+  abbrev d : tie.Start
+  d = c .before .before .before .before
+
+  abbrev x : ℤ
+  x = d .args .sample
+
+  back : toZ w32 (ofZ w32 x) ≡ x
+  back = toZ-ofZ (d .fits .sample)
+
+  seen : c .is-outside .result ≡ outside x
+  seen = rw back at (c .is-outside .ensures)
 
 returns-3 : tie.Need-returns-3
 returns-3 c =
-    let d = c .before .before .before .before in
-    let a = d .args in
-    tick-clear (a .self) _ (a .inputs) (d .pre) (omega arith) (c .before .enum-told .given .1) (rw (toZ-ofZ (d .fits .sample)) at (c .step3 .ensures))
+    let t = c .before .before in
+    let a = d t .args in
+    tick-clear (a .self) _ (a .inputs) (d t .pre) (omega arith) (t .before .enum-told .given .1) (step3-outside _ _ _ (so (seen t) (c .before .if2 .taken)) (c .outside .ensures))
+
+steps4to8-requires : tie.Need-steps4to8-requires
+steps4to8-requires c κs =
+    let t = c .before in
+    record { sound = d t .pre; clear = t .before .enum-told .given .1; inside = so (t .is-outside .ensures) (c .if2 .left) }
+
+returns-4 : tie.Need-returns-4
+returns-4 c =
+    let t = c .before .before in
+    let a = d t .args in
+    tick-clear (a .self) _ (a .inputs) (d t .pre) (omega arith) (t .before .enum-told .given .1) (rw (back t) at (c .steps4to8 .ensures))
 
 pub tick-spec : {M : Type 1} → statement M
-tick-spec = tie.close (tie.spec returns enum-known-condition returns-2 enum-told step3-requires returns-3)
+tick-spec =
+    tie.close
+    (tie.spec
+    returns
+    enum-known-condition
+    returns-2
+    enum-told
+    is-outside-requires
+    outside-requires
+    returns-3
+    steps4to8-requires
+    returns-4)

@@ -1,3 +1,4 @@
+use mathlib.Core.Path.{refl}
 use Rattle.controller.specs.Calls.{taken}
 use Rattle.controller.proofs.calls.taken.Statement.{statement}
 use Rattle.controller.proofs.calls.taken.Tie as tie
@@ -7,7 +8,7 @@ new-requires c κs = tt
 
 returns : tie.Need-returns
 unfolding taken
-returns c = simp (c .new .ensures)
+returns c = (simp (c .new .ensures), refl)
 
 pub taken-spec : {M : Type 1} → statement M
 taken-spec = tie.close (tie.spec new-requires returns)

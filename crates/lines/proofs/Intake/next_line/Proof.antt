@@ -1,5 +1,5 @@
 use mathlib.Core.Path.{_≡_, sym, ap, _∙_}
-use mathlib.Core.Bool.{Bool, true, false}
+use mathlib.Core.Bool.{false}
 use mathlib.Core.List.{List}
 use Prim.Native.Nat.{ℕ, _+_, _≤_, _<_, min}
 use native.Mathlib.Omega.{arith}
@@ -49,14 +49,8 @@ to-begun {i} {buffer} p h e =
     more : Intake → Taken
     more j = record { intake = j; next = More }
 
-least-requires : tie.Need-least-requires
-least-requires c κs = search needs
-
 slice-aggregate-line-end : tie.Need-slice-aggregate-line-end
 slice-aggregate-line-end c = sym (length-take-le _ _ (omega (arith, c .before .least .ensures)))
-
-line-end-requires : tie.Need-line-end-requires
-line-end-requires c κs = search needs
 
 ends : (c : tie.After-line-end) → Ends (c .before .before .before .before .args .self) (now (c .before .before .before .before .args .buffer)) (c .before .before .least .result) (c .line-end .result)
 ends c = ends-from _ _ (c .before .before .least .ensures) (c .line-end .ensures)
@@ -72,9 +66,6 @@ returns-2 : tie.Need-returns-2
 unfolding begunTo
 returns-2 c = to-begun (ends (c .before .before .before)) (c .before .if1 .taken) (sym (pick-f _ _ _ (so (c .before .before .overlong .ensures) (c .if2 .left))))
 
-add-t7 : tie.Need-add-t7
-add-t7 c = search needs
-
 returns-3 : tie.Need-returns-3
 returns-3 c = to-line (ends (c .before .before .before)) (c .before .if1 .left) (sym (pick-t _ _ _ (so (c .before .before .overlong .ensures) (c .if3 .taken))))
 
@@ -85,12 +76,5 @@ pub next-line-spec : {M : Type 1} → statement M
 next-line-spec =
     tie.close
     (tie.spec
-    least-requires
-    slice-aggregate-line-end
-    line-end-requires
-    overlong-requires
-    returns
-    returns-2
-    add-t7
-    returns-3
-    returns-4)
+    (λ c κs. search needs) slice-aggregate-line-end (λ c κs. search needs) overlong-requires returns returns-2
+    (λ c. search needs) returns-3 returns-4)

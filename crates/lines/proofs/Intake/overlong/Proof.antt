@@ -11,12 +11,10 @@ returns : tie.Need-returns
 unfolding overlong
 returns c = ap (λ (b : Bool). b || ltb 4095 (c .before .args .end - c .before .args .self .at)) (sym (c .if1 .taken))
 
-sub-result : tie.Need-sub-result
-sub-result c = search needs
-
 returns-2 : tie.Need-returns-2
 unfolding overlong
 returns-2 c = ap (λ (b : Bool). b || ltb 4095 (c .before .before .args .end - c .before .before .args .self .at)) (sym (c .before .if1 .left))
 
 pub overlong-spec : {M : Type 1} → statement M
-overlong-spec = tie.close (tie.spec returns sub-result returns-2)
+overlong-spec =
+    tie.close (tie.spec returns (λ c. search needs) returns-2)

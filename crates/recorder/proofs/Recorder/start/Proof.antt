@@ -8,12 +8,6 @@ use borrow.Author.Needs.{needs}
 use Rattle.recorder.proofs.Recorder.start.Statement.{statement}
 use Rattle.recorder.proofs.Recorder.start.Tie as tie
 
-fresh-requires : tie.Need-fresh-requires
-fresh-requires c κs = search needs
-
-start-requires : tie.Need-start-requires
-start-requires c κs = search needs
-
 returns : tie.Need-returns
 unfolding startOf
 returns c =
@@ -21,4 +15,5 @@ returns c =
     record { is = is; carries = subst Carries (sym is) start-carries }
 
 pub start-spec : {M : Type 1} → statement M
-start-spec = tie.close (tie.spec fresh-requires start-requires returns)
+start-spec =
+    tie.close (tie.spec (λ c κs. search needs) (λ c κs. search needs) returns)

@@ -1,7 +1,6 @@
 -- The invariant: the rows from place i on give the whole answer, in every set that has these values and ranges.
 use mathlib.Core.Path.{_≡_, refl, sym, _∙_}
 use mathlib.Core.List.{map}
-use mathlib.Core.Logic.{⊎-elim}
 use Prim.Native.Nat.{ℕ, _-_, _≤_, _<_}
 use native.Mathlib.Omega.{arith}
 use native.Mathlib.Numerals.{add-one}
@@ -10,7 +9,7 @@ use Rattle.settings.specs.Table.{table, firstBad}
 use Rattle.settings.specs.Columns.{valueOf, rangeOf}
 use Rattle.settings.specs.Named.{Out}
 use Rattle.settings.specs.declared.Settings.{Settings}
-use Rattle.settings.proofs.Steps.{fromPlace, rowAt, passed, named, ended, in-at, low-at, high-at}
+use Rattle.settings.proofs.Steps.{fromPlace, rowAt, passed, named, ended, in-at, out-at}
 use Rattle.settings.proofs.Settings.check.Statement.{statement}
 use Rattle.settings.proofs.Settings.check.Tie as tie
 
@@ -49,27 +48,25 @@ add-t20 : tie.Need-add-t20 Inv-loop μ-loop
 add-t20 c = omega arith
 
 -- at the return of a named row
-module _ (c : tie.Joined1 Inv-loop μ-loop) where
+module _ (c : tie.Then1 Inv-loop μ-loop) where
   abbrev s : Settings
-  s = c .before .before .before .before .before .before .before .args .self
+  s = c .before .before .before .before .before .before .before .before .args .self
 
   abbrev i : ℕ
-  i = c .before .before .before .before .loop .i
+  i = c .before .before .before .before .before .loop .i
 
   below : i < 18
-  below = c .before .before .before .loop-test .taken
+  below = c .before .before .before .before .loop-test .taken
 
   out : Out (rowAt s i)
   out =
-      let d = c .before .before .before .before .before in
-      let v = d .before .values .ensures in
-      let r = d .ranges .ensures in
-      ⊎-elim (λ w. low-at s i below v r (w .taken)) (λ w. high-at s i below v r (w .2 .taken)) (c .if1 .came)
+      let d = c .before .before .before .before .before .before in
+      out-at s i below (d .before .values .ensures) (d .ranges .ensures) (c .if1 .taken)
 
 returns : tie.Need-returns Inv-loop μ-loop
 returns c =
-    let d = c .before .before .before .before .before in
-    sym (c .before .before .before .before .loop .inv .1 (s c) (d .before .values .ensures) (d .ranges .ensures) ∙ named (s c) (i c) (below c) (out c))
+    let d = c .before .before .before .before .before .before in
+    sym (c .before .before .before .before .before .loop .inv .1 (s c) (d .before .values .ensures) (d .ranges .ensures) ∙ named (s c) (i c) (below c) (out c))
 
 add-i : tie.Need-add-i Inv-loop μ-loop
 add-i c = omega arith
@@ -79,11 +76,9 @@ loop-less c = omega arith
 
 loop-again : tie.Need-loop-again Inv-loop μ-loop
 loop-again c =
-    let d = c .before .before .before .before .before .before in
-    let h : d .loop .i < 18 = omega arith in (
-      omega arith,
-      λ s v r. rw add-one (d .loop .inv .1 s v r ∙ passed s (d .loop .i) h (in-at s (d .loop .i) h v r (c .before .before .if1 .left) (c .if2 .left))),
-    )
+    let d = c .before .before .before .before .before in
+    let h : d .loop .i < 18 = omega arith in
+    (omega arith, λ s v r. rw add-one (d .loop .inv .1 s v r ∙ passed s (d .loop .i) h (in-at s (d .loop .i) h v r (c .if1 .left))))
 
 returns-2 : tie.Need-returns-2 Inv-loop μ-loop
 returns-2 c =

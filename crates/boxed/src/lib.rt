@@ -1,0 +1,115 @@
+// The answers of the box: their letter and numbers, and the text of a reason.
+pub mod causes;
+
+use acts::Answer;
+use controller::Fault;
+use controller::PollAnswer;
+use controller::RequestAnswer;
+use controller::ResetAnswer;
+use controller::RestartAnswer;
+use controller::SetAnswer;
+use controller::TickAnswer;
+use counters::Record;
+use pieces::Words;
+
+// D, the outputs, count, amount, settled, product
+fn dose(outputs: u8, record: Record) -> Words {
+    Words::five(
+        b'D',
+        outputs as u64,
+        record.count as u64,
+        record.amount as u64,
+        record.settled as u64,
+        record.product as u64,
+    )
+}
+
+// F, number, channel (0 for F21)
+fn fault(why: Fault) -> Words {
+    match why {
+        Fault::F14(channel) => Words::two(b'F', 14, channel as u64),
+        Fault::F21 => Words::two(b'F', 21, 0),
+    }
+}
+
+// O, D, F or R.
+fn tick(answer: TickAnswer) -> Words {
+    match answer {
+        TickAnswer::Outputs(outputs) => Words::one(b'O', outputs as u64),
+        TickAnswer::Dose { outputs, record } => dose(outputs, record),
+        TickAnswer::Fault(why) => fault(why),
+        TickAnswer::R1 => Words::one(b'R', 1),
+    }
+}
+
+// The line of O and the outputs, which most ticks answer.
+pub fn put_outputs(out: &mut [u8], outputs: u8) -> usize {
+    let after_letter = text::put_byte(out, 0, b'O');
+    let after_tab = text::put_byte(out, after_letter, text::TAB);
+    let after_number = text::put_decimal(out, after_tab, outputs as u64);
+    pieces::end(out, after_number)
+}
+
+// A, R 3 or R 2 row.
+fn set(answer: SetAnswer) -> Words {
+    match answer {
+        SetAnswer::Taken => Words::none(b'A'),
+        SetAnswer::R3 => Words::one(b'R', 3),
+        SetAnswer::R2(row) => Words::two(b'R', 2, row as u64),
+    }
+}
+
+// A or R 3.
+fn reset(answer: ResetAnswer) -> Words {
+    match answer {
+        ResetAnswer::Done => Words::none(b'A'),
+        ResetAnswer::R3 => Words::one(b'R', 3),
+    }
+}
+
+// A, R 2 row or R 15.
+fn restart(answer: RestartAnswer) -> Words {
+    match answer {
+        RestartAnswer::Done => Words::none(b'A'),
+        RestartAnswer::R2(row) => Words::two(b'R', 2, row as u64),
+        RestartAnswer::R15 => Words::one(b'R', 15),
+    }
+}
+
+// P place length, or R number place.
+fn request(answer: RequestAnswer) -> Words {
+    match answer {
+        RequestAnswer::Sent { place, len } => Words::two(b'P', place as u64, len as u64),
+        RequestAnswer::R9(place) => Words::two(b'R', 9, place as u64),
+        RequestAnswer::R6(place) => Words::two(b'R', 6, place as u64),
+        RequestAnswer::R5(place) => Words::two(b'R', 5, place as u64),
+        RequestAnswer::R7(place) => Words::two(b'R', 7, place as u64),
+        RequestAnswer::R3(place) => Words::two(b'R', 3, place as u64),
+        RequestAnswer::R4(place) => Words::two(b'R', 4, place as u64),
+        RequestAnswer::R8(place) => Words::two(b'R', 8, place as u64),
+    }
+}
+
+// P length, or R number.
+fn modbus(answer: PollAnswer) -> Words {
+    match answer {
+        PollAnswer::Sent(len) => Words::one(b'P', len as u64),
+        PollAnswer::R17 => Words::one(b'R', 17),
+        PollAnswer::R8 => Words::one(b'R', 8),
+    }
+}
+
+// What the box answered by a letter and numbers; ? where it answered otherwise.
+pub fn words(said: Answer) -> Words {
+    match said {
+        Answer::Tick(ticked) => tick(ticked),
+        Answer::Link => Words::none(b'A'),
+        Answer::Set(taken) => set(taken),
+        Answer::Reset(cleared) => reset(cleared),
+        Answer::Counters(kept) => Words::two(b'Q', kept.count as u64, kept.total as u64),
+        Answer::Restart(restarted) => restart(restarted),
+        Answer::Request(replied) => request(replied),
+        Answer::Modbus(polled) => modbus(polled),
+        _ => Words::none(b'?'),
+    }
+}

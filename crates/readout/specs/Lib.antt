@@ -1,0 +1,4 @@
+pub mod Readout
+pub mod Says
+pub mod Laws
+pub mod Cases
