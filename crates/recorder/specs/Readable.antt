@@ -20,7 +20,7 @@ use Rattle.journal.specs.declared.Past.{Past}
 use Rattle.journal.specs.Line.{versionText, versioned, textOf, inRange, lineOf}
 use Rattle.journal.specs.LineLaws.{read-text, text-only}
 use Rattle.journal.specs.Journal.{hourIn, closes, noPast, ordered, onLine, readFrom, formOf, bodyOf, journalOf, firstHour, linesText, headText, journalText}
-use Rattle.journal.specs.JournalLaws.{Reads, none, more, Each, each-map, linesFrom, lines-bad, lines-good, headLines, headBytes, journal-lines, journal-reads}
+use Rattle.journal.specs.JournalLaws.{ReadsLines, none, more, Each, each-map, linesFrom, lines-bad, lines-good, headLines, headBytes, journal-lines, journal-reads}
 use Rattle.journal.specs.Order.{Steps, ordered-journal}
 use Rattle.controller.specs.declared.Controller.{Controller}
 use Rattle.counters.specs.declared.Record.{Record}
@@ -248,7 +248,7 @@ readable-read {text} r e n h =
     ap journalOf is ∙ ordered-journal New (r .lines) (record { steps = r .steps; near = n }) (r .range) (omega (arith, ap length is))
 
 -- something that is no line of a journal after some that are
-after-lines : {p : Past} {s : List ℕ} {ls : List Line} (n : ℕ) (tail : List ℕ) → 0 < length tail → lineOf New tail ≡ bad → Reads New p s ls → linesFrom New p n (s ++ tail) ≡ refused R10 ((n + length ls) ∷ [])
+after-lines : {p : Past} {s : List ℕ} {ls : List Line} (n : ℕ) (tail : List ℕ) → 0 < length tail → lineOf New tail ≡ bad → ReadsLines New p s ls → linesFrom New p n (s ++ tail) ≡ refused R10 ((n + length ls) ∷ [])
 unfolding ordered told
 after-lines {p} n tail h e none = lines-bad New p n tail h e ∙ ap (λ (k : ℕ). refused R10 (k ∷ [])) (sym (add-zero n))
 after-lines {p} {s} n tail h e (more {rest = rest} {l = l} {ls = ls} q k r) =
@@ -270,7 +270,7 @@ behind-version : (s : List ℕ) → length (versionText ++ s) ≤ 65536 → jour
 unfolding versionText formOf versioned headLines headBytes pick
 behind-version s h = journal-lines (86 ∷ 9 ∷ 50 ∷ 10 ∷ s) h
 
-version-reads : (ls : List Line) → journalOf (journalText New ls) ≡ done ls → Reads New noPast (linesText New ls) ls
+version-reads : (ls : List Line) → journalOf (journalText New ls) ≡ done ls → ReadsLines New noPast (linesText New ls) ls
 unfolding journalText headText versionText formOf versioned headBytes pick
 version-reads ls e = journal-reads (86 ∷ 9 ∷ 50 ∷ 10 ∷ linesText New ls) ls e
 
