@@ -1,7 +1,6 @@
 use mathlib.Core.Path.{_≡_, refl, ap}
 use Prim.Native.Nat.{_+_, _-_, _≤_}
 use native.Mathlib.Omega.{arith}
-use borrow.Author.Needs.{needs}
 use lib.ListN.{length}
 use Rattle.report.specs.Table.{textBy}
 use Rattle.report.proofs.Printing.{restBy, rest-whole, rest-length, rest-none}
