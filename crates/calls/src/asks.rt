@@ -1,12 +1,12 @@
 // Each kind of line, read behind its letter.
 use crate::Call;
-use crate::GREATEST;
-use crate::Signed;
 use crate::fields;
 use field::Field;
 use field::Weight;
 use journal::Form;
 use journal::Line;
+use operands::GREATEST;
+use operands::Signed;
 use text::Num;
 ghost use mathlib.Core.Path.{_≡_};
 ghost use Prim.Native.Nat.{_≤_};
@@ -29,7 +29,7 @@ pub(crate) fn ended(line: &[u8], end: usize, call: Call) -> Call
 pub(crate) fn tick(line: &[u8]) -> Call
     ensures { λ r. ⌜ Asks (now (line .entry)) (tickAt (drop 1 (now (line .entry)))) r × (sizeOf r ≡ 0) ⌝ }
 {
-    let Signed::Good(sample, after) = fields::signed_at(line, 1) else {
+    let Signed::Good(sample, after) = operands::signed_at(line, 1) else {
         return Call::Unknown;
     };
     let Num::Good(inputs, end) = text::field_at(line, after, 255) else {
@@ -68,12 +68,12 @@ pub(crate) fn set(line: &[u8]) -> Call
     }
     let v = numbers.values;
     if line.len() <= numbers.next {
-        return Call::Settings(fields::set_of(v, 0));
+        return Call::Settings(operands::set_of(v, 0));
     }
     let Num::Good(product, end) = text::field_at(line, numbers.next, GREATEST) else {
         return Call::Unknown;
     };
-    ended(line, end, Call::Settings(fields::set_of(v, product)))
+    ended(line, end, Call::Settings(operands::set_of(v, product)))
 }
 
 // N SET count total; without a product it is 0.
@@ -86,7 +86,7 @@ pub(crate) fn restart(line: &[u8]) -> Call
     }
     let v = numbers.values;
     if line.len() <= numbers.next {
-        return Call::Restart(fields::set_of(v, 0), v[17], v[18]);
+        return Call::Restart(operands::set_of(v, 0), v[17], v[18]);
     }
     let Num::Good(total, end) = text::field_at(line, numbers.next, GREATEST) else {
         return Call::Unknown;
@@ -94,7 +94,7 @@ pub(crate) fn restart(line: &[u8]) -> Call
     ended(
         line,
         end,
-        Call::Restart(fields::set_of(v, v[17]), v[18], total),
+        Call::Restart(operands::set_of(v, v[17]), v[18], total),
     )
 }
 
@@ -124,7 +124,7 @@ pub(crate) fn room(line: &[u8], letter: u8, most: u32) -> Call
     if text::byte_at(line, 1) != text::TAB {
         return Call::Unknown;
     }
-    let n = fields::count(line);
+    let n = operands::count(line);
     let Num::Good(number, end) = text::field_at(line, 2 + 2 * n, most) else {
         return Call::Unknown;
     };
@@ -139,7 +139,7 @@ pub(crate) fn alone(line: &[u8], letter: u8) -> Call
     if text::byte_at(line, 1) != text::TAB {
         return Call::Unknown;
     }
-    let n = fields::count(line);
+    let n = operands::count(line);
     ended(line, 2 + 2 * n, room_call(letter, n as u32, 0))
 }
 
@@ -147,7 +147,7 @@ pub(crate) fn alone(line: &[u8], letter: u8) -> Call
 pub(crate) fn weight(line: &[u8]) -> Call
     ensures { λ r. ⌜ Asks (now (line .entry)) (writeFieldAt (drop 1 (now (line .entry)))) r ⌝ }
 {
-    let Signed::Good(value, after_value) = fields::signed_at(line, 1) else {
+    let Signed::Good(value, after_value) = operands::signed_at(line, 1) else {
         return Call::Unknown;
     };
     let Num::Good(stable, after_stable) = text::field_at(line, after_value, 1) else {
@@ -170,13 +170,12 @@ pub(crate) fn weight(line: &[u8]) -> Call
 
 // K four bytes
 pub(crate) fn four(line: &[u8]) -> Call
-    requires { ⌜ length (now line) ≤ 4095 ⌝ }
     ensures { λ r. ⌜ Asks (now (line .entry)) (readFieldAt (drop 1 (now (line .entry)))) r ⌝ }
 {
     if text::byte_at(line, 1) != text::TAB {
         return Call::Unknown;
     }
-    if fields::count(line) != 4 {
+    if operands::count(line) != 4 {
         return Call::Unknown;
     }
     let field = Field {

@@ -14,12 +14,6 @@ ghost use Rattle.calls.specs.Call.{callBy};
 ghost use Rattle.calls.specs.Reads.{Sizes, Reads};
 ghost use Rattle.calls.specs.Reading.{Asks};
 
-// A number that may be below 0, read at a place: its value and the place after it, or none.
-enum Signed {
-    Good(i32, usize),
-    Bad,
-}
-
 // n numbers read at a place; the others are 0.
 struct Numbers {
     good: bool,
@@ -62,9 +56,6 @@ pub enum Call {
     Unknown,
 }
 
-// The greatest number.
-const GREATEST: u32 = 4294967295;
-
 // So many bytes hold those of every line.
 pub const BYTES: usize = 2048;
 
@@ -95,7 +86,7 @@ fn call_of(line: &[u8]) -> Call
         b'H' => asks::on(line),
         b'l' => asks::alone(line, letter),
         b'm' => asks::alone(line, letter),
-        b'u' => asks::room(line, letter, GREATEST),
+        b'u' => asks::room(line, letter, operands::GREATEST),
         b'j' => asks::room(line, letter, 2000),
         _ => Call::Unknown,
     }

@@ -2,7 +2,8 @@ use mathlib.Core.Path.{refl, _∙_}
 use native.Mathlib.Omega.{arith}
 use Rattle.calls.specs.Call.{onAt}
 use Rattle.calls.specs.Reads.{asCall, sizeOf, Within}
-use Rattle.calls.proofs.Steps.{on-good, on-bad, num, field-most, unasked, asked}
+use Rattle.operands.specs.Parsing.{on-good, on-bad, num, field-most}
+use Rattle.calls.proofs.Steps.{unasked, asked}
 use borrow.Author.Needs.{needs}
 use Rattle.calls.proofs.asks.on.Statement.{statement}
 use Rattle.calls.proofs.asks.on.Tie as tie

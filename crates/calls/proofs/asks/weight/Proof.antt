@@ -10,7 +10,8 @@ use Rattle.laws.specs.Decimal.{good}
 use Rattle.field.specs.Field.{weight}
 use Rattle.calls.specs.Call.{writeField, flagField, writeFieldAt}
 use Rattle.calls.specs.Reads.{asCall, sizeOf, Within}
-use Rattle.calls.proofs.Steps.{on-good, on-bad, step, num, field-most, unasked, asked}
+use Rattle.operands.specs.Parsing.{on-good, on-bad, num, field-most}
+use Rattle.calls.proofs.Steps.{step, unasked, asked}
 use borrow.Author.Needs.{needs}
 use Rattle.calls.proofs.asks.weight.Statement.{statement}
 use Rattle.calls.proofs.asks.weight.Tie as tie
