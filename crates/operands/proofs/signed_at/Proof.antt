@@ -26,10 +26,10 @@ minus-rule : (c : tie.Else2) → signedField (drop (c .before .before .before .b
 minus-rule c = let a = c .before .before .before .before .before .args in signed-minus (now (a .s)) (a .at) (c .before .before .before .byte-at .ensures) (c .before .before .if1 .left) (c .before .byte-at2 .ensures) (c .if2 .left)
 
 high : (c : tie.After-known-told) → c .before .v .given .0 .0 ≤ 2147483647
-high c = number-most 2147483647 _ (num (c .before .before .before .number-at .ensures) (c .before .v .given .1))
+high c = omega (arith, number-most _ _ (num (c .before .before .before .number-at .ensures) (c .before .v .given .1)))
 
 low : (c : tie.Else3) → c .before .before .v2 .given .0 .0 ≤ 2147483648
-low c = number-most 2147483648 _ (num (c .before .before .before .before .number-at2 .ensures) (c .before .before .v2 .given .1))
+low c = omega (arith, number-most _ _ (num (c .before .before .before .before .number-at2 .ensures) (c .before .before .v2 .given .1)))
 
 some : (c : tie.Else3) → 1 ≤ c .before .before .v2 .given .0 .0
 some c = let h = c .if3 .left in omega arith

@@ -16,7 +16,7 @@ returns-3 c =
     (on-good _ (row (c .before .before .before .before .before .before .before .before .numbers-at .ensures) (c .before .before .before .before .before .before .if1 .left)) ∙ on-good _ room)
     refl
     (omega arith)
-    (field-most 64 _ room)
+    (omega (arith, field-most _ _ room))
 
 pub dose-spec : {M : Type 1} → statement M
 unfolding doseAt

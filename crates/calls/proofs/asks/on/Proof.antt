@@ -12,7 +12,7 @@ returns-3 : tie.Need-returns-3
 unfolding onAt asCall sizeOf Within
 returns-3 c =
     let room = num (c .before .before .before .before .field-at2 .ensures) (c .before .before .room .given .1) in
-    asked (c .ended .ensures) (on-good _ (num (c .before .before .before .before .before .before .before .before .field-at .ensures) (c .before .before .before .before .before .before .hour .given .1)) ∙ on-good _ room) refl (omega arith) (field-most 64 _ room)
+    asked (c .ended .ensures) (on-good _ (num (c .before .before .before .before .before .before .before .before .field-at .ensures) (c .before .before .before .before .before .before .hour .given .1)) ∙ on-good _ room) refl (omega arith) (omega (arith, field-most _ _ room))
 
 pub on-spec : {M : Type 1} → statement M
 unfolding onAt

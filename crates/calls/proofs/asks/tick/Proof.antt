@@ -39,5 +39,5 @@ tick-spec =
     (λ c. (unasked (on-bad _ (step (c .before .before .signed-at .ensures) (c .enum-told .given .1))), refl))
     (λ c κs. search needs) (λ c. search needs) (λ c. search needs)
     (λ c. (unasked (on-good _ (step (c .before .before .before .before .before .before .signed-at .ensures) (c .before .before .before .before .sample .given .1)) ∙ on-bad _ (num (c .before .before .field-at .ensures) (c .enum-told2 .given .1))), refl))
-    (λ c. omega (arith, field-most 255 _ (num (c .before .before .before .field-at .ensures) (c .before .inputs .given .1))))
+    (λ c. omega (arith, field-most _ _ (num (c .before .before .before .field-at .ensures) (c .before .inputs .given .1))))
     (λ c κs. search needs) returns-3)

@@ -15,6 +15,6 @@ why-spec =
     (tie.spec
     (λ c κs. search needs) (λ c. search needs) (λ c. search needs)
     (λ c. unasked (on-bad _ (num (c .before .before .field-at .ensures) (c .enum-told .given .1))))
-    (λ c. omega (arith, field-most 255 _ (num (c .before .before .before .field-at .ensures) (c .before .output .given .1))))
+    (λ c. omega (arith, field-most _ _ (num (c .before .before .before .field-at .ensures) (c .before .output .given .1))))
     (λ c κs. search needs)
     (λ c. asked (c .ended .ensures) (on-good _ (num (c .before .before .before .before .field-at .ensures) (c .before .before .output .given .1))) refl (omega arith) tt))
