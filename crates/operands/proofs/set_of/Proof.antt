@@ -1,8 +1,8 @@
 use mathlib.Core.Path.{refl}
-use Rattle.calls.specs.Call.{setWith}
+use Rattle.operands.specs.Numbers.{setWith}
 use borrow.Author.Needs.{needs}
-use Rattle.calls.proofs.fields.set_of.Statement.{statement}
-use Rattle.calls.proofs.fields.set_of.Tie as tie
+use Rattle.operands.proofs.set_of.Statement.{statement}
+use Rattle.operands.proofs.set_of.Tie as tie
 
 returns : tie.Need-returns
 unfolding setWith

@@ -1,10 +1,10 @@
 use borrow.Author.Tests.{le-leb, lt-leb}
 use Rattle.laws.specs.Pick.{so}
 use Rattle.laws.specs.Decimal.{isDigit}
-use Rattle.calls.specs.Call.{isHex}
+use Rattle.operands.specs.Bytes.{isHex}
 use borrow.Author.Needs.{needs}
-use Rattle.calls.proofs.fields.is_hex.Statement.{statement}
-use Rattle.calls.proofs.fields.is_hex.Tie as tie
+use Rattle.operands.proofs.is_hex.Statement.{statement}
+use Rattle.operands.proofs.is_hex.Tie as tie
 
 returns : tie.Need-returns
 unfolding isHex
