@@ -2,13 +2,14 @@
 use mathlib.Core.Path.{_≡_, refl, sym, ap, _∙_}
 use mathlib.Core.Bool.{Bool, true, false, _&&_}
 use mathlib.Core.List.{List, [], _∷_}
-use Prim.Native.Nat.{ℕ, zero, suc, _+_, _*_, _≤_, _<_}
+use Prim.Native.Nat.{ℕ, zero, suc, _+_, _*_, _/_, _%_, _≤_, _<_}
 use native.Mathlib.Omega.{arith}
 use native.Mathlib.Numerals.{add-one}
-use lib.Dec.{leb, eqb}
+use lib.Dec.{T, leb, eqb, leb→le, eqb→eq}
 use lib.ListN.{length, getD, take, drop, set, length-drop}
 use lib.Seq.{sets, take-all, take-suc, getD-drop, drop-drop, length-take-le}
-use borrow.Author.Tests.{eq-eqb, ne-eqb, leb-true}
+use borrow.Author.Tests.{eq-eqb, ne-eqb}
+use Rattle.laws.specs.Tests.{both, both-left, both-right, below, below-at}
 use Rattle.laws.specs.Pick.{pick, pick-t, pick-f, pick-all, pick-if}
 use Rattle.laws.specs.Over.{sets-append}
 use Rattle.laws.specs.Bools.{and-left, and-right}
@@ -23,12 +24,20 @@ use Rattle.calls.specs.Reading.{leadingBytes, carried, Left, Asks}
 use Rattle.calls.specs.declared.Call as declared
 use Rattle.calls.proofs.Steps.{on-bad, on-on, at-on, from-byte}
 
--- a digit that is no decimal one
-pub hex-range : (b : ℕ) → isHex b ≡ true → isDigit b ≡ false → (65 ≤ b) × (b ≤ 70)
-unfolding isHex
-hex-range b e d =
-    let f : (leb 65 b && leb b 70) ≡ true = rw d at e in
-    (leb-true 65 b (and-left (leb 65 b) (leb b 70) f), leb-true b 70 (and-right (leb 65 b) (leb b 70) f))
+-- a digit's value by its bits, computed at each of the 256 bytes
+bits : ℕ → Bool
+bits b = pick (isHex b) (both (eqb (b % 16 + 9 * (b / 64)) (hexValue b)) (leb (hexValue b) 15)) true
+
+bits-all : T (below bits 256)
+unfolding below both bits isHex hexValue isDigit pick
+bits-all = tt
+
+pub bits-value : (b : ℕ) → b < 256 → isHex b ≡ true → (b % 16 + 9 * (b / 64) ≡ hexValue b) × (b % 16 + 9 * (b / 64) ≤ 15)
+unfolding bits
+bits-value b h e =
+    let t = rw (pick-t _ _ _ e) at (below-at bits 256 bits-all b h) in
+    let v = eqb→eq (b % 16 + 9 * (b / 64)) (hexValue b) (both-left _ _ t) in
+    (v, omega (arith, v, leb→le (hexValue b) 15 (both-right _ _ t)))
 
 -- two digits
 abbrev two : ℕ → ℕ → ℕ

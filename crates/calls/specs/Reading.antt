@@ -47,9 +47,9 @@ carried s = leadingBytes (drop 2 s)
 abbrev pub Left : List ℕ → ℕ → ℕ → Type 0
 Left s p n = n + length (leadingBytes (drop p s)) ≡ length (carried s)
 
--- eight bytes stand at place p, and the others behind them
-abbrev pub Digits16 : List ℕ → ℕ → Type 0
-Digits16 s p = length (leadingBytes (drop p s)) ≡ 8 + length (leadingBytes (drop (p + 16) s))
+-- four bytes stand at place p, and the others behind them
+abbrev pub Digits8 : List ℕ → ℕ → Type 0
+Digits8 s p = length (leadingBytes (drop p s)) ≡ 4 + length (leadingBytes (drop (p + 8) s))
 
 -- the call of a letter that takes bytes, and the greatest number that it takes behind them
 unfoldable pub roomCall : ℕ → List ℕ → ℕ → Call

@@ -15,8 +15,6 @@ ghost use Rattle.calls.specs.Call.{tickAt, linkAt, whyAt, settingsAt, re
 ghost use Rattle.calls.specs.Reads.{sizeOf};
 ghost use Rattle.calls.specs.Reading.{aloneCall, roomCall, roomMost, Ended, Asks, Carries};
 
-const TAB: u8 = 9;
-
 // The call, where nothing of the line follows it.
 pub(crate) fn ended(line: &[u8], end: usize, call: Call) -> Call
     ensures { λ r. ⌜ Ended (now (line .entry)) end call r ⌝ }
@@ -101,15 +99,15 @@ pub(crate) fn restart(line: &[u8]) -> Call
 }
 
 // The call of a letter that takes bytes, and of most a number.
-fn room_call(letter: u8, n: usize, number: u32) -> Call
+fn room_call(letter: u8, n: u32, number: u32) -> Call
     requires { ⌜ (n ≤ 2048) × (number ≤ roomMost letter) ⌝ }
     ensures { λ r. ⌜ Carries (roomCall letter) n number r ⌝ }
 {
     match letter {
-        b'B' => Call::Request(n, number as usize),
-        b'M' => Call::Modbus(n, number as usize),
-        b'W' => Call::WriteFrame(n, number as usize),
-        b'j' => Call::Hours(n, number as usize),
+        b'B' => Call::Request(n, number),
+        b'M' => Call::Modbus(n, number),
+        b'W' => Call::WriteFrame(n, number),
+        b'j' => Call::Hours(n, number),
         b'X' => Call::ReadFrame(n),
         b'l' => Call::ReadLine(Form::Old, n),
         b'm' => Call::ReadLine(Form::New, n),
@@ -123,14 +121,14 @@ pub(crate) fn room(line: &[u8], letter: u8, most: u32) -> Call
     requires most { ⌜ most ≡ roomMost letter ⌝ }
     ensures { λ r. ⌜ Asks (now (line .entry)) (roomAt most (roomCall letter) (drop 1 (now (line .entry)))) r ⌝ }
 {
-    if text::byte_at(line, 1) != TAB {
+    if text::byte_at(line, 1) != text::TAB {
         return Call::Unknown;
     }
     let n = fields::count(line);
     let Num::Good(number, end) = text::field_at(line, 2 + 2 * n, most) else {
         return Call::Unknown;
     };
-    ended(line, end, room_call(letter, n, number))
+    ended(line, end, room_call(letter, n as u32, number))
 }
 
 // X, l and m: bytes alone.
@@ -138,11 +136,11 @@ pub(crate) fn alone(line: &[u8], letter: u8) -> Call
     requires { ⌜ length (now line) ≤ 4095 ⌝ }
     ensures { λ r. ⌜ Asks (now (line .entry)) (bytesCall (aloneCall letter) (drop 1 (now (line .entry)))) r ⌝ }
 {
-    if text::byte_at(line, 1) != TAB {
+    if text::byte_at(line, 1) != text::TAB {
         return Call::Unknown;
     }
     let n = fields::count(line);
-    ended(line, 2 + 2 * n, room_call(letter, n, 0))
+    ended(line, 2 + 2 * n, room_call(letter, n as u32, 0))
 }
 
 // G weight stable over point
@@ -175,7 +173,7 @@ pub(crate) fn four(line: &[u8]) -> Call
     requires { ⌜ length (now line) ≤ 4095 ⌝ }
     ensures { λ r. ⌜ Asks (now (line .entry)) (readFieldAt (drop 1 (now (line .entry)))) r ⌝ }
 {
-    if text::byte_at(line, 1) != TAB {
+    if text::byte_at(line, 1) != text::TAB {
         return Call::Unknown;
     }
     if fields::count(line) != 4 {
@@ -209,7 +207,7 @@ pub(crate) fn dose(line: &[u8]) -> Call
         settled: v[3],
         product: v[4],
     };
-    ended(line, end, Call::WriteLine(dose, room as usize))
+    ended(line, end, Call::WriteLine(dose, room))
 }
 
 // H hour room
@@ -222,5 +220,5 @@ pub(crate) fn on(line: &[u8]) -> Call
     let Num::Good(room, end) = text::field_at(line, after, 64) else {
         return Call::Unknown;
     };
-    ended(line, end, Call::WriteLine(Line::On { hour }, room as usize))
+    ended(line, end, Call::WriteLine(Line::On { hour }, room))
 }

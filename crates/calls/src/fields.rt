@@ -10,9 +10,7 @@ ghost use Prim.Native.Nat.{_+_, _≤_, _<_};
 ghost use lib.ListN.{length, take, drop, getD};
 ghost use lib.Seq.{sets};
 ghost use Rattle.calls.specs.Call.{signedField, isHex, hexValue, numbersField, setWith};
-ghost use Rattle.calls.specs.Reading.{ScansSigned, Counts, carried, Left, Digits16};
-
-const TAB: u8 = 9;
+ghost use Rattle.calls.specs.Reading.{ScansSigned, Counts, carried, Left, Digits8};
 
 const MINUS: u8 = 45;
 
@@ -20,7 +18,7 @@ const MINUS: u8 = 45;
 pub(crate) fn signed_at(s: &[u8], at: usize) -> Signed
     ensures { λ r. ⌜ ScansSigned (now (s .entry)) (signedField (drop at (now (s .entry)))) r ⌝ }
 {
-    if text::byte_at(s, at) != TAB {
+    if text::byte_at(s, at) != text::TAB {
         return Signed::Bad;
     }
     if text::byte_at(s, at + 1) != MINUS {
@@ -51,22 +49,22 @@ fn is_hex(b: u8) -> bool
     b <= 70
 }
 
-// The value of a hexadecimal digit.
+// The value of a hexadecimal digit: its last four bits, and 9 more for a letter, which is above 63.
 fn hex_value(b: u8) -> u8
     requires { ⌜ isHex b ≡ true ⌝ }
     ensures { λ r. ⌜ (r ≡ hexValue b) × (r ≤ 15) ⌝ }
 {
-    if text::is_digit(b) { b - 48 } else { b - 55 }
+    b % 16 + 9 * (b / 64)
 }
 
-// Whether the 16 bytes from `at` on are hexadecimal digits: all are looked at, which a compiler does at once.
+// Whether the 8 bytes from `at` on are hexadecimal digits: all are looked at, which a compiler does at once.
 fn all_hex(s: &[u8], at: usize) -> bool
-    requires { ⌜ at + 16 ≤ length (now s) ⌝ }
-    ensures { λ r. ⌜ (r ≡ true → Digits16 (now (s .entry)) at) ⌝ }
+    requires { ⌜ at + 8 ≤ length (now s) ⌝ }
+    ensures { λ r. ⌜ (r ≡ true → Digits8 (now (s .entry)) at) ⌝ }
 {
     let mut good = true;
     let mut k: usize = 0;
-    while k < 8 {
+    while k < 4 {
         good = good & is_hex(s[at + 2 * k]) & is_hex(s[at + 2 * k + 1]);
         k += 1;
     }
@@ -100,12 +98,12 @@ pub(crate) fn count(s: &[u8]) -> usize
 {
     let mut p: usize = 2;
     let mut n: usize = 0;
-    while p + 16 <= s.len() {
+    while p + 8 <= s.len() {
         if !all_hex(s, p) {
             return count_from(s, p, n);
         }
-        n += 8;
-        p += 16;
+        n += 4;
+        p += 8;
     }
     count_from(s, p, n)
 }

@@ -39,25 +39,25 @@ pub enum Call {
     // A restart: the set, the stored count and total.
     Restart(Settings, u32, u32),
     // A line request on so many bytes, and the room of the reply buffer.
-    Request(usize, usize),
+    Request(u32, u32),
     // A MODBUS frame of so many bytes, and the room of the reply buffer.
-    Modbus(usize, usize),
+    Modbus(u32, u32),
     // Why an output is as it is.
     Why(u8),
     // The frame writer on a body of so many bytes, and the room of its buffer.
-    WriteFrame(usize, usize),
+    WriteFrame(u32, u32),
     // The frame reader on so many bytes.
-    ReadFrame(usize),
+    ReadFrame(u32),
     WriteField(Weight),
     ReadField(Field),
     // The writer of a journal's line of the new form, and the room of its buffer.
-    WriteLine(Line, usize),
+    WriteLine(Line, u32),
     // The reader of one line of a form, of so many bytes.
-    ReadLine(Form, usize),
+    ReadLine(Form, u32),
     // One hour of a journal of so many bytes.
-    Hour(usize, u32),
+    Hour(u32, u32),
     // The hour program's text of a journal of so many bytes, and the room of its buffer.
-    Hours(usize, usize),
+    Hours(u32, u32),
     // No call.
     Unknown,
 }
@@ -106,13 +106,13 @@ pub fn size_of(call: Call) -> usize
     ensures { λ r. ⌜ Sizes call r ⌝ }
 {
     match call {
-        Call::Request(n, _) => n,
-        Call::Modbus(n, _) => n,
-        Call::WriteFrame(n, _) => n,
-        Call::ReadFrame(n) => n,
-        Call::ReadLine(_, n) => n,
-        Call::Hour(n, _) => n,
-        Call::Hours(n, _) => n,
+        Call::Request(n, _) => n as usize,
+        Call::Modbus(n, _) => n as usize,
+        Call::WriteFrame(n, _) => n as usize,
+        Call::ReadFrame(n) => n as usize,
+        Call::ReadLine(_, n) => n as usize,
+        Call::Hour(n, _) => n as usize,
+        Call::Hours(n, _) => n as usize,
         _ => 0,
     }
 }

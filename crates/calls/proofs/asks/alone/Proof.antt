@@ -27,5 +27,6 @@ alone-spec =
     (λ c κs. c .before .before .before .pre)
     (λ c. omega (arith, c .count .ensures, carried-half (now (c .before .before .before .before .args .line)), c .before .before .before .before .pre))
     (λ c. omega (arith, c .count .ensures, carried-half (now (c .before .before .before .before .args .line)), c .before .before .before .before .pre))
+    (λ c. omega (arith, c .count .ensures, carried-half (now (c .before .before .before .before .args .line)), c .before .before .before .before .pre))
     (λ c κs. (omega (arith, c .count .ensures, carried-half (now (c .before .before .before .before .args .line)), c .before .before .before .before .pre), omega arith))
     (λ c κs. search needs) returns-2)

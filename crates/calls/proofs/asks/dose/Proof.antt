@@ -31,4 +31,4 @@ dose-spec =
     (λ c κs. search needs) (λ c. search needs) (λ c. search needs)
     (λ c. unasked (on-good _ (c .before .before .before .before .before .numbers-at .ensures .reads ∙ pick-t _ _ _ (not-false _ (c .before .before .before .if1 .left))) ∙ on-bad _ (num (c .before .before .field-at .ensures) (c .enum-told .given .1))))
     (λ c. search needs) (λ c. search needs) (λ c. search needs) (λ c. search needs) (λ c. search needs)
-    (λ c. search needs) (λ c κs. search needs) returns-3)
+    (λ c κs. search needs) returns-3)

@@ -22,4 +22,4 @@ on-spec =
     (λ c. unasked (on-bad _ (num (c .before .before .field-at .ensures) (c .enum-told .given .1))))
     (λ c κs. search needs) (λ c. search needs) (λ c. search needs)
     (λ c. unasked (on-good _ (num (c .before .before .before .before .before .before .field-at .ensures) (c .before .before .before .before .hour .given .1)) ∙ on-bad _ (num (c .before .before .field-at2 .ensures) (c .enum-told2 .given .1))))
-    (λ c. search needs) (λ c κs. search needs) returns-3)
+    (λ c κs. search needs) returns-3)

@@ -11,6 +11,9 @@ use borrow.Author.Needs.{needs}
 use Rattle.calls.proofs.asks.room.Statement.{statement}
 use Rattle.calls.proofs.asks.room.Tie as tie
 
+cast-room-call : tie.Need-cast-room-call
+cast-room-call c = omega (arith, c .before .before .before .before .count .ensures, carried-half (now (c .before .before .before .before .before .before .before .before .args .line)), c .before .before .before .before .before .before .before .before .pre .0)
+
 room-call-requires : tie.Need-room-call-requires
 room-call-requires c κs =
     let m = field-most _ _ (num (c .before .before .before .field-at .ensures) (c .before .number .given .1)) in
@@ -40,4 +43,4 @@ room-spec =
     (λ c. omega (arith, c .count .ensures, carried-half (now (c .before .before .before .before .args .line)), c .before .before .before .before .pre .0))
     (λ c κs. search needs) (λ c. search needs) (λ c. search needs)
     (λ c. as-carried _ (room-guard _ _) (sym (c .before .before .before .before .before .byte-at .ensures) ∙ c .before .before .before .before .if1 .left) (c .before .before .before .count .ensures) (unasked (on-bad _ (num (c .before .before .field-at .ensures) (c .enum-told .given .1)))))
-    room-call-requires (λ c κs. search needs) returns-3)
+    cast-room-call room-call-requires (λ c κs. search needs) returns-3)

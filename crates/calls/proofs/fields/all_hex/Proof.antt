@@ -8,7 +8,7 @@ use lib.ListN.{length, drop, getD}
 use borrow.Author.Needs.{needs}
 use Rattle.laws.specs.Bools.{and-left, and-right}
 use Rattle.calls.specs.Call.{isHex}
-use Rattle.calls.specs.Reading.{leadingBytes, Digits16}
+use Rattle.calls.specs.Reading.{leadingBytes, Digits8}
 use Rattle.calls.proofs.Hex.{lead-two}
 use Rattle.calls.proofs.fields.all_hex.Statement.{statement}
 use Rattle.calls.proofs.fields.all_hex.Tie as tie
@@ -17,10 +17,10 @@ abbrev Stand : List ℕ → ℕ → ℕ → Type 0
 Stand s p k = length (leadingBytes (drop p s)) ≡ k + length (leadingBytes (drop (p + 2 * k) s))
 
 abbrev Inv-loop : tie.InvT-loop
-Inv-loop s at good₀ k₀ good k = (k ≤ 8) × (good ≡ true → Stand s at k)
+Inv-loop s at good₀ k₀ good k = (k ≤ 4) × (good ≡ true → Stand s at k)
 
 abbrev μ-loop : tie.MeasureT-loop
-μ-loop s at good₀ k₀ good k = 8 - k
+μ-loop s at good₀ k₀ good k = 4 - k
 
 none : (s : List ℕ) (p : ℕ) → Stand s p 0
 none s p =
@@ -36,8 +36,8 @@ more s p k good a b h inv ea eb e =
     let z : p + 2 * (k + 1) ≡ p + 2 * k + 2 = omega arith in
     omega (arith, inv (and-left good a both), two, ap (λ (i : ℕ). length (leadingBytes (drop i s))) z)
 
-eight : (s : List ℕ) (p k : ℕ) → k ≡ 8 → Stand s p k → Digits16 s p
-eight s p k e inv = rw e at inv
+all-four : (s : List ℕ) (p k : ℕ) → k ≡ 4 → Stand s p k → Digits8 s p
+all-four s p k e inv = rw e at inv
 
 loop-holds : tie.Need-loop-holds Inv-loop μ-loop
 loop-holds c = (omega arith, λ e. none (c .before .args .s .now) (c .before .args .at))
@@ -48,7 +48,7 @@ loop-again c =
     (omega arith, more _ _ _ _ _ _ (omega arith) (at-loop .loop .inv .1) (c .before .before .is-hex .ensures) (c .is-hex2 .ensures))
 
 returns : tie.Need-returns Inv-loop μ-loop
-returns c = λ e. eight _ _ _ (omega arith) (c .before .loop .inv .1 e)
+returns c = λ e. all-four _ _ _ (omega arith) (c .before .loop .inv .1 e)
 
 pub all-hex-spec : {M : Type 1} → statement M
 all-hex-spec =
