@@ -136,8 +136,8 @@ acts-made e m = record { makes = m; left = sym e }
 pub acts-as : {c : Controller} {a b : Ask} {old new : List ℕ} {r : Acted} → a ≡ b → Acts c b old new r → Acts c a old new r
 acts-as {c} {a} {b} {old} {new} {r} e h = subst (λ (x : Ask). Acts c x old new r) (sym e) h
 
-pub as-call : (most : ℕ) (bytes : List ℕ) {a b : read.Call} → a ≡ b → beside true (lent most (askBy (asCall bytes a))) ≡ beside true (lent most (askBy (asCall bytes b)))
-as-call most bytes e = ap (λ (call : read.Call). beside true (lent most (askBy (asCall bytes call)))) e
+pub as-call : (lines : Bool) (most : ℕ) (bytes : List ℕ) {a b : read.Call} → a ≡ b → beside lines (lent most (askBy (asCall bytes a))) ≡ beside lines (lent most (askBy (asCall bytes b)))
+as-call lines most bytes e = ap (λ (call : read.Call). beside lines (lent most (askBy (asCall bytes call)))) e
 
 -- the controller stays, and nothing is left in the buffer
 pub acts-still : {c : Controller} {ask : Ask} {old : List ℕ} {answer : declared.Answer} → run c (eventsIn ask) ≡ c → leftBy c ask old ≡ old → saysAct answer ≡ saidTo c ask → Sound c

@@ -179,7 +179,7 @@ pub fn rest(c: Controller, call: Call, bytes: &[u8], reply: &mut [u8]) -> Acted
         Call::Reset => reset(c),
         Call::Counters => counters(c),
         Call::Restart(set, count, total) => restart(c, set, count, total),
-        Call::Modbus(n, room) => modbus(c, n, room, bytes, reply),
+        Call::Modbus(n, room) => modbus(c, n as usize, room as usize, bytes, reply),
         Call::Why(output) => why(c, output),
         Call::Unknown => Acted {
             next: c,
@@ -198,7 +198,7 @@ pub fn other(c: Controller, call: Call, bytes: &[u8], reply: &mut [u8]) -> Acted
     ensures { λ r. ⌜ Acts c (beside false (lent (length (now (reply .entry))) (askBy (asCall (now (bytes .entry)) call)))) (now (reply .entry)) (now (reply .exit)) r ⌝ }
 {
     if let Call::Request(n, room) = call {
-        return request(c, n, room, bytes, reply);
+        return request(c, n as usize, room as usize, bytes, reply);
     }
     rest(c, call, bytes, reply)
 }
