@@ -28,7 +28,7 @@ fn made(c: Controller, call: Call, bytes: &[u8], spare: &mut [u8]) -> Acted
     ensures { λ r. ⌜ Made c (asCall (now (bytes .entry)) call) (r .next) ⌝ }
 {
     answers::lend(call, spare);
-    acts::act(c, call, bytes, spare)
+    acts::rest(c, call, bytes, spare)
 }
 
 // Writes the answers out.
@@ -78,10 +78,27 @@ fn answer_lines(
         };
         len = with_room(out, len);
         let call = calls::read(&input[from..to], bytes);
+        if let Call::Tick(sample, inputs) = call {
+            let ticked = c.tick(sample, inputs);
+            let said = ticked.answer;
+            c = ticked.next;
+            len = boxed::say_tick(out, len, said);
+            continue;
+        }
+        if let Call::Request(n, room) = call {
+            let size = n as usize;
+            let most = room as usize;
+            pieces::blank(&mut spare[..most]);
+            let asked = c.request(&bytes[..size], &mut spare[..most]);
+            let said = asked.answer;
+            c = asked.next;
+            len = boxed::say_request(out, len, said, &spare[..most]);
+            continue;
+        }
         let acted = made(c, call, bytes, spare);
         let said = acted.answer;
         c = acted.next;
-        len += answers::say(&mut out[len..], call, said, bytes, spare);
+        len = answers::say(out, len, call, said, bytes, spare);
     }
 }
 
