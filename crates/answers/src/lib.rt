@@ -15,14 +15,18 @@ fn room_of(call: Call) -> usize {
     }
 }
 
-// Makes the first bytes of `spare` A5: a buffer of so much room.
+// The buffer of so much room that a call is lent, at the start of `spare`: each byte A5.
 fn blank(spare: &mut [u8], room: usize) {
     let n = pieces::within(room, spare);
     pieces::blank(&mut spare[..n]);
 }
 
-// The buffer that a MODBUS frame is lent, at the start of `spare`.
+// The buffer that a call of the box is lent.
 pub fn lend(call: Call, spare: &mut [u8]) {
+    if let Call::Request(_, room) = call {
+        blank(spare, room as usize);
+        return;
+    }
     if let Call::Modbus(_, room) = call {
         blank(spare, room as usize);
     }

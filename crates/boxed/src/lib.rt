@@ -52,20 +52,27 @@ fn put_tick(out: &mut [u8], at: usize, said: TickAnswer) -> usize {
     }
 }
 
-// The line of a tick's answer, and how many bytes of `out` it has.
+// The line of a tick's answer, put at `at`; it answers the place after it.
 pub fn say_tick(out: &mut [u8], at: usize, said: TickAnswer) -> usize
     ensures { λ r. ⌜ r ≤ length (now (out .exit)) ⌝ }
 {
-    let len = put_tick(out, at, said);
-    pieces::within(len, out)
+    let end = put_tick(out, at, said);
+    pieces::within(end, out)
 }
 
-// The line of a line request's answer with the buffer that it was lent, and how many bytes of `out` it has.
-pub fn say_request(out: &mut [u8], at: usize, said: RequestAnswer, buffer: &[u8]) -> usize
+// The line of a line request's answer with the buffer that it was lent, so many of the first bytes of `spare`, put at `at`; it answers the place after it.
+pub fn say_request(
+    out: &mut [u8],
+    at: usize,
+    said: RequestAnswer,
+    room: usize,
+    spare: &[u8],
+) -> usize
     ensures { λ r. ⌜ r ≤ length (now (out .exit)) ⌝ }
 {
-    let len = pieces::reply(out, at, request(said), buffer);
-    pieces::within(len, out)
+    let n = pieces::within(room, spare);
+    let end = pieces::reply(out, at, request(said), &spare[..n]);
+    pieces::within(end, out)
 }
 
 // A, R 3 or R 2 row.

@@ -1,5 +1,4 @@
 // Every call of the box from standard input, one answer to a line.
-use acts::Acted;
 use calls::Call;
 use controller::Controller;
 use libc::STDOUT_FILENO;
@@ -8,8 +7,6 @@ use lines::Next;
 ghost use Prim.Native.Nat.{_≤_};
 ghost use lib.ListN.{length};
 ghost use Rattle.controller.specs.Sound.{Sound};
-ghost use Rattle.calls.specs.Reads.{asCall, Within};
-ghost use Rattle.acts.specs.Script.{Made};
 ghost use Rattle.replay.specs.Answers.{Carries};
 
 // What is carried on behind the whole lines of a buffer.
@@ -20,16 +17,6 @@ struct Carried {
 
 // So many bytes hold every answer.
 const ENOUGH: usize = 4096;
-
-// What a call makes of the controller, and the box's answer.
-fn made(c: Controller, call: Call, bytes: &[u8], spare: &mut [u8]) -> Acted
-    requires sound { ⌜ Sound c ⌝ }
-    requires room { ⌜ Within call × (64 ≤ length (now spare)) ⌝ }
-    ensures { λ r. ⌜ Made c (asCall (now (bytes .entry)) call) (r .next) ⌝ }
-{
-    answers::lend(call, spare);
-    acts::rest(c, call, bytes, spare)
-}
 
 // Writes the answers out.
 fn write_out(out: &[u8], len: usize) {
@@ -88,14 +75,15 @@ fn answer_lines(
         if let Call::Request(n, room) = call {
             let size = n as usize;
             let most = room as usize;
-            pieces::blank(&mut spare[..most]);
+            answers::lend(call, spare);
             let asked = c.request(&bytes[..size], &mut spare[..most]);
             let said = asked.answer;
             c = asked.next;
-            len = boxed::say_request(out, len, said, &spare[..most]);
+            len = boxed::say_request(out, len, said, most, spare);
             continue;
         }
-        let acted = made(c, call, bytes, spare);
+        answers::lend(call, spare);
+        let acted = acts::rest(c, call, bytes, spare);
         let said = acted.answer;
         c = acted.next;
         len = answers::say(out, len, call, said, bytes, spare);
