@@ -15,20 +15,10 @@ fn room_of(call: Call) -> usize {
     }
 }
 
-// The buffer of so much room that a call is lent, at the start of `spare`: each byte A5.
-fn blank(spare: &mut [u8], room: usize) {
-    let n = pieces::within(room, spare);
-    pieces::blank(&mut spare[..n]);
-}
-
-// The buffer that a call of the box is lent.
+// The buffer that a MODBUS frame is lent, at the start of `spare`.
 pub fn lend(call: Call, spare: &mut [u8]) {
-    if let Call::Request(_, room) = call {
-        blank(spare, room as usize);
-        return;
-    }
     if let Call::Modbus(_, room) = call {
-        blank(spare, room as usize);
+        pieces::lend(spare, room as usize);
     }
 }
 
@@ -42,7 +32,7 @@ fn put_reply(out: &mut [u8], call: Call, said: Answer, spare: &[u8]) -> usize {
 fn put_aside(out: &mut [u8], call: Call, bytes: &[u8], spare: &mut [u8]) -> usize {
     let size = pieces::within(calls::size_of(call), bytes);
     let room = room_of(call);
-    blank(spare, room);
+    pieces::lend(spare, room);
     let n = pieces::within(room, spare);
     asides::answer(out, call, &bytes[..size], &mut spare[..n])
 }

@@ -75,10 +75,16 @@ pub fn within(n: usize, buffer: &[u8]) -> usize
 }
 
 // Each byte A5, as before a call.
-pub fn blank(buffer: &mut [u8]) {
+fn blank(buffer: &mut [u8]) {
     for i in 0..buffer.len() {
         buffer[i] = 0xA5;
     }
+}
+
+// The buffer of so much room that a call is lent, at the start of `spare`: each byte A5.
+pub fn lend(spare: &mut [u8], room: usize) {
+    let n = within(room, spare);
+    blank(&mut spare[..n]);
 }
 
 // A minus, where there is one.

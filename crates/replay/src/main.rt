@@ -1,9 +1,7 @@
 // Every call of the box from standard input, one answer to a line.
-use calls::Call;
 use controller::Controller;
-use libc::STDOUT_FILENO;
 use lines::Intake;
-use lines::Next;
+use runs::Stop;
 ghost use Prim.Native.Nat.{_≤_};
 ghost use lib.ListN.{length};
 ghost use Rattle.controller.specs.Sound.{Sound};
@@ -13,27 +11,6 @@ ghost use Rattle.replay.specs.Answers.{Carries};
 struct Carried {
     controller: Controller,
     intake: Intake,
-}
-
-// So many bytes hold every answer.
-const ENOUGH: usize = 4096;
-
-// Writes the answers out.
-fn write_out(out: &[u8], len: usize) {
-    let n = pieces::within(len, out);
-    io::write_all(STDOUT_FILENO, &out[..n]);
-}
-
-// Writes the answers out where there is no room for one more, and answers how many bytes still stand there.
-fn with_room(out: &[u8], len: usize) -> usize
-    requires { ⌜ len ≤ length (now out) ⌝ }
-    ensures { λ r. ⌜ r ≤ length (now (out .entry)) ⌝ }
-{
-    if out.len() - len < ENOUGH {
-        write_out(out, len);
-        return 0;
-    }
-    len
 }
 
 // Answers the whole lines of what is held.
@@ -53,40 +30,22 @@ fn answer_lines(
     let mut held = intake;
     let mut len: usize = 0;
     loop {
-        let taken = held.next_line(input);
-        let next = taken.next;
-        held = taken.intake;
-        let Next::Line { from, to } = next else {
-            write_out(out, len);
+        let run = runs::answer(c, held, input, bytes, spare, out, len);
+        c = run.controller;
+        held = run.intake;
+        let stop = run.stop;
+        let Stop::Call(call) = stop else {
+            runs::write_out(out, run.len);
             return Carried {
                 controller: c,
                 intake: held,
             };
         };
-        len = with_room(out, len);
-        let call = calls::read(&input[from..to], bytes);
-        if let Call::Tick(sample, inputs) = call {
-            let ticked = c.tick(sample, inputs);
-            let said = ticked.answer;
-            c = ticked.next;
-            len = boxed::say_tick(out, len, said);
-            continue;
-        }
-        if let Call::Request(n, room) = call {
-            let size = n as usize;
-            let most = room as usize;
-            answers::lend(call, spare);
-            let asked = c.request(&bytes[..size], &mut spare[..most]);
-            let said = asked.answer;
-            c = asked.next;
-            len = boxed::say_request(out, len, said, most, spare);
-            continue;
-        }
         answers::lend(call, spare);
         let acted = acts::rest(c, call, bytes, spare);
         let said = acted.answer;
         c = acted.next;
-        len = answers::say(out, len, call, said, bytes, spare);
+        len = answers::say(out, run.len, call, said, bytes, spare);
     }
 }
 
