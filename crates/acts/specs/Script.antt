@@ -3,11 +3,16 @@ use mathlib.Core.Path.{_≡_, refl, sym, ap, _∙_, subst}
 use mathlib.Core.List.{List, [], _∷_, _++_}
 use Prim.Native.Nat.{ℕ, _-_, _≤_}
 use native.Mathlib.Omega.{arith}
-use lib.ListN.{length, take, drop, length-take}
+use lib.IntN.{ℤ}
+use lib.ListN.{length, take, drop, length-take, length-replicate}
 use Rattle.laws.specs.Decimal.{Parsed}
 use Rattle.controller.specs.declared.Controller.{Controller}
+use Rattle.controller.specs.declared.Ticked.{Ticked}
+use Rattle.controller.specs.declared.Requested.{Requested}
+use Rattle.controller.specs.Line.{requestOf}
+use Rattle.controller.specs.Says.{Ticks, Replies}
 use Rattle.controller.specs.Sound.{Sound}
-use Rattle.series.specs.Events.{run}
+use Rattle.series.specs.Events.{run, eventOf}
 use Rattle.lines.specs.declared.Intake.{Intake}
 use Rattle.lines.specs.declared.Taken.{Taken}
 use Rattle.lines.specs.declared.Next.{Next}
@@ -16,8 +21,9 @@ use Rattle.lines.specs.Places.{partOf}
 use Rattle.lines.specs.Intake.{comes, nextOf, handed, Behind, Waits, Stands, Steps, next-steps}
 use Rattle.calls.specs.Call.{Call, callOf}
 use Rattle.calls.specs.declared.Call as read
+use Rattle.calls.specs.declared.Call.the-variants as C
 use Rattle.calls.specs.Reads.{asCall, Within, Reads, read-call}
-use Rattle.acts.specs.Acts.{Ask, askBy, eventsIn, lent, madeBy}
+use Rattle.acts.specs.Acts.{Ask, blank, askOf, askBy, eventsIn, lent, madeBy}
 use Rattle.acts.specs.Makes.{Acts, lent-read}
 use Rattle.acts.specs.declared.Acted.{Acted}
 
@@ -43,6 +49,19 @@ pub made-call : (c : Controller) (call : read.Call) (bytes : List ℕ) {old new 
     → Acts c (lent (length old) (askBy (asCall bytes call))) old new r → Made c (asCall bytes call) (r .next)
 unfolding madeBy
 made-call c call bytes {old} w h p = record { next = p .makes .next ∙ ap (λ (a : Ask). run c (eventsIn a)) (lent-read (length old) bytes call w h); sound = p .makes .sound }
+
+-- a tick that a program makes by itself
+pub made-tick : {c : Controller} (bytes : List ℕ) {x : ℤ} {i : ℕ} (r : Ticked) → Ticks c x i r → Made c (asCall bytes (C.Tick x i)) (r .next)
+unfolding madeBy asCall askBy askOf eventsIn run eventOf
+made-tick bytes r h = record { next = h .next; sound = h .sound }
+
+-- and a line request, with the room that it asks for
+pub made-asked : {c : Controller} (bytes : List ℕ) {old new : List ℕ} (n room : ℕ) (r : Requested) → length old ≡ room → Replies c (take n bytes) old new r → Made c (asCall bytes (C.Request n room)) (r .next)
+unfolding madeBy asCall askBy askOf eventsIn run eventOf blank
+made-asked {c} bytes n room r e h = record {
+  next = h .next ∙ ap (λ (k : ℕ). requestOf c (take n bytes) k .next) (e ∙ sym (length-replicate {A = ℕ} room 0xA5));
+  sound = h .sound;
+}
 
 -- and a line of a fitting length, read with room for its bytes, is its call
 pub made-read : {c d : Controller} {call : read.Call} {line old new : List ℕ} → Reads line old new call → 2048 ≤ length old → length line ≤ 4095

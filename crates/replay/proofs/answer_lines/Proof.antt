@@ -1,15 +1,65 @@
-use mathlib.Core.Path.{_≡_, refl, _∙_}
+use mathlib.Core.Path.{_≡_, refl, sym, _∙_, subst}
+use mathlib.Core.Bool.{true}
 use mathlib.Core.List.{List, _++_}
-use Prim.Native.Nat.{ℕ, _+_, _-_, _≤_}
+use Prim.Native.Nat.{ℕ, _-_, _≤_}
 use native.Mathlib.Omega.{arith}
+use types.Run.{OneOf}
+use denote.Enum.Declared.{tagOf}
 use denote.Ref.{now}
-use lib.ListN.{length, take, drop, length-append, length-take, length-drop}
+use lib.IntN.{ℤ}
+use lib.ListN.{length, take, drop, length-append, length-drop}
 use lib.Seq.{length-take-le}
-use Rattle.lines.specs.Intake.{Behind}
-use Rattle.acts.specs.Script.{Brings, brings-none, brings-line, brings-more, line-behind, line-short, none-waits, made-read}
+use mir.Syntax.{w32}
+use mir.Val.{SFits}
+use mir.Facts.{toZ-ofZ}
+use Rattle.controller.specs.declared.Controller.{Controller}
+use Rattle.controller.specs.declared.Ticked.{Ticked}
+use Rattle.controller.specs.declared.Requested.{Requested}
+use Rattle.controller.specs.Says.{Ticks, Replies}
+use Rattle.calls.specs.declared.Call as read
+use Rattle.calls.specs.declared.Call.the-variants as C
+use Rattle.calls.proofs.Call.{the-type as call-type}
+use Rattle.calls.specs.Reads.{asCall, Within, Reads}
+use Rattle.lines.specs.declared.Intake.{Intake}
+use Rattle.lines.specs.declared.Taken.{Taken}
+use Rattle.lines.specs.declared.Next.the-variants.{Line}
+use Rattle.lines.specs.Intake.{nextOf, Behind}
+use Rattle.acts.specs.Acts.{askBy, lent, beside}
+use Rattle.acts.specs.Makes.{Acts, unticked, unasked, others-whole, rest-whole}
+use Rattle.acts.specs.Script.{Made, Brings, brings-none, brings-line, brings-more, line-behind, line-short, none-waits, made-read, made-call, made-tick, made-asked}
+use Rattle.acts.specs.declared.Acted.{Acted}
 use borrow.Author.Needs.{needs}
 use Rattle.replay.proofs.answer_lines.Statement.{statement}
 use Rattle.replay.proofs.answer_lines.Tie as tie
+
+-- ---- what a line's call makes of the controller, by its way
+
+ticked : {c : Controller} (bytes : List ℕ) {call : read.Call} {x y : ℤ} {i : ℕ} (r : Ticked) → call ≡ C.Tick x i → y ≡ x → Ticks c y i r → Made c (asCall bytes call) (r .next)
+ticked {c} bytes {i = i} r e f h =
+    subst (λ (k : read.Call). Made c (asCall bytes k) (r .next)) (sym e) (made-tick bytes r (subst (λ (z : ℤ). Ticks c z i r) f h))
+
+asked : {c : Controller} (bytes : List ℕ) {call : read.Call} {n room : ℕ} {old new : List ℕ} (r : Requested) → call ≡ C.Request n room → length old ≡ room → Replies c (take n bytes) old new r → Made c (asCall bytes call) (r .next)
+asked {c} bytes {n = n} {room = room} r e f h = subst (λ (k : read.Call). Made c (asCall bytes k) (r .next)) (sym e) (made-asked bytes n room r f h)
+
+rested : {c : Controller} (bytes : List ℕ) (call : read.Call) {old new : List ℕ} {r : Acted} → OneOf unticked (tagOf call-type call) → OneOf unasked (tagOf call-type call) → Within call → 64 ≤ length old
+    → Acts c (beside true (lent (length old) (askBy (asCall bytes call)))) old new r → Made c (asCall bytes call) (r .next)
+rested {c} bytes call h k w m p = made-call c call bytes w m (others-whole bytes call h (rest-whole bytes call k p))
+
+-- its bytes and its reply have room
+roomy : {call : read.Call} {n room : ℕ} → call ≡ C.Request n room → Within call → (n ≤ 2048) × (room ≤ 64)
+unfolding Within
+roomy e w = subst Within e w
+
+-- a reply in the first bytes of a buffer leaves its length
+part-length : (spare part : List ℕ) (k : ℕ) → k ≤ length spare → length part ≡ length (take k spare) → length (part ++ drop k spare) ≡ length spare
+part-length spare part k h e = omega (arith, e, length-append part (drop k spare), length-take-le k spare h, length-drop k spare)
+
+-- the lines behind it find that controller
+step : (input : List ℕ) (held : Intake) (t : Taken) → t ≡ nextOf held input → {first c d : Controller} {start : Intake} {from to : ℕ} {call : read.Call} {old new : List ℕ}
+    → Brings first start input c held → t .next ≡ Line from to → Reads (take (to - from) (drop from input)) old new call → 2048 ≤ length old → Made c (asCall new call) d → Brings first start input d (t .intake)
+step input held t e g n r h m = brings-line input held t e g n (made-read r h (line-short input held t e n) m)
+
+-- ---- the loop
 
 abbrev Inv-loop : tie.InvT-loop
 Inv-loop input bytes₀ spare₀ out₀ c₀ held₀ len₀ bytes spare out c held len =
@@ -22,41 +72,46 @@ abbrev μ-loop : tie.MeasureT-loop
 behind : (c : tie.After-with-room Inv-loop μ-loop) → Behind (c .before .before .before .before .before .before .before .loop .held) (now (c .before .before .before .before .before .before .before .before .before .before .before .before .args .input)) (c .before .before .before .next .given .0 .0) (c .before .before .before .next .given .0 .1 .0) (c .before .before .before .before .before .before .next-line .result .intake)
 behind c = line-behind _ _ _ (c .before .before .before .before .before .before .next-line .ensures) (c .before .before .before .next .given .1)
 
--- a part of a buffer that was lent and comes back
-part-length : (out part : List ℕ) (len : ℕ) → len ≤ length out → length part ≡ length (take (length out - len) (drop len out)) → length (take len out ++ (part ++ drop (length out - len) (drop len out))) ≡ length out
-part-length out part len h e =
-    let rest = drop (length out - len) (drop len out) in
-    omega (arith, length-append (take len out) (part ++ rest), length-append part rest, length-take-le len out h, length-take (length out - len) (drop len out), length-drop len out, length-drop (length out - len) (drop len out))
-
--- the answer ends within the buffer
-fits : (c : tie.After-say Inv-loop μ-loop) → c .before .before .before .before .before .before .before .before .before .before .before .before .before .before .before .with-room .result + c .say .result ≤ length (c .before .before .before .before .before .before .before .before .before .before .before .before .before .before .before .before .before .before .before .before .before .before .loop .out)
-fits c = omega (arith, c .say .ensures, c .say .kept .0, c .before .before .before .before .before .before .before .before .before .before .before .before .before .before .before .with-room .ensures, length-take (length (c .before .before .before .before .before .before .before .before .before .before .before .before .before .before .before .before .before .before .before .before .before .before .loop .out) - c .before .before .before .before .before .before .before .before .before .before .before .before .before .before .before .with-room .result) (drop (c .before .before .before .before .before .before .before .before .before .before .before .before .before .before .before .with-room .result) (c .before .before .before .before .before .before .before .before .before .before .before .before .before .before .before .before .before .before .before .before .before .before .loop .out)), length-drop (c .before .before .before .before .before .before .before .before .before .before .before .before .before .before .before .with-room .result) (c .before .before .before .before .before .before .before .before .before .before .before .before .before .before .before .before .before .before .before .before .before .before .loop .out))
-
-made-requires : tie.Need-made-requires Inv-loop μ-loop
-made-requires c κs =
-    let inv = c .before .before .before .before .before .before .before .before .before .before .before .before .before .before .loop .inv in
-    (inv .0 .sound, (c .before .before .before .before .read .ensures .within, omega (arith, inv .3, c .before .before .before .before .before .before .before .before .before .before .before .before .before .before .before .before .before .before .before .pre .1 .1)))
-
-add-len : tie.Need-add-len Inv-loop μ-loop
-add-len c = omega (arith, fits (c .before .before .before .before), c .before .before .before .before .before .before .before .before .before .before .before .before .before .before .before .before .before .before .before .before .before .before .before .before .before .before .loop .inv .4, c .before .before .before .before .before .before .before .before .before .before .before .before .before .before .before .before .before .before .before .before .before .before .before .before .before .before .before .before .before .before .before .good)
-
-loop-less : tie.Need-loop-less Inv-loop μ-loop
-loop-less c = let b = behind (c .before .before .before .before .before .before .before .before .before .before .before .before .before .before .before .before .before .before .before) in omega (arith, b .place, b .ahead, b .inside)
+sample-fits : (c : tie.After-known-told2 Inv-loop μ-loop) → SFits w32 (c .before .call .given .0 .0)
+sample-fits c = search needs
 
 loop-again : tie.Need-loop-again Inv-loop μ-loop
 loop-again c =
-    let inv = c .before .before .before .before .before .before .before .before .before .before .before .before .before .before .before .before .before .before .before .before .before .before .before .before .before .before .loop .inv in
-    let say = c .before .before .before .before .say in
-    let made = c .before .before .before .before .before .before .before .before .before .before .before .made in
-    let read = c .before .before .before .before .before .before .before .before .before .before .before .before .before .before .before .before .read in
-    let room = c .before .before .before .before .before .before .before .before .before .before .before .before .before .before .before .before .before .before .before .with-room in
-    let line = c .before .before .before .before .before .before .before .before .before .before .before .before .before .before .before .before .before .before .before .before .before .before .next .given .1 in
-    let found = c .before .before .before .before .before .before .before .before .before .before .before .before .before .before .before .before .before .before .before .before .before .before .before .before .before .next-line .ensures in (
-      brings-line _ _ _ found (inv .0) line (made-read (read .ensures) (omega (arith, inv .2, c .before .before .before .before .before .before .before .before .before .before .before .before .before .before .before .before .before .before .before .before .before .before .before .before .before .before .before .before .before .before .before .pre .1 .0)) (line-short _ _ _ found line) (made .ensures)),
-      omega (arith, fits (c .before .before .before .before), inv .4),
+    let inv = c .before .before .before .before .before .before .before .before .before .before .before .before .before .before .before .before .before .before .before .before .before .loop .inv in
+    let read = c .before .before .before .before .before .before .before .before .before .before .before .read in (
+      step _ _ _ (c .before .before .before .before .before .before .before .before .before .before .before .before .before .before .before .before .before .before .before .before .next-line .ensures) (inv .0) (c .before .before .before .before .before .before .before .before .before .before .before .before .before .before .before .before .before .next .given .1) (read .ensures) (omega (arith, inv .2, c .before .before .before .before .before .before .before .before .before .before .before .before .before .before .before .before .before .before .before .before .before .before .before .before .before .before .pre .1 .0))
+          (ticked _ (c .before .before .before .before .before .tick .result) (c .before .before .before .before .before .before .before .call .given .1) (toZ-ofZ (sample-fits (c .before .before .before .before .before .before))) (c .before .before .before .before .before .tick .ensures)),
+      omega (arith, c .before .before .say-tick .ensures, c .before .before .say-tick .kept .0, inv .4),
       read .kept .1 .0 ∙ inv .2,
-      say .kept .1 .1 .1 .1 .0 ∙ made .kept .1 .1 .1 .0 ∙ inv .3,
-      part-length (c .before .before .before .before .before .before .before .before .before .before .before .before .before .before .before .before .before .before .before .before .before .before .before .before .before .before .loop .out) (say .last .0) (room .result) (room .ensures) (say .kept .0) ∙ inv .4,
+      inv .3,
+      c .before .before .say-tick .kept .0 ∙ inv .4,
+    )
+
+loop-again-2 : tie.Need-loop-again-2 Inv-loop μ-loop
+loop-again-2 c =
+    let inv = c .before .before .before .before .before .before .before .before .before .before .before .before .before .before .before .before .before .before .before .before .before .before .before .before .before .before .before .before .before .before .before .loop .inv in
+    let read = c .before .before .before .before .before .before .before .before .before .before .before .before .before .before .before .before .before .before .before .before .before .read in
+    let room = c .before .before .before .before .before .before .before .before .before .before .before .before .before .before .before .before .call2 .given .0 .1 .0 in
+    let spare = c .before .before .before .before .before .before .before .before .before .before .before .before .before .lend .last .1 .0 in
+    let fits : room ≤ length spare = omega (arith, roomy (c .before .before .before .before .before .before .before .before .before .before .before .before .before .before .before .before .call2 .given .1) (read .ensures .within) .1, c .before .before .before .before .before .before .before .before .before .before .before .before .before .lend .kept .1 .0, inv .3, c .before .before .before .before .before .before .before .before .before .before .before .before .before .before .before .before .before .before .before .before .before .before .before .before .before .before .before .before .before .before .before .before .before .before .before .before .pre .1 .1) in (
+      step _ _ _ (c .before .before .before .before .before .before .before .before .before .before .before .before .before .before .before .before .before .before .before .before .before .before .before .before .before .before .before .before .before .before .next-line .ensures) (inv .0) (c .before .before .before .before .before .before .before .before .before .before .before .before .before .before .before .before .before .before .before .before .before .before .before .before .before .before .before .next .given .1) (read .ensures) (omega (arith, inv .2, c .before .before .before .before .before .before .before .before .before .before .before .before .before .before .before .before .before .before .before .before .before .before .before .before .before .before .before .before .before .before .before .before .before .before .before .before .pre .1 .0))
+          (asked _ (c .before .before .before .before .before .before .before .before .request .result) (c .before .before .before .before .before .before .before .before .before .before .before .before .before .before .before .before .call2 .given .1) (length-take-le room spare fits) (c .before .before .before .before .before .before .before .before .request .ensures)),
+      omega (arith, c .before .before .say-request .ensures, c .before .before .say-request .kept .0, inv .4),
+      read .kept .1 .0 ∙ inv .2,
+      part-length spare (c .before .before .before .before .before .before .before .before .request .last .1 .1 .0) room fits (c .before .before .before .before .before .before .before .before .request .kept .1 .1 .0) ∙ c .before .before .before .before .before .before .before .before .before .before .before .before .before .lend .kept .1 .0 ∙ inv .3,
+      c .before .before .say-request .kept .0 ∙ inv .4,
+    )
+
+loop-again-3 : tie.Need-loop-again-3 Inv-loop μ-loop
+loop-again-3 c =
+    let inv = c .before .before .before .before .before .before .before .before .before .before .before .before .before .before .before .before .before .before .before .before .before .before .before .before .before .before .before .before .before .before .before .before .loop .inv in
+    let read = c .before .before .before .before .before .before .before .before .before .before .before .before .before .before .before .before .before .before .before .before .before .before .read in (
+      step _ _ _ (c .before .before .before .before .before .before .before .before .before .before .before .before .before .before .before .before .before .before .before .before .before .before .before .before .before .before .before .before .before .before .before .next-line .ensures) (inv .0) (c .before .before .before .before .before .before .before .before .before .before .before .before .before .before .before .before .before .before .before .before .before .before .before .before .before .before .before .before .next .given .1) (read .ensures) (omega (arith, inv .2, c .before .before .before .before .before .before .before .before .before .before .before .before .before .before .before .before .before .before .before .before .before .before .before .before .before .before .before .before .before .before .before .before .before .before .before .before .before .pre .1 .0))
+          (rested _ (read .result) (c .before .before .before .before .before .before .before .before .before .before .before .before .before .before .before .before .before .before .before .match2 .keys2) (c .before .before .before .before .before .before .before .before .before .before .before .before .before .before .before .before .before .before .match3 .keys2) (read .ensures .within) (omega (arith, inv .3, c .before .before .before .before .before .before .before .before .before .before .before .before .before .before .before .before .before .before .before .before .before .before .before .before .before .before .before .before .before .before .before .before .before .before .before .before .before .pre .1 .1, c .before .before .before .before .before .before .before .before .before .before .before .before .before .before .before .before .lend2 .kept .1 .0)) (c .before .before .before .before .before .before .before .before .before .before .before .rest .ensures)),
+      omega (arith, c .before .before .before .before .say .ensures, c .before .before .before .before .say .kept .0, inv .4),
+      read .kept .1 .0 ∙ inv .2,
+      c .before .before .before .before .say .kept .1 .1 .1 .1 .1 .0 ∙ c .before .before .before .before .before .before .before .before .before .before .before .rest .kept .1 .1 .1 .0 ∙ c .before .before .before .before .before .before .before .before .before .before .before .before .before .before .before .before .lend2 .kept .1 .0 ∙ inv .3,
+      c .before .before .before .before .say .kept .0 ∙ inv .4,
     )
 
 pub answer-lines-spec : {M : Type 1} → statement M
@@ -68,7 +123,15 @@ answer-lines-spec =
     (λ c. search needs) (λ c. search needs) (λ c. search needs)
     (λ c. record { brings = brings-more _ _ _ (c .before .before .before .before .before .next-line .ensures) (c .before .before .before .before .before .before .loop .inv .0) (c .before .before .enum-told .given .1); waits = none-waits _ _ _ (c .before .before .before .before .before .next-line .ensures) (c .before .before .enum-told .given .1) })
     (λ c κs. omega (arith, c .before .before .before .before .before .before .loop .inv .1, c .before .before .before .before .before .before .loop .inv .4))
-    (λ c. behind c .order) (λ c. behind c .order) (λ c. omega (arith, behind c .inside)) (λ c κs. search needs) made-requires
-    (λ c. c .before .before .before .before .before .before .before .before .before .before .before .with-room .ensures)
-    (λ c. c .before .before .before .before .before .before .before .before .before .before .before .with-room .ensures) (λ c. search needs)
-    (λ c κs. search needs) add-len loop-less loop-again)
+    (λ c. behind c .order) (λ c. behind c .order) (λ c. omega (arith, behind c .inside)) (λ c κs. search needs)
+    (λ c. search needs) (λ c κs. c .before .before .before .before .before .before .before .before .before .before .before .before .before .before .before .loop .inv .0 .sound) (λ c κs. search needs)
+    (λ c. let b = behind (c .before .before .before .before .before .before .before .before .before .before .before .before .before .before) in omega (arith, b .place, b .ahead, b .inside)) loop-again
+    (λ c. search needs) (λ c. search needs) (λ c. search needs) (λ c κs. search needs)
+    (λ c. omega (arith, roomy (c .before .before .before .before .before .call2 .given .1) (c .before .before .before .before .before .before .before .before .before .before .read .ensures .within) .0, c .before .before .before .before .before .before .before .before .before .before .read .kept .1 .0, c .before .before .before .before .before .before .before .before .before .before .before .before .before .before .before .before .before .before .before .before .loop .inv .2, c .before .before .before .before .before .before .before .before .before .before .before .before .before .before .before .before .before .before .before .before .before .before .before .before .before .pre .1 .0))
+    (λ c. sym (length-take-le _ _ (omega (arith, roomy (c .before .before .before .before .before .before .call2 .given .1) (c .before .before .before .before .before .before .before .before .before .before .before .read .ensures .within) .0, c .before .before .before .before .before .before .before .before .before .before .before .read .kept .1 .0, c .before .before .before .before .before .before .before .before .before .before .before .before .before .before .before .before .before .before .before .before .before .loop .inv .2, c .before .before .before .before .before .before .before .before .before .before .before .before .before .before .before .before .before .before .before .before .before .before .before .before .before .before .pre .1 .0))))
+    (λ c. omega (arith, roomy (c .before .before .before .before .before .before .call2 .given .1) (c .before .before .before .before .before .before .before .before .before .before .before .read .ensures .within) .1, c .before .before .before .lend .kept .1 .0, c .before .before .before .before .before .before .before .before .before .before .before .before .before .before .before .before .before .before .before .before .before .loop .inv .3, c .before .before .before .before .before .before .before .before .before .before .before .before .before .before .before .before .before .before .before .before .before .before .before .before .before .before .pre .1 .1))
+    (λ c. sym (length-take-le _ _ (omega (arith, roomy (c .before .before .before .before .before .before .before .call2 .given .1) (c .before .before .before .before .before .before .before .before .before .before .before .before .read .ensures .within) .1, c .before .before .before .before .lend .kept .1 .0, c .before .before .before .before .before .before .before .before .before .before .before .before .before .before .before .before .before .before .before .before .before .before .loop .inv .3, c .before .before .before .before .before .before .before .before .before .before .before .before .before .before .before .before .before .before .before .before .before .before .before .before .before .before .before .pre .1 .1))))
+    (λ c κs. c .before .before .before .before .before .before .before .before .before .before .before .before .before .before .before .before .before .before .before .before .before .before .loop .inv .0 .sound) (λ c κs. search needs)
+    (λ c. let b = behind (c .before .before .before .before .before .before .before .before .before .before .before .before .before .before .before .before .before .before .before .before .before .before .before .before) in omega (arith, b .place, b .ahead, b .inside)) loop-again-2
+    (λ c κs. search needs) (λ c κs. c .before .before .before .before .before .before .before .before .before .before .before .before .before .before .before .before .before .before .before .before .loop .inv .0 .sound) (λ c κs. search needs)
+    (λ c. let b = behind (c .before .before .before .before .before .before .before .before .before .before .before .before .before .before .before .before .before .before .before .before .before .before .before .before .before) in omega (arith, b .place, b .ahead, b .inside)) loop-again-3)
