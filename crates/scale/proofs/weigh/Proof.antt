@@ -47,7 +47,7 @@ returns-2 c =
     let m = w .before in
     let e = m .before .before in
     let a = e .before .args in
-    let mean = m .mean-lent .ensures ∙ ap units (as-filtered (a .samples .now) (a .held) (a .n)) in
+    let mean = m .mean-lent .ensures ∙ ap units (as-filtered _ _ _) in
     c .shown2 .ensures
     ∙ ap showable (weighed (a .set) (window (e .before)) (a .z) (a .s) (a .n) (so (e .holds-none .ensures) (m .before .if1 .left)) mean (w .net .ensures) (o .before .stable-of .ensures) (o .over-capacity .ensures))
 
