@@ -12,8 +12,8 @@ use Rattle.laws.specs.Pick.{pick}
 use Rattle.paper.specs.Answer.{done, told, leaves}
 use Rattle.settings.specs.declared.Settings.{Settings}
 use Rattle.controller.specs.declared.Controller.{Controller}
-use Rattle.controller.specs.declared.SetTo.{SetTo}
-use Rattle.controller.specs.declared.ResetTo.{ResetTo}
+use Rattle.controller.specs.declared.Configured.{Configured}
+use Rattle.controller.specs.declared.Cleared.{Cleared}
 use Rattle.controller.specs.declared.RestartAnswer.{RestartAnswer}
 use Rattle.controller.specs.declared.RestartAnswer.the-variants as N
 use Rattle.controller.specs.declared.Restarted.{Restarted}
@@ -41,11 +41,11 @@ pub makes-link : {c d : Controller} {on : Bool} → Made (linkOf c on) d → Mak
 unfolding eventsIn run eventOf saidTo saidAt saysAct
 makes-link h = record { next = h .is; says = refl; sound = h .sound }
 
-pub makes-settings : {c : Controller} {set : Settings} {r : SetTo} → Sets c set r → Makes c (event (settings set)) (record { next = r .next; answer = A.Set (r .answer) })
+pub makes-settings : {c : Controller} {set : Settings} {r : Configured} → Sets c set r → Makes c (event (settings set)) (record { next = r .next; answer = A.Set (r .answer) })
 unfolding eventsIn run eventOf saidTo saidAt saysAct
 makes-settings h = record { next = h .next; says = ap taken (h .says); sound = h .sound }
 
-pub makes-reset : {c : Controller} {r : ResetTo} → Resets c r → Makes c (event reset) (record { next = r .next; answer = A.Reset (r .answer) })
+pub makes-reset : {c : Controller} {r : Cleared} → Resets c r → Makes c (event reset) (record { next = r .next; answer = A.Reset (r .answer) })
 unfolding eventsIn run eventOf saidTo saidAt saysAct
 makes-reset h = record { next = h .next; says = ap cleared (h .says); sound = h .sound }
 

@@ -55,6 +55,10 @@ pub made-tick : {c : Controller} (bytes : List ℕ) {x : ℤ} {i : ℕ} (r : Tic
 unfolding madeBy asCall askBy askOf eventsIn run eventOf
 made-tick bytes r h = record { next = h .next; sound = h .sound }
 
+pub made-ticked : {c : Controller} (bytes : List ℕ) {call : read.Call} {x y : ℤ} {i : ℕ} (r : Ticked) → call ≡ C.Tick x i → y ≡ x → Ticks c y i r → Made c (asCall bytes call) (r .next)
+made-ticked {c} bytes {i = i} r e f h =
+    subst (λ (k : read.Call). Made c (asCall bytes k) (r .next)) (sym e) (made-tick bytes r (subst (λ (z : ℤ). Ticks c z i r) f h))
+
 -- and a line request, with the room that it asks for
 pub made-asked : {c : Controller} (bytes : List ℕ) {old new : List ℕ} (n room : ℕ) (r : Requested) → length old ≡ room → Replies c (take n bytes) old new r → Made c (asCall bytes (C.Request n room)) (r .next)
 unfolding madeBy asCall askBy askOf eventsIn run eventOf blank

@@ -4,13 +4,14 @@ ghost use mathlib.Core.List.{_++_};
 ghost use Prim.Native.Nat.{_+_, _-_, _≤_};
 ghost use lib.ListN.{length, take, replicate};
 ghost use lib.Seq.{sets};
+ghost use Rattle.paper.specs.Answer.{Answer, told, bytesIn};
 ghost use Rattle.frame.specs.Check.{check, enter};
 ghost use Rattle.frame.specs.Table.{entries};
 ghost use Rattle.frame.specs.Frame.{sentByte, sent, frame};
-ghost use Rattle.frame.specs.Read.{grown, step, readAll, tooShort, bad};
-ghost use Rattle.frame.specs.Says.{ChecksTo, TellsFramable, Writes, Reads};
+ghost use Rattle.frame.specs.Read.{grown, step, readAll, tooShort, bad, Finished, answerOf};
+ghost use Rattle.frame.specs.Says.{saysFound, placeAndLength, bytesOf, ChecksTo, TellsFramable, Writes, Reads};
 ghost use Rattle.frame.specs.Puts.{Puts};
-ghost use Rattle.frame.specs.Stands.{stands, Held, Stands, Skips, Takes, Goes};
+ghost use Rattle.frame.specs.Stands.{stands, Held, Stands, Skips, Takes};
 
 mod table;
 
@@ -53,12 +54,6 @@ enum State {
         len: usize,
         place: usize,
     },
-}
-
-// How far reading has come, and the place to go on at.
-struct Ahead {
-    st: State,
-    at: usize,
 }
 
 // The table, made once for the bytes of a body.
@@ -291,30 +286,6 @@ fn fill(bytes: &[u8], i: usize, buf: &mut [u8], n: usize) -> usize
     k
 }
 
-// Reads on from place i over the bytes that leave a search a search and a body a body.
-fn run_on(st: State, bytes: &[u8], i: usize, buf: &mut [u8]) -> Ahead
-    requires { ⌜ (i ≤ length (now bytes)) × Held st (now buf) ⌝ }
-    ensures { λ r. ⌜ Goes (now (bytes .entry)) st (now (buf .entry)) i (r .st) (now (buf .exit)) (r .at) ⌝ }
-{
-    match st {
-        State::Seek => Ahead {
-            st,
-            at: skip(bytes, i),
-        },
-        State::Body { before, len } => {
-            let k = fill(bytes, i, buf, len);
-            Ahead {
-                st: State::Body {
-                    before,
-                    len: len + k,
-                },
-                at: i + k,
-            }
-        }
-        _ => Ahead { st, at: i },
-    }
-}
-
 // Reads bytes up to the end of the first finished body, which is left at the buffer's start.
 fn scan(bytes: &[u8], buf: &mut [u8]) -> State
     requires { ⌜ length (now buf) ≡ 255 ⌝ }
@@ -325,12 +296,23 @@ fn scan(bytes: &[u8], buf: &mut [u8]) -> State
     while i < bytes.len() {
         st = step(st, buf, i, bytes[i]);
         i += 1;
-        if let State::Ended { len: _, place: _ } = st {
-            return st;
+        match st {
+            State::Ended { len: _, place: _ } => {
+                return st;
+            }
+            State::Seek => {
+                i = skip(bytes, i);
+            }
+            State::Body { before, len } => {
+                let k = fill(bytes, i, buf, len);
+                st = State::Body {
+                    before,
+                    len: len + k,
+                };
+                i += k;
+            }
+            _ => {}
         }
-        let ahead = run_on(st, bytes, i, buf);
-        st = ahead.st;
-        i = ahead.at;
     }
     st
 }
@@ -370,13 +352,36 @@ fn clear(buf: &mut [u8], n: usize)
     }
 }
 
-// An answer with no body.
-fn no_body(found: Found) -> Read
-    ensures { λ r. ⌜ (r .found ≡ found) × (r .body ≡ replicate 255 0) ⌝ }
+// What is answered of n bytes where reading has come so far: R9 with its place, R6, or the body.
+fn answer_of(st: State, buf: &[u8], n: usize) -> Found
+    requires { ⌜ Held st (now buf) ⌝ }
+    ensures { λ r. ⌜ saysFound r ≡ told placeAndLength (answerOf n (stands st (now (buf .entry)))) ⌝ }
 {
-    Read {
-        found,
-        body: [0u8; 255],
+    match st {
+        State::Seek => Found::R9(n),
+        State::Lead(before) => Found::R9(before),
+        State::Body { before, len: _ } => Found::R9(before),
+        State::Mark {
+            before,
+            len: _,
+            last: _,
+        } => Found::R9(before),
+        State::Ended { len, place } => {
+            if bad(&buf[..len]) {
+                return Found::R6(place);
+            }
+            Found::Body { place, len }
+        }
+    }
+}
+
+// The length of the body that is answered; 0 where none is.
+fn body_len(found: Found) -> usize
+    ensures { λ r. ⌜ ((a : Answer Finished) → saysFound found ≡ told placeAndLength a → r ≡ length (bytesIn (told bytesOf a))) ⌝ }
+{
+    match found {
+        Found::Body { place: _, len } => len,
+        _ => 0,
     }
 }
 
@@ -386,24 +391,7 @@ pub fn read_frame(bytes: &[u8]) -> Read
 {
     let mut buf = [0u8; 255];
     let st = scan(bytes, &mut buf);
-    match st {
-        State::Seek => no_body(Found::R9(bytes.len())),
-        State::Lead(before) => no_body(Found::R9(before)),
-        State::Body { before, len: _ } => no_body(Found::R9(before)),
-        State::Mark {
-            before,
-            len: _,
-            last: _,
-        } => no_body(Found::R9(before)),
-        State::Ended { len, place } => {
-            if bad(&buf[..len]) {
-                return no_body(Found::R6(place));
-            }
-            clear(&mut buf, len);
-            Read {
-                found: Found::Body { place, len },
-                body: buf,
-            }
-        }
-    }
+    let found = answer_of(st, &buf, bytes.len());
+    clear(&mut buf, body_len(found));
+    Read { found, body: buf }
 }

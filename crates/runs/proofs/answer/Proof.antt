@@ -3,16 +3,14 @@ use mathlib.Core.List.{List, _++_}
 use Prim.Native.Nat.{ℕ, _-_, _≤_}
 use native.Mathlib.Omega.{arith}
 use denote.Ref.{now}
-use lib.IntN.{ℤ}
 use lib.ListN.{length, take, drop, length-append, length-drop}
 use lib.Seq.{length-take-le}
 use mir.Syntax.{w32}
 use mir.Val.{SFits}
 use mir.Facts.{toZ-ofZ}
 use Rattle.controller.specs.declared.Controller.{Controller}
-use Rattle.controller.specs.declared.Ticked.{Ticked}
 use Rattle.controller.specs.declared.Requested.{Requested}
-use Rattle.controller.specs.Says.{Ticks, Replies}
+use Rattle.controller.specs.Says.{Replies}
 use Rattle.calls.specs.declared.Call as read
 use Rattle.calls.specs.declared.Call.the-variants as C
 use Rattle.calls.specs.Reads.{asCall, Within, Reads}
@@ -20,17 +18,13 @@ use Rattle.lines.specs.declared.Intake.{Intake}
 use Rattle.lines.specs.declared.Taken.{Taken}
 use Rattle.lines.specs.declared.Next.the-variants.{Line}
 use Rattle.lines.specs.Intake.{nextOf, Behind}
-use Rattle.acts.specs.Script.{Made, Brings, brings-none, brings-line, brings-more, line-behind, line-short, none-waits, made-read, made-tick, made-asked}
+use Rattle.acts.specs.Script.{Made, Brings, brings-none, brings-line, brings-more, line-behind, line-short, none-waits, made-read, made-ticked, made-asked}
 use Rattle.runs.specs.Runs.{Stops}
 use borrow.Author.Needs.{needs}
 use Rattle.runs.proofs.answer.Statement.{statement}
 use Rattle.runs.proofs.answer.Tie as tie
 
 -- ---- what a line's call makes of the controller, by its way
-
-ticked : {c : Controller} (bytes : List ℕ) {call : read.Call} {x y : ℤ} {i : ℕ} (r : Ticked) → call ≡ C.Tick x i → y ≡ x → Ticks c y i r → Made c (asCall bytes call) (r .next)
-ticked {c} bytes {i = i} r e f h =
-    subst (λ (k : read.Call). Made c (asCall bytes k) (r .next)) (sym e) (made-tick bytes r (subst (λ (z : ℤ). Ticks c z i r) f h))
 
 asked : {c : Controller} (bytes : List ℕ) {call : read.Call} {n room : ℕ} {old new : List ℕ} (r : Requested) → call ≡ C.Request n room → length old ≡ room → Replies c (take n bytes) old new r → Made c (asCall bytes call) (r .next)
 asked {c} bytes {n = n} {room = room} r e f h = subst (λ (k : read.Call). Made c (asCall bytes k) (r .next)) (sym e) (made-asked bytes n room r f h)
@@ -71,7 +65,7 @@ loop-again c =
     let read = c .before .before .before .before .before .before .before .before .before .before .before .read in
     let b = behind (c .before .before .before .before .before .before .before .before .before .before .before .before .before .before) in (
       step _ _ _ (c .before .before .before .before .before .before .before .before .before .before .before .before .before .before .before .before .before .before .before .before .next-line .ensures) (inv .0) (c .before .before .before .before .before .before .before .before .before .before .before .before .before .before .before .before .before .next .given .1) (read .ensures) (omega (arith, inv .2, c .before .before .before .before .before .before .before .before .before .before .before .before .before .before .before .before .before .before .before .before .before .before .before .before .before .before .pre .1 .0))
-          (ticked _ (c .before .before .before .before .before .tick .result) (c .before .before .before .before .before .before .before .call .given .1) (toZ-ofZ (sample-fits (c .before .before .before .before .before .before))) (c .before .before .before .before .before .tick .ensures)),
+          (made-ticked _ (c .before .before .before .before .before .tick .result) (c .before .before .before .before .before .before .before .call .given .1) (toZ-ofZ (sample-fits (c .before .before .before .before .before .before))) (c .before .before .before .before .before .tick .ensures)),
       omega (arith, inv .1, b .place, b .ahead, b .inside),
       read .kept .1 .0 ∙ inv .2,
       inv .3,

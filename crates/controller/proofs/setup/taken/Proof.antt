@@ -1,7 +1,7 @@
 use mathlib.Core.Path.{refl}
 use Rattle.controller.specs.Calls.{taken}
-use Rattle.controller.proofs.calls.taken.Statement.{statement}
-use Rattle.controller.proofs.calls.taken.Tie as tie
+use Rattle.controller.proofs.setup.taken.Statement.{statement}
+use Rattle.controller.proofs.setup.taken.Tie as tie
 
 new-requires : tie.Need-new-requires
 new-requires c κs = tt

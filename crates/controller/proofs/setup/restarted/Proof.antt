@@ -1,6 +1,6 @@
 use Rattle.controller.specs.State.{restarted}
-use Rattle.controller.proofs.calls.restarted.Statement.{statement}
-use Rattle.controller.proofs.calls.restarted.Tie as tie
+use Rattle.controller.proofs.setup.restarted.Statement.{statement}
+use Rattle.controller.proofs.setup.restarted.Tie as tie
 
 new-requires : tie.Need-new-requires
 new-requires c κs = tt

@@ -1,12 +1,12 @@
 // Fresh and restarted controllers, settings, counter reset, counters and link start.
+use crate::Cleared;
 use crate::Condition;
+use crate::Configured;
 use crate::Controller;
 use crate::ResetAnswer;
-use crate::ResetTo;
 use crate::RestartAnswer;
 use crate::Restarted;
 use crate::SetAnswer;
-use crate::SetTo;
 use crate::is_ready;
 use channels::Runs;
 use counters::Counters;
@@ -17,15 +17,10 @@ use settings::Checked;
 use settings::Settings;
 use window::Window;
 ghost use mathlib.Core.Path.{_≡_};
-ghost use mathlib.Core.List.{[]};
-ghost use Rattle.laws.specs.Pick.{pick};
-ghost use Rattle.paper.specs.Answer.{done, refused, onDone};
-ghost use Rattle.paper.specs.Numbers.{R3, R15};
-ghost use Rattle.settings.specs.Says.{says};
 ghost use Rattle.controller.specs.State.{restarted};
-ghost use Rattle.controller.specs.Calls.{storedBad, noSet, taken};
+ghost use Rattle.controller.specs.Calls.{noController, taken};
 ghost use Rattle.controller.specs.Sound.{Sound};
-ghost use Rattle.controller.specs.Says.{saysSet, saysRestart, Freshens, Restarts, Sets, Resets, Counted, Links};
+ghost use Rattle.controller.specs.Says.{Freshens, Restarts, Sets, Resets, Counted, Links};
 
 impl Controller {
     // A restart with both at 0 and the default set.
@@ -39,43 +34,56 @@ impl Controller {
     pub fn restart(set: Settings, count: u32, total: u32) -> Restarted
         ensures { λ r. ⌜ Restarts set count total r ⌝ }
     {
-        let answer = restart_answer(set.check(), count, total);
-        if let RestartAnswer::Done = answer {
-            return made(set, count, total, answer);
+        if let Checked::R2(row) = set.check() {
+            return unmade(RestartAnswer::R2(row));
         }
-        made(no_set(), 0, 0, answer)
+        if (Counters::COUNT_MOST < count) | (Counters::TOTAL_MOST < total) {
+            return unmade(RestartAnswer::R15);
+        }
+        Restarted {
+            next: restarted(set, count, total),
+            answer: RestartAnswer::Done,
+        }
     }
 
     // Takes a set in Ready (R3), where it is good (R2).
-    pub fn settings(self, set: Settings) -> SetTo
+    pub fn settings(self, set: Settings) -> Configured
         requires { ⌜ Sound self ⌝ }
         ensures { λ r. ⌜ Sets self set r ⌝ }
     {
         let condition = self.condition;
         let phase = self.phase;
-        let answer = set_answer(is_ready(condition, phase), set.check());
-        if let SetAnswer::Taken = answer {
-            return taken(set, self);
+        if !is_ready(condition, phase) {
+            return Configured {
+                next: self,
+                answer: SetAnswer::R3,
+            };
         }
-        SetTo { next: self, answer }
+        match set.check() {
+            Checked::Good => taken(set, self),
+            Checked::R2(row) => Configured {
+                next: self,
+                answer: SetAnswer::R2(row),
+            },
+        }
     }
 
     // Puts count and total to 0 in Ready (R3).
-    pub fn reset(mut self) -> ResetTo
+    pub fn reset(mut self) -> Cleared
         requires { ⌜ Sound self ⌝ }
         ensures { λ r. ⌜ Resets self r ⌝ }
     {
         let condition = self.condition;
         let phase = self.phase;
         if !is_ready(condition, phase) {
-            return ResetTo {
+            return Cleared {
                 next: self,
                 answer: ResetAnswer::R3,
             };
         }
         let none = Counters { count: 0, total: 0 };
         self.counters = none;
-        ResetTo {
+        Cleared {
             next: self,
             answer: ResetAnswer::Done,
         }
@@ -97,36 +105,6 @@ impl Controller {
         self.link = on;
         self
     }
-}
-
-// What a restart answers: R2, then R15.
-fn restart_answer(checked: Checked, count: u32, total: u32) -> RestartAnswer
-    ensures { λ r. ⌜ saysRestart r ≡ onDone (says checked) (λ good. pick (storedBad count total) (refused R15 []) (done tt)) ⌝ }
-{
-    if let Checked::R2(row) = checked {
-        return RestartAnswer::R2(row);
-    }
-    if (Counters::COUNT_MOST < count) | (Counters::TOTAL_MOST < total) {
-        return RestartAnswer::R15;
-    }
-    RestartAnswer::Done
-}
-
-// What a set answers: R3 before R2.
-fn set_answer(ready: bool, checked: Checked) -> SetAnswer
-    ensures { λ r. ⌜ saysSet r ≡ pick ready (says checked) (refused R3 []) ⌝ }
-{
-    match checked {
-        Checked::Good => in_ready(ready, SetAnswer::Taken),
-        Checked::R2(row) => in_ready(ready, SetAnswer::R2(row)),
-    }
-}
-
-// The answer in Ready, else R3.
-fn in_ready(ready: bool, answer: SetAnswer) -> SetAnswer
-    ensures { λ r. ⌜ r ≡ pick ready answer SetAnswer.R3 ⌝ }
-{
-    if ready { answer } else { SetAnswer::R3 }
 }
 
 // A controller in Ready with an empty filter, Z at 0, no fault, no link start and all outputs closed.
@@ -162,21 +140,11 @@ fn restarted(set: Settings, count: u32, total: u32) -> Controller
     }
 }
 
-// A restart's controller beside its answer.
-fn made(set: Settings, count: u32, total: u32, answer: RestartAnswer) -> Restarted
-    ensures { λ r. ⌜ (r .next ≡ restarted set count total) × (r .answer ≡ answer) ⌝ }
+// A refused restart makes no controller: what stands in its place is of a set that is not good.
+fn unmade(answer: RestartAnswer) -> Restarted
+    ensures { λ r. ⌜ (r .next ≡ noController) × (r .answer ≡ answer) ⌝ }
 {
-    Restarted {
-        next: restarted(set, count, total),
-        answer,
-    }
-}
-
-// A set that is not good: a refused restart makes no controller.
-fn no_set() -> Settings
-    ensures { λ r. ⌜ r ≡ noSet ⌝ }
-{
-    Settings {
+    let set = Settings {
         algorithm: 0,
         capacity: 0,
         dose: 0,
@@ -195,11 +163,15 @@ fn no_set() -> Settings
         serial: 0,
         point: 0,
         product: 0,
+    };
+    Restarted {
+        next: restarted(set, 0, 0),
+        answer,
     }
 }
 
 // The filter is emptied, Z is 0, the runs are cleared and no tick was the last; all else is kept.
-fn taken(set: Settings, mut c: Controller) -> SetTo
+fn taken(set: Settings, mut c: Controller) -> Configured
     ensures { λ r. ⌜ (r .next ≡ taken set c) × (r .answer ≡ SetAnswer.Taken) ⌝ }
 {
     let zero = Units { v: 0 };
@@ -216,7 +188,7 @@ fn taken(set: Settings, mut c: Controller) -> SetTo
     c.s = 0;
     c.runs = runs;
     c.unstarted = false;
-    SetTo {
+    Configured {
         next: c,
         answer: SetAnswer::Taken,
     }
