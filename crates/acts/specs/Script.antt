@@ -77,6 +77,9 @@ made-read {c} {d} p h k m = subst (λ (q : Parsed Call). Made c q d) (read-call 
 pub brings-none : {c : Controller} {i : Intake} {input : List ℕ} → Sound c → Brings c i input c i
 brings-none s = record { sound = s; made = λ future. refl }
 
+pub brings-then : {first c d : Controller} {start held later : Intake} {input : List ℕ} → Brings first start input c held → Brings c held input d later → Brings first start input d later
+brings-then p q = record { sound = q .sound; made = λ future. p .made future ∙ q .made future }
+
 -- what the next line, or that there is none, tells
 module _ (input : List ℕ) (held : Intake) (t : Taken) (e : t ≡ nextOf held input) where
   steps : Steps held input t

@@ -1,4 +1,5 @@
 -- What a run of ticks and line requests makes of the controller in use. The text of an answer has no definition. Assumes nothing.
+use mathlib.Core.Path.{_≡_, subst}
 use mathlib.Core.List.{List}
 use Prim.Native.Nat.{ℕ, _-_, _<_}
 use types.Run.{OneOf}
@@ -34,3 +35,13 @@ Stops first start input bytes c held S.More = Brings first start input c held ×
 pub record Ran (first : Controller) (start : Intake) (input bytes : List ℕ) (r : Run) : Type 0 where
   pub sound : Sound (r .controller)
   pub stops : Stops first start input bytes (r .controller) (r .intake) (r .stop)
+
+-- ---- where it stopped
+
+pub ran-pending : {first : Controller} {start : Intake} {input bytes : List ℕ} (r : Run) {call : read.Call} → r .stop ≡ S.Call call → Ran first start input bytes r → Pending first start input bytes (r .controller) (r .intake) call
+unfolding Stops
+ran-pending {first} {start} {input} {bytes} r e h = subst (Stops first start input bytes (r .controller) (r .intake)) e (h .stops)
+
+pub ran-on : {first : Controller} {start : Intake} {input bytes : List ℕ} (r : Run) → r .stop ≡ S.More → Ran first start input bytes r → Brings first start input (r .controller) (r .intake) × Waits (r .intake) input
+unfolding Stops
+ran-on {first} {start} {input} {bytes} r e h = subst (Stops first start input bytes (r .controller) (r .intake)) e (h .stops)
