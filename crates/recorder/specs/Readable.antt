@@ -28,11 +28,11 @@ use Rattle.controller.specs.Sound.{Sound}
 use Rattle.lines.specs.Lines.{linesOf}
 use Rattle.calls.specs.Call.{callOf}
 use Rattle.acts.specs.Acts.{madeBy}
-use Rattle.clock.specs.Clock.{ticksAnHour, greatestHour, Note, note, withStage, withHour, withTicks, withWhole, withKnown, refusalText, refuse, firstOf, doseIn, closing, nextHour, oneMore, counts, restartedBy, lostBy, heardBy, Runs}
-use Rattle.recorder.specs.Recording.{heardOf, noteBy, noteOf, boxBy, nextOf, startOf, notesOf, recordOf, Carries}
+use Rattle.clock.specs.Clock.{ticksAnHour, greatestHour, Note, note, withStage, withHour, withTicks, withWhole, withKnown, refusalText, refuse, firstOf, doseIn, closing, nextHour, oneMore, counts, restartedBy, lostBy, heardBy, passedBy, Runs}
+use Rattle.recorder.specs.Recording.{heardOf, with, noteBy, noteOf, boxBy, nextOf, startOf, notesOf, recordOf, Carries}
 use Rattle.clock.specs.Clock as clock
 use Rattle.clock.specs.Marking.{Writable}
-use Rattle.clock.specs.Keeps.{on-in-range, dose-in-range, ticks-runs, next-runs, restarted-runs, lost-runs}
+use Rattle.clock.specs.Keeps.{on-in-range, dose-in-range, ticks-runs, next-runs, passed-runs}
 use Rattle.recorder.specs.Keeps.{made-sound, heard-writable, start-carries, note-carries}
 use Rattle.clock.specs.declared.Heard.{Heard}
 use Rattle.clock.specs.declared.Heard.the-variants.{Ticked, Dosed, Restarted, Lost, Other}
@@ -111,10 +111,6 @@ before {k} l r e f w = record {
 
 -- ---- what a line adds
 
--- a recorder with this box
-abbrev with : Controller → Clock → Recorder
-with c k = record { controller = c; clock = k }
-
 over-nothing : (r : Recorder) (ls : List (List ℕ)) → r .clock .stage ≡ Over → notesOf r ls ≡ []
 unfolding notesOf nextOf noteOf noteBy boxBy
 over-nothing r [] e = refl
@@ -188,11 +184,11 @@ dose-of h d m k = (record { range = dose-in-range h d m k; hour = refl; unclosed
 
 heard-written : (c : Controller) (k : Clock) (h : Heard) (ls : List (List ℕ)) → k .stage ≡ Recording → Sound c → Runs k → Writable h → Following ls
     → Written (k .hour) (heardBy k h .text ++ notesOf (with c (heardBy k h .next)) ls)
-unfolding heardBy restartedBy lostBy withKnown withWhole
+unfolding heardBy passedBy restartedBy lostBy withKnown withWhole
 heard-written c k Ticked ls s a m w rest = counts-written c k [] ls s a m (λ h. tt) rest
 heard-written c k (Dosed d) ls s a m w rest = counts-written c k (doseIn (k .hour) d ∷ []) ls s a m (λ h. dose-of (k .hour) d h w) rest
-heard-written c k Restarted ls s a m w rest = rest _ s (record { sound = a; runs = restarted-runs k m })
-heard-written c k Lost ls s a m w rest = rest _ s (record { sound = a; runs = lost-runs k m })
+heard-written c k Restarted ls s a m w rest = rest _ s (record { sound = a; runs = passed-runs k Restarted m })
+heard-written c k Lost ls s a m w rest = rest _ s (record { sound = a; runs = passed-runs k Lost m })
 heard-written c k Other ls s a m w rest = rest _ s (record { sound = a; runs = m })
 
 recording-written : (ls : List (List ℕ)) → Following ls
