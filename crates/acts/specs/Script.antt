@@ -18,11 +18,11 @@ use Rattle.lines.specs.declared.Taken.{Taken}
 use Rattle.lines.specs.declared.Next.{Next}
 use Rattle.lines.specs.declared.Next.the-variants.{Line, More}
 use Rattle.lines.specs.Places.{partOf}
-use Rattle.lines.specs.Intake.{comes, nextOf, handed, Behind, Waits, Stands, Steps, next-steps}
+use Rattle.lines.specs.Intake.{comes, nextOf, handed, Behind, Waits, NextStands, Steps, next-steps}
 use Rattle.calls.specs.Call.{Call, callOf}
 use Rattle.calls.specs.declared.Call as read
 use Rattle.calls.specs.declared.Call.the-variants as C
-use Rattle.calls.specs.Reads.{asCall, Within, Reads, read-call}
+use Rattle.calls.specs.Reads.{asCall, Within, ReadsCall, read-call}
 use Rattle.acts.specs.Acts.{Ask, blank, askOf, askBy, eventsIn, lent, madeBy}
 use Rattle.acts.specs.Makes.{Acts, lent-read}
 use Rattle.acts.specs.declared.Acted.{Acted}
@@ -68,7 +68,7 @@ made-asked {c} bytes n room r e h = record {
 }
 
 -- and a line of a fitting length, read with room for its bytes, is its call
-pub made-read : {c d : Controller} {call : read.Call} {line old new : List ℕ} → Reads line old new call → 2048 ≤ length old → length line ≤ 4095
+pub made-read : {c d : Controller} {call : read.Call} {line old new : List ℕ} → ReadsCall line old new call → 2048 ≤ length old → length line ≤ 4095
     → Made c (asCall new call) d → Made c (callOf line) d
 made-read {c} {d} p h k m = subst (λ (q : Parsed Call). Made c q d) (read-call p h k) m
 
@@ -86,10 +86,10 @@ module _ (input : List ℕ) (held : Intake) (t : Taken) (e : t ≡ nextOf held i
   steps = subst (Steps held input) (sym e) (next-steps held input)
 
   pub line-behind : {from to : ℕ} → t .next ≡ Line from to → Behind held input from to (t .intake)
-  line-behind n = subst (Stands held input (t .intake)) n (steps .stands)
+  line-behind n = subst (NextStands held input (t .intake)) n (steps .stands)
 
   pub none-waits : t .next ≡ More → Waits (t .intake) input
-  none-waits n = subst (Stands held input (t .intake)) n (steps .stands)
+  none-waits n = subst (NextStands held input (t .intake)) n (steps .stands)
 
   pub line-short : {from to : ℕ} → t .next ≡ Line from to → length (take (to - from) (drop from input)) ≤ 4095
   line-short {from} {to} n = omega (arith, line-behind n .short, length-take (to - from) (drop from input))

@@ -11,7 +11,7 @@ use Rattle.paper.specs.AnswerLaws.{refused-done, fault-done, done-refused, told
 use Rattle.frame.specs.Frame.{writeOf}
 use Rattle.frame.specs.Read.{Finished, readOf}
 use Rattle.frame.specs.ReadLaws.{done-whole}
-use Rattle.frame.specs.Says.{saysFound, placeAndLength, Reads}
+use Rattle.frame.specs.Says.{saysFound, placeAndLength, ReadsFrame}
 use Rattle.frame.specs.declared.Found.the-variants as F
 use Rattle.frame.specs.declared.Read.{Read}
 use Rattle.message.specs.Message.{partsOf, splitOf, buildOf}
@@ -60,7 +60,7 @@ whole-splits : (s : List ℕ) (f : Finished) → readOf s ≡ done f → splitOf
 unfolding splitOf
 whole-splits s f e = pick-f _ _ _ (done-whole s f e .long)
 
-pub found-body : (s : List ℕ) (r : Read) {place len : ℕ} → Reads s r → r .found ≡ F.Body place len → Finds s (r .body) place len
+pub found-body : (s : List ℕ) (r : Read) {place len : ℕ} → ReadsFrame s r → r .found ≡ F.Body place len → Finds s (r .body) place len
 unfolding told bytesIn
 found-body s r {place} {len} reads e =
     told-done placeAndLength (readOf s) (place, len) (sym (ap saysFound e) ∙ reads .says)
@@ -88,7 +88,7 @@ heard-unread s {n} {vs} e = rw (told-refused placeAndLength (readOf s) n vs (sym
 -- ---- what building handed over
 
 -- the body that was built stands in its array
-pub record Stands (form : Form) (op : ℕ) (holds : Reply) (array : List ℕ) (n : ℕ) : Type 0 where
+pub record BodyStands (form : Form) (op : ℕ) (holds : Reply) (array : List ℕ) (n : ℕ) : Type 0 where
   pub body : List ℕ
   pub built : buildOf form op (replyBytes holds) ≡ done body
   pub front : Front body array n
@@ -100,7 +100,7 @@ module _ (form : Form) (op : ℕ) (holds : Reply) (built : Built) {array : List 
   not-built n e old =
       fills-refused (ap (λ (a : Answer (List ℕ)). onDone a (λ body. writeOf body (length old))) (told-refused length (buildOf form op (replyBytes holds)) n [] (sym (hands .says) ∙ e))) old
 
-  pub built-stands : {n : ℕ} → built ≡ B.Body n → Stands form op holds array n
+  pub built-stands : {n : ℕ} → built ≡ B.Body n → BodyStands form op holds array n
   unfolding bytesIn
   built-stands {n} e =
       told-done length (buildOf form op (replyBytes holds)) n (sym (ap saysBuilt e) ∙ hands .says)
@@ -111,6 +111,6 @@ module _ (form : Form) (op : ℕ) (holds : Reply) (built : Built) {array : List 
       })
 
 -- what was built is framed
-pub built-replies : {form : Form} {op : ℕ} {holds : Reply} {array : List ℕ} {n : ℕ} (s : Stands form op holds array n) (room : ℕ) → writeOf (take n array) room ≡ replyOf form op holds room
+pub built-replies : {form : Form} {op : ℕ} {holds : Reply} {array : List ℕ} {n : ℕ} (s : BodyStands form op holds array n) (room : ℕ) → writeOf (take n array) room ≡ replyOf form op holds room
 unfolding replyOf onDone
 built-replies s room = ap (λ (b : List ℕ). writeOf b room) (s .front .is) ∙ sym (ap (λ (a : Answer (List ℕ)). onDone a (λ body. writeOf body room)) (s .built))

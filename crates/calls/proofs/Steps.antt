@@ -18,7 +18,7 @@ use Rattle.operands.specs.Numbers.{signedField, leadsSigned, ReadsSigned}
 use Rattle.operands.specs.Bytes.{carried, carried-half}
 use Rattle.operands.specs.declared.Signed.{Signed}
 use Rattle.calls.specs.Call.{Call, greatest32, bytesAt, bytesField, orLast, atEnd, callBy, callOf}
-use Rattle.calls.specs.Reads.{asCall, sizeOf, Within, parts, bytesIn, readIn, Reads, known}
+use Rattle.calls.specs.Reads.{asCall, sizeOf, Within, parts, bytesIn, readIn, ReadsCall, known}
 use Rattle.calls.specs.Reading.{Counts, Ended, Asks}
 use Rattle.calls.specs.declared.Numbers.{Numbers}
 use Rattle.calls.specs.declared.Call as declared
@@ -105,21 +105,21 @@ call-by [] = refl
 call-by (x ∷ xs) = refl
 
 module _ {l old : List ℕ} where
-  unread : readIn (length old) l ≡ bad → Reads l old old C.Unknown
+  unread : readIn (length old) l ≡ bad → ReadsCall l old old C.Unknown
   unfolding asCall parts Within over
   unread e = record { reads = sym e; left = ap (λ (p : Parsed Call). over (bytesIn p) old) (sym e); within = tt }
 
   -- no room for the bytes of every line
-  pub unread-room : length old < 2048 → Reads l old old C.Unknown
+  pub unread-room : length old < 2048 → ReadsCall l old old C.Unknown
   unfolding readIn
   unread-room h = unread (pick-f _ _ _ (ap (λ (t : Bool). t && leb (length l) 4095) (lt-leb _ _ h)))
 
   -- too long a line
-  pub unread-long : 2048 ≤ length old → 4095 < length l → Reads l old old C.Unknown
+  pub unread-long : 2048 ≤ length old → 4095 < length l → ReadsCall l old old C.Unknown
   unfolding readIn
   unread-long h k = unread (pick-f _ _ _ (ap (λ (t : Bool). t && leb (length l) 4095) (le-leb _ _ h) ∙ lt-leb _ _ k))
 
-  pub stored : {new : List ℕ} {r : declared.Call} → Asks l (callBy (getD l 0 0) (drop 1 l)) r → 2048 ≤ length old → length l ≤ 4095 → new ≡ sets old 0 (take (sizeOf r) (carried l)) → Reads l old new r
+  pub stored : {new : List ℕ} {r : declared.Call} → Asks l (callBy (getD l 0 0) (drop 1 l)) r → 2048 ≤ length old → length l ≤ 4095 → new ≡ sets old 0 (take (sizeOf r) (carried l)) → ReadsCall l old new r
   unfolding readIn over
   stored {new} {r} a h k e =
       let b = take (sizeOf r) (carried l) in

@@ -116,7 +116,7 @@ Within (C.Hours n room) = (n ≤ 2048) × (room ≤ 2000)
 Within C.Unknown = Unit {0}
 
 -- the answer is the line's call; its bytes stand at the buffer's start, the rest of which is as it was: all of it where the line is no call
-pub record Reads (l old new : List ℕ) (r : declared.Call) : Type 0 where
+pub record ReadsCall (l old new : List ℕ) (r : declared.Call) : Type 0 where
   pub reads : asCall new r ≡ readIn (length old) l
   pub left : new ≡ over (bytesIn (readIn (length old) l)) old
   pub within : Within r
@@ -152,7 +152,7 @@ known C.Unknown = record { bytes = λ b. refl; same = λ a b e. refl; few = λ w
 
 -- ---- what a caller of the reader knows
 
-module _ {l old new : List ℕ} {r : declared.Call} (p : Reads l old new r) where
+module _ {l old new : List ℕ} {r : declared.Call} (p : ReadsCall l old new r) where
   size-fits : sizeOf r ≤ length old
   unfolding readIn
   size-fits =
@@ -181,7 +181,7 @@ module _ {l old new : List ℕ} {r : declared.Call} (p : Reads l old new r) wher
   read-call h k = p .reads ∙ pick-t _ _ _ (ap (λ (t : Bool). t && leb (length l) 4095) (le-leb _ _ h) ∙ le-leb _ _ k)
 
 -- two results that both meet the contract are equal
-pub read-determined : {l old new new' : List ℕ} {r r' : declared.Call} → Reads l old new r → Reads l old new' r' → (r ≡ r') × (new ≡ new')
+pub read-determined : {l old new new' : List ℕ} {r r' : declared.Call} → ReadsCall l old new r → ReadsCall l old new' r' → (r ≡ r') × (new ≡ new')
 read-determined {l} {old} {new} {new'} {r} {r'} p q =
     let n : new ≡ new' = p .left ∙ sym (q .left) in
     let e : asCall new r ≡ asCall new' r' = p .reads ∙ sym (q .reads) in

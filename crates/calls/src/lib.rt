@@ -11,7 +11,7 @@ ghost use mathlib.Core.Path.{_≡_};
 ghost use Prim.Native.Nat.{_≤_};
 ghost use lib.ListN.{length, drop, getD};
 ghost use Rattle.calls.specs.Call.{callBy};
-ghost use Rattle.calls.specs.Reads.{Sizes, Reads};
+ghost use Rattle.calls.specs.Reads.{Sizes, ReadsCall};
 ghost use Rattle.calls.specs.Reading.{Asks};
 
 // n numbers read at a place; the others are 0.
@@ -110,7 +110,7 @@ pub fn size_of(call: Call) -> usize
 
 // The call of a line, its LF left out; its bytes are stored at the start of `bytes`, which is left as it was where the line is no call.
 pub fn read(line: &[u8], bytes: &mut [u8]) -> Call
-    ensures { λ r. ⌜ Reads (now (line .entry)) (now (bytes .entry)) (now (bytes .exit)) r ⌝ }
+    ensures { λ r. ⌜ ReadsCall (now (line .entry)) (now (bytes .entry)) (now (bytes .exit)) r ⌝ }
 {
     if bytes.len() < BYTES {
         return Call::Unknown;

@@ -8,8 +8,8 @@ use lib.Seq.{length-take-le}
 use Rattle.laws.specs.Pick.{pick-all}
 use Rattle.paper.specs.Answer.{Answer, told, bytesIn}
 use Rattle.frame.specs.Read.{Finished, bad, judged, answerOf, readAll, readOf}
-use Rattle.frame.specs.Says.{saysFound, placeAndLength, bytesOf, Reads}
-use Rattle.frame.specs.Stands.{stands, fits, Held, Stands}
+use Rattle.frame.specs.Says.{saysFound, placeAndLength, bytesOf, ReadsFrame}
+use Rattle.frame.specs.Stands.{stands, fits, Held, HoldsReading}
 use Rattle.frame.specs.declared.State.{State}
 use Rattle.frame.specs.declared.State.the-variants as S
 use Rattle.frame.specs.declared.Found.{Found}
@@ -42,11 +42,11 @@ answer-front n (S.Ended m k) buf h =
 pub in-buffer : (n m : ℕ) (st : State) (buf : List ℕ) → Held st buf → m ≡ length (handed (answerOf n (stands st buf))) → m ≤ length buf
 in-buffer n m st buf h e = omega (arith, e, answer-front n st buf h .most, h .full)
 
-module _ (s buf new : List ℕ) (st : State) (found : Found) (n : ℕ) (t : Stands st buf (readAll s)) where
+module _ (s buf new : List ℕ) (st : State) (found : Found) (n : ℕ) (t : HoldsReading st buf (readAll s)) where
   abbrev answer : Answer Finished
   answer = answerOf (length s) (stands st buf)
 
-  pub reads : saysFound found ≡ told placeAndLength answer → n ≡ length (handed answer) → new ≡ take n buf ++ replicate (length buf - n) 0 → Reads s (record { found = found; body = new })
+  pub reads : saysFound found ≡ told placeAndLength answer → n ≡ length (handed answer) → new ≡ take n buf ++ replicate (length buf - n) 0 → ReadsFrame s (record { found = found; body = new })
   unfolding readOf
   reads a m h =
       let e : answer ≡ readOf s = ap (answerOf (length s)) (t .reading) in

@@ -28,7 +28,7 @@ pub record Held (st : State) (buf : List ℕ) : Type 0 where
   pub full : length buf ≡ 255
 
 -- state and buffer stand for this reading
-pub record Stands (st : State) (buf : List ℕ) (r : Reading) : Type 0 where
+pub record HoldsReading (st : State) (buf : List ℕ) (r : Reading) : Type 0 where
   pub reading : stands st buf ≡ r
   pub held : Held st buf
 

@@ -9,9 +9,9 @@ ghost use Rattle.frame.specs.Check.{check, enter};
 ghost use Rattle.frame.specs.Table.{entries};
 ghost use Rattle.frame.specs.Frame.{sentByte, sent, frame};
 ghost use Rattle.frame.specs.Read.{grown, step, readAll, tooShort, bad, Finished, answerOf};
-ghost use Rattle.frame.specs.Says.{saysFound, placeAndLength, bytesOf, ChecksTo, TellsFramable, Writes, Reads};
-ghost use Rattle.frame.specs.Puts.{Puts};
-ghost use Rattle.frame.specs.Stands.{stands, Held, Stands, Skips, Takes};
+ghost use Rattle.frame.specs.Says.{saysFound, placeAndLength, bytesOf, ChecksTo, TellsFramable, Writes, ReadsFrame};
+ghost use Rattle.frame.specs.Puts.{PutsBytes};
+ghost use Rattle.frame.specs.Stands.{stands, Held, HoldsReading, Skips, Takes};
 
 mod table;
 
@@ -140,10 +140,10 @@ fn frame_len(body: &[u8], c: u8) -> usize
     sent_len(body) + byte_len(c) + 3
 }
 
-// Puts a body byte as it is sent, and answers the place after it.
+// PutsBytes a body byte as it is sent, and answers the place after it.
 fn put_byte(out: &mut [u8], at: usize, b: u8) -> usize
     requires { ⌜ at + length (sentByte b) ≤ length (now out) ⌝ }
-    ensures { λ r. ⌜ Puts (sentByte b) (now (out .entry)) (now (out .exit)) at r ⌝ }
+    ensures { λ r. ⌜ PutsBytes (sentByte b) (now (out .entry)) (now (out .exit)) at r ⌝ }
 {
     out[at] = b;
     if b == 0xFF {
@@ -153,10 +153,10 @@ fn put_byte(out: &mut [u8], at: usize, b: u8) -> usize
     at + 1
 }
 
-// Puts a body as it is sent, and answers the place after it.
+// PutsBytes a body as it is sent, and answers the place after it.
 fn put_body(out: &mut [u8], at: usize, body: &[u8]) -> usize
     requires { ⌜ at + length (sent (now body)) ≤ length (now out) ⌝ }
-    ensures { λ r. ⌜ Puts (sent (now (body .entry))) (now (out .entry)) (now (out .exit)) at r ⌝ }
+    ensures { λ r. ⌜ PutsBytes (sent (now (body .entry))) (now (out .entry)) (now (out .exit)) at r ⌝ }
 {
     let mut to = at;
     let mut i: usize = 0;
@@ -167,7 +167,7 @@ fn put_body(out: &mut [u8], at: usize, body: &[u8]) -> usize
     to
 }
 
-// Puts a body's frame at the buffer's start; c is the body's check byte.
+// PutsBytes a body's frame at the buffer's start; c is the body's check byte.
 fn put_frame(out: &mut [u8], body: &[u8], c: u8)
     requires { ⌜ (length (frame (now body)) ≤ length (now out)) × (c ≡ check (now body)) ⌝ }
     ensures { λ _. ⌜ now (out .exit) ≡ sets (now (out .entry)) 0 (frame (now (body .entry))) ⌝ }
@@ -198,7 +198,7 @@ pub fn write_frame(body: &[u8], out: &mut [u8]) -> Wrote
 // A body of n bytes grows by one, or is dropped.
 fn grow(buf: &mut [u8], before: usize, n: usize, b: u8) -> State
     requires { ⌜ (length (now buf) ≡ 255) × (n ≤ 255) ⌝ }
-    ensures { λ r. ⌜ Stands r (now (buf .exit)) (grown before (take n (now (buf .entry))) b) ⌝ }
+    ensures { λ r. ⌜ HoldsReading r (now (buf .exit)) (grown before (take n (now (buf .entry))) b) ⌝ }
 {
     if n < 255 {
         buf[n] = b;
@@ -210,7 +210,7 @@ fn grow(buf: &mut [u8], before: usize, n: usize, b: u8) -> State
 // The byte b at place i is read.
 fn step(st: State, buf: &mut [u8], i: usize, b: u8) -> State
     requires { ⌜ Held st (now buf) ⌝ }
-    ensures { λ r. ⌜ Stands r (now (buf .exit)) (step (stands st (now (buf .entry))) i b) ⌝ }
+    ensures { λ r. ⌜ HoldsReading r (now (buf .exit)) (step (stands st (now (buf .entry))) i b) ⌝ }
 {
     match st {
         State::Seek => {
@@ -286,10 +286,10 @@ fn fill(bytes: &[u8], i: usize, buf: &mut [u8], n: usize) -> usize
     k
 }
 
-// Reads bytes up to the end of the first finished body, which is left at the buffer's start.
+// ReadsFrame bytes up to the end of the first finished body, which is left at the buffer's start.
 fn scan(bytes: &[u8], buf: &mut [u8]) -> State
     requires { ⌜ length (now buf) ≡ 255 ⌝ }
-    ensures { λ r. ⌜ Stands r (now (buf .exit)) (readAll (now (bytes .entry))) ⌝ }
+    ensures { λ r. ⌜ HoldsReading r (now (buf .exit)) (readAll (now (bytes .entry))) ⌝ }
 {
     let mut st = State::Seek;
     let mut i: usize = 0;
@@ -340,7 +340,7 @@ fn bad(body: &[u8]) -> bool
     check_byte(body) != 0
 }
 
-// Puts 0 at each place from n on.
+// PutsBytes 0 at each place from n on.
 fn clear(buf: &mut [u8], n: usize)
     requires { ⌜ n ≤ length (now buf) ⌝ }
     ensures { λ _. ⌜ now (buf .exit) ≡ take n (now (buf .entry)) ++ replicate (length (now (buf .entry)) - n) 0 ⌝ }
@@ -385,9 +385,9 @@ fn body_len(found: Found) -> usize
     }
 }
 
-// Reads bytes up to the end of the first finished body, and answers that body or why there is none.
+// ReadsFrame bytes up to the end of the first finished body, and answers that body or why there is none.
 pub fn read_frame(bytes: &[u8]) -> Read
-    ensures { λ r. ⌜ Reads (now (bytes .entry)) r ⌝ }
+    ensures { λ r. ⌜ ReadsFrame (now (bytes .entry)) r ⌝ }
 {
     let mut buf = [0u8; 255];
     let st = scan(bytes, &mut buf);

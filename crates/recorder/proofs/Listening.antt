@@ -19,7 +19,7 @@ use Rattle.controller.specs.Says.{saysTick, Ticks}
 use Rattle.controller.specs.Tick.{saysFault}
 use Rattle.series.specs.Events.{run}
 use Rattle.calls.specs.Call.{callOf}
-use Rattle.calls.specs.Reads.{asCall, Reads, read-call}
+use Rattle.calls.specs.Reads.{asCall, ReadsCall, read-call}
 use Rattle.calls.specs.declared.Call as read
 use Rattle.calls.specs.declared.Call.the-variants as C
 use Rattle.calls.proofs.Call.{the-type as call-type}
@@ -94,15 +94,15 @@ pub record Heard-as (c : Controller) (l : List ℕ) (d : Controller) (h : Heard)
 
 module _ {l old new : List ℕ} {c : Controller} (room : 2048 ≤ length old) (short : length l ≤ 4095) where
   -- a tick
-  pub tick-heard : {call : read.Call} {x : ℤ} {i : ℕ} {h : Heard} (r : Ticked) → Reads l old new call → call ≡ C.Tick x i → SFits w32 x → Ticks c (toZ w32 (ofZ w32 x)) i r → h ≡ heardTick (saysTick (r .answer)) → Heard-as c l (r .next) h
+  pub tick-heard : {call : read.Call} {x : ℤ} {i : ℕ} {h : Heard} (r : Ticked) → ReadsCall l old new call → call ≡ C.Tick x i → SFits w32 x → Ticks c (toZ w32 (ofZ w32 x)) i r → h ≡ heardTick (saysTick (r .answer)) → Heard-as c l (r .next) h
   unfolding heardOf heardSaid saidTo saidAt asCall askBy askOf
   tick-heard {i = i} r read is fits told e =
-      let p = subst (Reads l old new) is read in
+      let p = subst (ReadsCall l old new) is read in
       let t = subst (λ (x : ℤ). Ticks c x i r) (toZ-ofZ fits) told in
       record { box = made-read p room short (made-tick new r t) .next; heard = e ∙ ap heardTick (t .says) ∙ ap (heardOf c) (read-call p room short) }
 
   -- any other call
-  pub other-heard : {reply left : List ℕ} {h : Heard} (call : read.Call) (r : Acted) → 64 ≤ length reply → OneOf unticked (tagOf call-type call) → Reads l old new call
+  pub other-heard : {reply left : List ℕ} {h : Heard} (call : read.Call) (r : Acted) → 64 ≤ length reply → OneOf unticked (tagOf call-type call) → ReadsCall l old new call
       → Acts c (beside false (lent (length reply) (askBy (asCall new call)))) reply left r → Hears (r .answer) h → Heard-as c l (r .next) h
   unfolding madeBy heardOf
   other-heard {reply} call r enough k p a e =

@@ -8,7 +8,7 @@ use Rattle.paper.specs.Numbers.{R14}
 use Rattle.message.specs.Message.{improper, buildOf}
 use Rattle.message.specs.Says.{saysBuilt}
 use Rattle.asking.specs.Asking.{replyBytes}
-use Rattle.asking.proofs.Laws.{Stands, built-stands, not-built, built-replies}
+use Rattle.asking.proofs.Laws.{BodyStands, built-stands, not-built, built-replies}
 use Rattle.asking.proofs.write_reply.Statement.{statement}
 use Rattle.asking.proofs.write_reply.Tie as tie
 
@@ -18,7 +18,7 @@ first c = c .before .before .before .before .before
 hands : (c : tie.After-build-body) → Hands 254 (saysBuilt (c .build-body .result .built)) (buildOf (first c .args .form) (first c .args .operation) (replyBytes (first c .args .holds))) (c .build-body .result .bytes)
 hands c = rw (c .before .before .before .data-of .ensures .front) at (c .build-body .ensures)
 
-stands : (c : tie.After-built) → Stands (first (c .before .before) .args .form) (first (c .before .before) .args .operation) (first (c .before .before) .args .holds) (c .before .before .build-body .result .bytes) (c .built .given .0 .0)
+stands : (c : tie.After-built) → BodyStands (first (c .before .before) .args .form) (first (c .before .before) .args .operation) (first (c .before .before) .args .holds) (c .before .before .build-body .result .bytes) (c .built .given .0 .0)
 stands c = let b = c .before .before in built-stands _ _ _ (b .build-body .result .built) (hands b) (c .built .given .1)
 
 data-of-requires : tie.Need-data-of-requires

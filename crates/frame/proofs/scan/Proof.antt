@@ -7,7 +7,7 @@ use borrow.Author.Needs.{needs}
 use lib.ListN.{length, take, drop, drop-of-length-le}
 use Rattle.frame.specs.Read.{ended, run, readAll}
 use Rattle.frame.specs.ReadLaws.{run-ended}
-use Rattle.frame.specs.Stands.{stands, fits, Held, Stands, Skips, Takes}
+use Rattle.frame.specs.Stands.{stands, fits, Held, HoldsReading, Skips, Takes}
 use Rattle.frame.specs.declared.State.{State}
 use Rattle.frame.specs.declared.State.the-variants as S
 use Rattle.frame.proofs.Laws.{run-step}
@@ -57,7 +57,7 @@ enum-told c = search needs
 same-length : tie.Need-same-length Inv-loop μ-loop
 same-length c = omega (arith, c .before .before .before .before .step .ensures .held .full)
 
-finished : {s buf : List ℕ} {st : State} {i n k : ℕ} → st ≡ S.Ended n k → Left s buf st i → Stands st buf (readAll s)
+finished : {s buf : List ℕ} {st : State} {i n k : ℕ} → st ≡ S.Ended n k → Left s buf st i → HoldsReading st buf (readAll s)
 unfolding stands
 finished {s} {buf} {st} {i} {n} {k} e t =
     let z : stands st buf ≡ ended (take n buf) k = rw e in

@@ -13,7 +13,7 @@ use Rattle.controller.specs.declared.Requested.{Requested}
 use Rattle.controller.specs.Says.{Replies}
 use Rattle.calls.specs.declared.Call as read
 use Rattle.calls.specs.declared.Call.the-variants as C
-use Rattle.calls.specs.Reads.{asCall, Within, Reads}
+use Rattle.calls.specs.Reads.{asCall, Within, ReadsCall}
 use Rattle.lines.specs.declared.Intake.{Intake}
 use Rattle.lines.specs.declared.Taken.{Taken}
 use Rattle.lines.specs.declared.Next.the-variants.{Line}
@@ -40,7 +40,7 @@ part-length spare part k h e = omega (arith, e, length-append part (drop k spare
 
 -- the lines behind it find that controller
 step : (input : List ℕ) (held : Intake) (t : Taken) → t ≡ nextOf held input → {first c d : Controller} {start : Intake} {from to : ℕ} {call : read.Call} {old new : List ℕ}
-    → Brings first start input c held → t .next ≡ Line from to → Reads (take (to - from) (drop from input)) old new call → 2048 ≤ length old → Made c (asCall new call) d → Brings first start input d (t .intake)
+    → Brings first start input c held → t .next ≡ Line from to → ReadsCall (take (to - from) (drop from input)) old new call → 2048 ≤ length old → Made c (asCall new call) d → Brings first start input d (t .intake)
 step input held t e g n r h m = brings-line input held t e g n (made-read r h (line-short input held t e n) m)
 
 -- ---- the loop
