@@ -79,11 +79,11 @@ fn refused(c: Controller, answer: RequestAnswer) -> Requested
 }
 
 // A request that is answered sets Z at most.
-fn zeroed(mut c: Controller, z: Units, answer: RequestAnswer) -> Requested
+fn zeroed(c: Controller, z: Units, answer: RequestAnswer) -> Requested
     ensures { λ r. ⌜ (r .next ≡ withZ z c) × (r .answer ≡ answer) ⌝ }
 {
-    c.z = z;
-    Requested { next: c, answer }
+    let next = Controller { z, ..c };
+    Requested { next, answer }
 }
 
 // C0 wants Ready; no other request does.
