@@ -5,16 +5,15 @@ use Prim.Native.Nat.{ℕ, _≤_, min}
 use native.Mathlib.Nat.{min-le-left, min-comm}
 use types.Run.{OneOf, miss}
 use denote.Enum.Declared.{tagOf}
-use lib.IntN.{ℤ}
-use mathlib.Core.Bool.{Bool}
+use mathlib.Core.Bool.{Bool, true}
 use lib.ListN.{length, take, drop, replicate, length-take, length-replicate}
 use lib.Seq.{length-take-le}
+use Rattle.laws.specs.Pick.{pick}
 use Rattle.paper.specs.Answer.{done, told, leaves}
 use Rattle.settings.specs.declared.Settings.{Settings}
 use Rattle.controller.specs.declared.Controller.{Controller}
-use Rattle.controller.specs.declared.Ticked.{Ticked}
-use Rattle.controller.specs.declared.SetTo.{SetTo}
-use Rattle.controller.specs.declared.ResetTo.{ResetTo}
+use Rattle.controller.specs.declared.Configured.{Configured}
+use Rattle.controller.specs.declared.Cleared.{Cleared}
 use Rattle.controller.specs.declared.RestartAnswer.{RestartAnswer}
 use Rattle.controller.specs.declared.RestartAnswer.the-variants as N
 use Rattle.controller.specs.declared.Restarted.{Restarted}
@@ -24,33 +23,29 @@ use Rattle.controller.specs.Calls.{linkOf, restartOf}
 use Rattle.controller.specs.Line.{requestOf}
 use Rattle.controller.specs.Modbus.{modbusOf}
 use Rattle.controller.specs.Made.{Made}
-use Rattle.controller.specs.Says.{saysRestart, placeAndLength, bytesOf, Ticks, Sets, Resets, Restarts, Replies, Polls}
+use Rattle.controller.specs.Says.{saysRestart, placeAndLength, bytesOf, Sets, Resets, Restarts, Replies, Polls}
 use Rattle.controller.specs.Sound.{Sound}
-use Rattle.series.specs.Events.{Event, tick, link, settings, reset, restart, request, modbus, eventOf, run}
+use Rattle.series.specs.Events.{Event, link, settings, reset, restart, request, modbus, eventOf, run}
 use Rattle.lines.specs.Places.{take-least}
 use Rattle.calls.specs.declared.Call as read
 use Rattle.calls.specs.declared.Call.the-variants as C
 use Rattle.calls.proofs.Call.{the-type as call-type}
 use Rattle.calls.specs.Reads.{asCall}
-use Rattle.acts.specs.Acts.{Ask, event, nothing, blank, askOf, askBy, eventsIn, ticked, taken, cleared, restarted, replied, polled, saidAt, saidTo, leftAt, leftBy, lent}
+use Rattle.acts.specs.Acts.{Ask, event, nothing, blank, askOf, askBy, eventsIn, taken, cleared, restarted, replied, polled, saidAt, saidTo, leftAt, leftBy, lentTo, lent, beside}
 use Rattle.acts.specs.Makes.{saysAct, Makes, Acts, inUse, restart-kept}
 use Rattle.acts.specs.declared.Answer as declared
 use Rattle.acts.specs.declared.Answer.the-variants as A
 use Rattle.acts.specs.declared.Acted.{Acted}
 
-pub makes-tick : {c : Controller} {x : ℤ} {i : ℕ} {r : Ticked} → Ticks c x i r → Makes c (event (tick x i)) (record { next = r .next; answer = A.Tick (r .answer) })
-unfolding eventsIn run eventOf saidTo saidAt saysAct
-makes-tick h = record { next = h .next; says = ap ticked (h .says); sound = h .sound }
-
 pub makes-link : {c d : Controller} {on : Bool} → Made (linkOf c on) d → Makes c (event (link on)) (record { next = d; answer = A.Link })
 unfolding eventsIn run eventOf saidTo saidAt saysAct
 makes-link h = record { next = h .is; says = refl; sound = h .sound }
 
-pub makes-settings : {c : Controller} {set : Settings} {r : SetTo} → Sets c set r → Makes c (event (settings set)) (record { next = r .next; answer = A.Set (r .answer) })
+pub makes-settings : {c : Controller} {set : Settings} {r : Configured} → Sets c set r → Makes c (event (settings set)) (record { next = r .next; answer = A.Set (r .answer) })
 unfolding eventsIn run eventOf saidTo saidAt saysAct
 makes-settings h = record { next = h .next; says = ap taken (h .says); sound = h .sound }
 
-pub makes-reset : {c : Controller} {r : ResetTo} → Resets c r → Makes c (event reset) (record { next = r .next; answer = A.Reset (r .answer) })
+pub makes-reset : {c : Controller} {r : Cleared} → Resets c r → Makes c (event reset) (record { next = r .next; answer = A.Reset (r .answer) })
 unfolding eventsIn run eventOf saidTo saidAt saysAct
 makes-reset h = record { next = h .next; says = ap cleared (h .says); sound = h .sound }
 
@@ -141,26 +136,29 @@ acts-made e m = record { makes = m; left = sym e }
 pub acts-as : {c : Controller} {a b : Ask} {old new : List ℕ} {r : Acted} → a ≡ b → Acts c b old new r → Acts c a old new r
 acts-as {c} {a} {b} {old} {new} {r} e h = subst (λ (x : Ask). Acts c x old new r) (sym e) h
 
-pub as-call : (most : ℕ) (bytes : List ℕ) {a b : read.Call} → a ≡ b → lent most (askBy (asCall bytes a)) ≡ lent most (askBy (asCall bytes b))
-as-call most bytes e = ap (λ (call : read.Call). lent most (askBy (asCall bytes call))) e
+pub as-call : (lines : Bool) (most : ℕ) (bytes : List ℕ) {a b : read.Call} → a ≡ b → beside lines (lent most (askBy (asCall bytes a))) ≡ beside lines (lent most (askBy (asCall bytes b)))
+as-call lines most bytes e = ap (λ (call : read.Call). beside lines (lent most (askBy (asCall bytes call)))) e
 
 -- the controller stays, and nothing is left in the buffer
 pub acts-still : {c : Controller} {ask : Ask} {old : List ℕ} {answer : declared.Answer} → run c (eventsIn ask) ≡ c → leftBy c ask old ≡ old → saysAct answer ≡ saidTo c ask → Sound c
     → Acts c ask old old (record { next = c; answer = answer })
 acts-still e l says s = acts-made l (record { next = sym e; says = says; sound = s })
 
--- the calls that need no box
-pub asks-nothing : (most : ℕ) (bytes : List ℕ) (call : read.Call) → OneOf (9 ∷ 10 ∷ 11 ∷ 12 ∷ 13 ∷ 14 ∷ 15 ∷ 16 ∷ []) (tagOf call-type call) → lent most (askBy (asCall bytes call)) ≡ nothing
-unfolding lent askBy askOf asCall
-asks-nothing most bytes (C.Tick x i) h = absurd (miss (9 ∷ 10 ∷ 11 ∷ 12 ∷ 13 ∷ 14 ∷ 15 ∷ 16 ∷ []) 0 tt h)
-asks-nothing most bytes (C.Link on) h = absurd (miss (9 ∷ 10 ∷ 11 ∷ 12 ∷ 13 ∷ 14 ∷ 15 ∷ 16 ∷ []) 1 tt h)
-asks-nothing most bytes (C.Settings set) h = absurd (miss (9 ∷ 10 ∷ 11 ∷ 12 ∷ 13 ∷ 14 ∷ 15 ∷ 16 ∷ []) 2 tt h)
-asks-nothing most bytes C.Reset h = absurd (miss (9 ∷ 10 ∷ 11 ∷ 12 ∷ 13 ∷ 14 ∷ 15 ∷ 16 ∷ []) 3 tt h)
-asks-nothing most bytes C.Counters h = absurd (miss (9 ∷ 10 ∷ 11 ∷ 12 ∷ 13 ∷ 14 ∷ 15 ∷ 16 ∷ []) 4 tt h)
-asks-nothing most bytes (C.Restart set count total) h = absurd (miss (9 ∷ 10 ∷ 11 ∷ 12 ∷ 13 ∷ 14 ∷ 15 ∷ 16 ∷ []) 5 tt h)
-asks-nothing most bytes (C.Request n room) h = absurd (miss (9 ∷ 10 ∷ 11 ∷ 12 ∷ 13 ∷ 14 ∷ 15 ∷ 16 ∷ []) 6 tt h)
-asks-nothing most bytes (C.Modbus n room) h = absurd (miss (9 ∷ 10 ∷ 11 ∷ 12 ∷ 13 ∷ 14 ∷ 15 ∷ 16 ∷ []) 7 tt h)
-asks-nothing most bytes (C.Why k) h = absurd (miss (9 ∷ 10 ∷ 11 ∷ 12 ∷ 13 ∷ 14 ∷ 15 ∷ 16 ∷ []) 8 tt h)
+-- the calls that are left out, and those that need no box
+abbrev idle : List ℕ
+idle = 0 ∷ 6 ∷ 9 ∷ 10 ∷ 11 ∷ 12 ∷ 13 ∷ 14 ∷ 15 ∷ 16 ∷ []
+
+pub asks-nothing : (most : ℕ) (bytes : List ℕ) (call : read.Call) → OneOf idle (tagOf call-type call) → beside true (lent most (askBy (asCall bytes call))) ≡ nothing
+unfolding lent lentTo askBy askOf asCall beside pick
+asks-nothing most bytes (C.Tick x i) h = refl
+asks-nothing most bytes (C.Link on) h = absurd (miss idle 1 tt h)
+asks-nothing most bytes (C.Settings set) h = absurd (miss idle 2 tt h)
+asks-nothing most bytes C.Reset h = absurd (miss idle 3 tt h)
+asks-nothing most bytes C.Counters h = absurd (miss idle 4 tt h)
+asks-nothing most bytes (C.Restart set count total) h = absurd (miss idle 5 tt h)
+asks-nothing most bytes (C.Request n room) h = refl
+asks-nothing most bytes (C.Modbus n room) h = absurd (miss idle 7 tt h)
+asks-nothing most bytes (C.Why k) h = absurd (miss idle 8 tt h)
 asks-nothing most bytes (C.WriteFrame n room) h = refl
 asks-nothing most bytes (C.ReadFrame n) h = refl
 asks-nothing most bytes (C.WriteField v) h = refl
@@ -169,4 +167,4 @@ asks-nothing most bytes (C.WriteLine l room) h = refl
 asks-nothing most bytes (C.ReadLine f n) h = refl
 asks-nothing most bytes (C.Hour n k) h = refl
 asks-nothing most bytes (C.Hours n room) h = refl
-asks-nothing most bytes C.Unknown h = absurd (miss (9 ∷ 10 ∷ 11 ∷ 12 ∷ 13 ∷ 14 ∷ 15 ∷ 16 ∷ []) 17 tt h)
+asks-nothing most bytes C.Unknown h = absurd (miss idle 17 tt h)

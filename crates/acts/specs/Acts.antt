@@ -1,7 +1,9 @@
 -- What a call makes of the controller in use, and what it answers: over the events of `series`. Assumes nothing.
+use mathlib.Core.Bool.{Bool}
 use mathlib.Core.List.{List, [], _∷_, _++_}
 use Prim.Native.Nat.{ℕ}
 use lib.ListN.{length, take, drop, replicate}
+use Rattle.laws.specs.Pick.{pick}
 use Rattle.laws.specs.Decimal.{Parsed, good, bad}
 use Rattle.paper.specs.Answer.{Answer, told, leaves}
 use Rattle.controller.specs.declared.Controller.{Controller}
@@ -53,6 +55,20 @@ askOf (calls.hours s room) = nothing
 unfoldable pub askBy : Parsed Call → Ask
 askBy (good call rest) = askOf call
 askBy bad = unknown
+
+-- what is asked beside a tick and, where `lines` are left out, a line request: a program makes these by itself
+unfoldable pub beside : Bool → Ask → Ask
+beside lines (event (tick x i)) = nothing
+beside lines (event (link on)) = event (link on)
+beside lines (event (request s reply)) = pick lines nothing (event (request s reply))
+beside lines (event (modbus s reply)) = event (modbus s reply)
+beside lines (event (settings set)) = event (settings set)
+beside lines (event reset) = event reset
+beside lines (event (restart set count total)) = event (restart set count total)
+beside lines counters = counters
+beside lines (why k) = why k
+beside lines nothing = nothing
+beside lines unknown = unknown
 
 -- ---- what it makes of the controller
 

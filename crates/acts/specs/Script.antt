@@ -3,21 +3,27 @@ use mathlib.Core.Path.{_≡_, refl, sym, ap, _∙_, subst}
 use mathlib.Core.List.{List, [], _∷_, _++_}
 use Prim.Native.Nat.{ℕ, _-_, _≤_}
 use native.Mathlib.Omega.{arith}
-use lib.ListN.{length, take, drop, length-take}
+use lib.IntN.{ℤ}
+use lib.ListN.{length, take, drop, length-take, length-replicate}
 use Rattle.laws.specs.Decimal.{Parsed}
 use Rattle.controller.specs.declared.Controller.{Controller}
+use Rattle.controller.specs.declared.Ticked.{Ticked}
+use Rattle.controller.specs.declared.Requested.{Requested}
+use Rattle.controller.specs.Line.{requestOf}
+use Rattle.controller.specs.Says.{Ticks, Replies}
 use Rattle.controller.specs.Sound.{Sound}
-use Rattle.series.specs.Events.{run}
+use Rattle.series.specs.Events.{run, eventOf}
 use Rattle.lines.specs.declared.Intake.{Intake}
 use Rattle.lines.specs.declared.Taken.{Taken}
 use Rattle.lines.specs.declared.Next.{Next}
 use Rattle.lines.specs.declared.Next.the-variants.{Line, More}
 use Rattle.lines.specs.Places.{partOf}
-use Rattle.lines.specs.Intake.{comes, nextOf, handed, Behind, Waits, Stands, Steps, next-steps}
+use Rattle.lines.specs.Intake.{comes, nextOf, handed, Behind, Waits, NextStands, Steps, next-steps}
 use Rattle.calls.specs.Call.{Call, callOf}
 use Rattle.calls.specs.declared.Call as read
-use Rattle.calls.specs.Reads.{asCall, Within, Reads, read-call}
-use Rattle.acts.specs.Acts.{Ask, askBy, eventsIn, lent, madeBy}
+use Rattle.calls.specs.declared.Call.the-variants as C
+use Rattle.calls.specs.Reads.{asCall, Within, ReadsCall, read-call}
+use Rattle.acts.specs.Acts.{Ask, blank, askOf, askBy, eventsIn, lent, madeBy}
 use Rattle.acts.specs.Makes.{Acts, lent-read}
 use Rattle.acts.specs.declared.Acted.{Acted}
 
@@ -44,8 +50,25 @@ pub made-call : (c : Controller) (call : read.Call) (bytes : List ℕ) {old new 
 unfolding madeBy
 made-call c call bytes {old} w h p = record { next = p .makes .next ∙ ap (λ (a : Ask). run c (eventsIn a)) (lent-read (length old) bytes call w h); sound = p .makes .sound }
 
+-- a tick that a program makes by itself
+pub made-tick : {c : Controller} (bytes : List ℕ) {x : ℤ} {i : ℕ} (r : Ticked) → Ticks c x i r → Made c (asCall bytes (C.Tick x i)) (r .next)
+unfolding madeBy asCall askBy askOf eventsIn run eventOf
+made-tick bytes r h = record { next = h .next; sound = h .sound }
+
+pub made-ticked : {c : Controller} (bytes : List ℕ) {call : read.Call} {x y : ℤ} {i : ℕ} (r : Ticked) → call ≡ C.Tick x i → y ≡ x → Ticks c y i r → Made c (asCall bytes call) (r .next)
+made-ticked {c} bytes {i = i} r e f h =
+    subst (λ (k : read.Call). Made c (asCall bytes k) (r .next)) (sym e) (made-tick bytes r (subst (λ (z : ℤ). Ticks c z i r) f h))
+
+-- and a line request, with the room that it asks for
+pub made-asked : {c : Controller} (bytes : List ℕ) {old new : List ℕ} (n room : ℕ) (r : Requested) → length old ≡ room → Replies c (take n bytes) old new r → Made c (asCall bytes (C.Request n room)) (r .next)
+unfolding madeBy asCall askBy askOf eventsIn run eventOf blank
+made-asked {c} bytes n room r e h = record {
+  next = h .next ∙ ap (λ (k : ℕ). requestOf c (take n bytes) k .next) (e ∙ sym (length-replicate {A = ℕ} room 0xA5));
+  sound = h .sound;
+}
+
 -- and a line of a fitting length, read with room for its bytes, is its call
-pub made-read : {c d : Controller} {call : read.Call} {line old new : List ℕ} → Reads line old new call → 2048 ≤ length old → length line ≤ 4095
+pub made-read : {c d : Controller} {call : read.Call} {line old new : List ℕ} → ReadsCall line old new call → 2048 ≤ length old → length line ≤ 4095
     → Made c (asCall new call) d → Made c (callOf line) d
 made-read {c} {d} p h k m = subst (λ (q : Parsed Call). Made c q d) (read-call p h k) m
 
@@ -54,16 +77,19 @@ made-read {c} {d} p h k m = subst (λ (q : Parsed Call). Made c q d) (read-call 
 pub brings-none : {c : Controller} {i : Intake} {input : List ℕ} → Sound c → Brings c i input c i
 brings-none s = record { sound = s; made = λ future. refl }
 
+pub brings-then : {first c d : Controller} {start held later : Intake} {input : List ℕ} → Brings first start input c held → Brings c held input d later → Brings first start input d later
+brings-then p q = record { sound = q .sound; made = λ future. p .made future ∙ q .made future }
+
 -- what the next line, or that there is none, tells
 module _ (input : List ℕ) (held : Intake) (t : Taken) (e : t ≡ nextOf held input) where
   steps : Steps held input t
   steps = subst (Steps held input) (sym e) (next-steps held input)
 
   pub line-behind : {from to : ℕ} → t .next ≡ Line from to → Behind held input from to (t .intake)
-  line-behind n = subst (Stands held input (t .intake)) n (steps .stands)
+  line-behind n = subst (NextStands held input (t .intake)) n (steps .stands)
 
   pub none-waits : t .next ≡ More → Waits (t .intake) input
-  none-waits n = subst (Stands held input (t .intake)) n (steps .stands)
+  none-waits n = subst (NextStands held input (t .intake)) n (steps .stands)
 
   pub line-short : {from to : ℕ} → t .next ≡ Line from to → length (take (to - from) (drop from input)) ≤ 4095
   line-short {from} {to} n = omega (arith, line-behind n .short, length-take (to - from) (drop from input))

@@ -6,22 +6,21 @@ use controller::RequestAnswer;
 use controller::ResetAnswer;
 use controller::RestartAnswer;
 use controller::SetAnswer;
-use controller::TickAnswer;
 use counters::Counters;
 use reasons::Reason;
 use settings::Settings;
 ghost use mathlib.Core.Path.{_≡_};
+ghost use mathlib.Core.Bool.{true, false};
 ghost use Prim.Native.Nat.{min};
 ghost use lib.ListN.{length, take};
 ghost use Rattle.controller.specs.Sound.{Sound};
 ghost use Rattle.series.specs.Events as events;
 ghost use Rattle.calls.specs.Reads.{asCall};
-ghost use Rattle.acts.specs.Acts.{event, counters, why, askBy, blank, lent};
+ghost use Rattle.acts.specs.Acts.{event, counters, why, askBy, blank, lent, beside};
 ghost use Rattle.acts.specs.Makes.{inUse, Makes, Acts};
 
-// What a call of the box answers; a call that needs no box and a line that is no call have no answer here.
+// What a call of the box other than a tick answers; a call that needs no box and a line that is no call have no answer here.
 pub enum Answer {
-    Tick(TickAnswer),
     Link,
     Set(SetAnswer),
     Reset(ResetAnswer),
@@ -45,20 +44,6 @@ fn lesser(a: usize, b: usize) -> usize
     ensures { λ r. ⌜ r ≡ min a b ⌝ }
 {
     if a <= b { a } else { b }
-}
-
-// A tick.
-fn tick(c: Controller, sample: i32, inputs: u8) -> Acted
-    requires { ⌜ Sound c ⌝ }
-    ensures { λ r. ⌜ Makes c (event (events.tick sample inputs)) r ⌝ }
-{
-    let ticked = c.tick(sample, inputs);
-    let next = ticked.next;
-    let answer = ticked.answer;
-    Acted {
-        next,
-        answer: Answer::Tick(answer),
-    }
 }
 
 // The link start, set or cleared.
@@ -183,20 +168,18 @@ fn modbus(c: Controller, n: usize, room: usize, bytes: &[u8], reply: &mut [u8]) 
     }
 }
 
-// What a call makes of the controller, and its answer; a request's or a frame's bytes are the first of `bytes`, and its reply stands at the start of `reply`.
-pub fn act(c: Controller, call: Call, bytes: &[u8], reply: &mut [u8]) -> Acted
+// What a call makes of the controller, and its answer, ticks and line requests left out; a frame's bytes are the first of `bytes`, and its reply stands at the start of `reply`.
+pub fn rest(c: Controller, call: Call, bytes: &[u8], reply: &mut [u8]) -> Acted
     requires { ⌜ Sound c ⌝ }
-    ensures { λ r. ⌜ Acts c (lent (length (now (reply .entry))) (askBy (asCall (now (bytes .entry)) call))) (now (reply .entry)) (now (reply .exit)) r ⌝ }
+    ensures { λ r. ⌜ Acts c (beside true (lent (length (now (reply .entry))) (askBy (asCall (now (bytes .entry)) call)))) (now (reply .entry)) (now (reply .exit)) r ⌝ }
 {
     match call {
-        Call::Tick(sample, inputs) => tick(c, sample, inputs),
         Call::Link(on) => link(c, on),
         Call::Settings(set) => settings(c, set),
         Call::Reset => reset(c),
         Call::Counters => counters(c),
         Call::Restart(set, count, total) => restart(c, set, count, total),
-        Call::Request(n, room) => request(c, n, room, bytes, reply),
-        Call::Modbus(n, room) => modbus(c, n, room, bytes, reply),
+        Call::Modbus(n, room) => modbus(c, n as usize, room as usize, bytes, reply),
         Call::Why(output) => why(c, output),
         Call::Unknown => Acted {
             next: c,
@@ -207,4 +190,15 @@ pub fn act(c: Controller, call: Call, bytes: &[u8], reply: &mut [u8]) -> Acted
             answer: Answer::Aside,
         },
     }
+}
+
+// The same with line requests, and ticks left out.
+pub fn other(c: Controller, call: Call, bytes: &[u8], reply: &mut [u8]) -> Acted
+    requires { ⌜ Sound c ⌝ }
+    ensures { λ r. ⌜ Acts c (beside false (lent (length (now (reply .entry))) (askBy (asCall (now (bytes .entry)) call)))) (now (reply .entry)) (now (reply .exit)) r ⌝ }
+{
+    if let Call::Request(n, room) = call {
+        return request(c, n as usize, room as usize, bytes, reply);
+    }
+    rest(c, call, bytes, reply)
 }

@@ -12,7 +12,7 @@ ghost use Rattle.hourly.specs.Exact.{Numbers};
 fn figures(out: &mut [u8], f: Figures) -> usize
     requires { ⌜ Numbers (f .sum) (f .largest) (f .mean) ⌝ }
 {
-    let start = pieces::put_words(out, Words::none(b'M'));
+    let start = pieces::put_words(out, 0, Words::none(b'M'));
     let sum = pieces::bits(out, start, f64::to_bits(f.sum));
     let largest = pieces::bits(out, sum, f64::to_bits(f.largest));
     let mean = pieces::bits(out, largest, f64::to_bits(f.mean));
@@ -39,11 +39,11 @@ pub(crate) fn ask(out: &mut [u8], bytes: &[u8], hour: u32) -> usize {
     match hourly::hour_of(bytes, Products::All, hour) {
         Asked::Hour(found) => {
             let Hour::Measured(f) = found else {
-                return pieces::line(out, Words::none(kind(found)));
+                return pieces::line(out, 0, Words::none(kind(found)));
             };
             figures(out, f)
         }
-        Asked::Refused(refusal) => pieces::line(out, refused(refusal)),
+        Asked::Refused(refusal) => pieces::line(out, 0, refused(refusal)),
     }
 }
 

@@ -40,10 +40,15 @@ fn read_frame(out: &mut [u8], bytes: &[u8]) -> usize {
     match found {
         Found::Body { place, len } => {
             let n = pieces::within(len, &body);
-            pieces::shown(out, Words::two(b'P', place as u64, len as u64), &body[..n])
+            pieces::shown(
+                out,
+                0,
+                Words::two(b'P', place as u64, len as u64),
+                &body[..n],
+            )
         }
-        Found::R9(place) => pieces::line(out, Words::two(b'R', 9, place as u64)),
-        Found::R6(place) => pieces::line(out, Words::two(b'R', 6, place as u64)),
+        Found::R9(place) => pieces::line(out, 0, Words::two(b'R', 9, place as u64)),
+        Found::R6(place) => pieces::line(out, 0, Words::two(b'R', 6, place as u64)),
     }
 }
 
@@ -51,9 +56,9 @@ fn read_frame(out: &mut [u8], bytes: &[u8]) -> usize {
 fn write_field(out: &mut [u8], weight: Weight) -> usize {
     match field::write(weight) {
         Written::Bytes(f) => {
-            pieces::shown(out, Words::none(b'P'), &[f.low, f.middle, f.high, f.con])
+            pieces::shown(out, 0, Words::none(b'P'), &[f.low, f.middle, f.high, f.con])
         }
-        Written::R16 => pieces::line(out, Words::one(b'R', 16)),
+        Written::R16 => pieces::line(out, 0, Words::one(b'R', 16)),
     }
 }
 
@@ -133,7 +138,7 @@ fn write(call: Call, bytes: &[u8], buffer: &mut [u8]) -> Words {
 // The answer of a writer, with the whole of its buffer.
 fn written(out: &mut [u8], call: Call, bytes: &[u8], buffer: &mut [u8]) -> usize {
     let said = write(call, bytes, buffer);
-    pieces::shown(out, said, buffer)
+    pieces::shown(out, 0, said, buffer)
 }
 
 // The answer of a reader that shows no bytes; ? where the line is no call.
@@ -151,7 +156,7 @@ fn read(out: &mut [u8], call: Call, bytes: &[u8]) -> usize {
         Call::ReadFrame(_) => read_frame(out, bytes),
         Call::WriteField(w) => write_field(out, w),
         Call::Hour(_, hour) => hours::ask(out, bytes, hour),
-        _ => pieces::line(out, read_words(call, bytes)),
+        _ => pieces::line(out, 0, read_words(call, bytes)),
     }
 }
 

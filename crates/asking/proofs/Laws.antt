@@ -1,35 +1,29 @@
 -- Bodies in arrays: what the reader found, and what building handed over. Assumes nothing.
 use mathlib.Core.Path.{_≡_, refl, sym, ap, _∙_}
-use mathlib.Core.List.{List, [], _∷_, _++_}
+use mathlib.Core.List.{List, [], _++_}
 use Prim.Native.Nat.{ℕ, _-_, _≤_}
 use native.Mathlib.Omega.{arith}
 use lib.ListN.{length, take, replicate, length-append}
 use lib.Seq.{take-at}
-use types.Run.{OneOf, miss}
-use denote.Enum.Declared.{tagOf}
 use Rattle.laws.specs.Pick.{pick-f}
 use Rattle.paper.specs.Answer.{Answer, done, refused, fault, told, onDone, bytesIn, Fills, Hands}
 use Rattle.paper.specs.AnswerLaws.{refused-done, fault-done, done-refused, told-refused, fills-refused}
-use Rattle.paper.specs.Numbers.{R14}
-use Rattle.frame.proofs.Found.{the-type as found-type}
-use Rattle.message.proofs.Built.{the-type as built-type}
 use Rattle.frame.specs.Frame.{writeOf}
 use Rattle.frame.specs.Read.{Finished, readOf}
 use Rattle.frame.specs.ReadLaws.{done-whole}
-use Rattle.frame.specs.Says.{saysFound, placeAndLength, Reads}
-use Rattle.frame.specs.declared.Found.{Found}
+use Rattle.frame.specs.Says.{saysFound, placeAndLength, ReadsFrame}
 use Rattle.frame.specs.declared.Found.the-variants as F
 use Rattle.frame.specs.declared.Read.{Read}
-use Rattle.message.specs.Message.{partsOf, splitOf, improper, buildOf}
-use Rattle.message.specs.Says.{saysSplit, saysBuilt}
+use Rattle.message.specs.Message.{partsOf, splitOf, buildOf}
+use Rattle.message.specs.Says.{saysBuilt}
 use Rattle.message.specs.declared.Form.{Form}
-use Rattle.message.specs.declared.Parts.{Parts}
-use Rattle.message.specs.declared.Split.{Split}
-use Rattle.message.specs.declared.Split.the-variants as S
 use Rattle.message.specs.declared.Built.{Built}
 use Rattle.message.specs.declared.Built.the-variants as B
 use Rattle.asking.specs.Asking.{heardOf, replyBytes, replyOf}
-use Rattle.asking.specs.Says.{saysHeard, unreadOf, saysSent, unbuiltOf}
+use Rattle.asking.specs.Says.{saysChecked, saysFramed}
+use Rattle.asking.specs.declared.Checked.{Checked}
+use Rattle.asking.specs.declared.Checked.the-variants as K
+use Rattle.asking.specs.declared.Framed.the-variants as Fr
 use Rattle.asking.specs.declared.Reply.{Reply}
 
 -- ---- bytes in an array
@@ -66,7 +60,7 @@ whole-splits : (s : List ℕ) (f : Finished) → readOf s ≡ done f → splitOf
 unfolding splitOf
 whole-splits s f e = pick-f _ _ _ (done-whole s f e .long)
 
-pub found-body : (s : List ℕ) (r : Read) {place len : ℕ} → Reads s r → r .found ≡ F.Body place len → Finds s (r .body) place len
+pub found-body : (s : List ℕ) (r : Read) {place len : ℕ} → ReadsFrame s r → r .found ≡ F.Body place len → Finds s (r .body) place len
 unfolding told bytesIn
 found-body s r {place} {len} reads e =
     told-done placeAndLength (readOf s) (place, len) (sym (ap saysFound e) ∙ reads .says)
@@ -77,40 +71,36 @@ found-body s r {place} {len} reads e =
     let stands = front (f .bytes) (255 - length (f .bytes)) held b in
     record { fits = stands .fits; read = rw (stands .is, a) k; splits = rw (stands .is) (whole-splits s f k) })
 
--- what was found splits
-module _ {s array : List ℕ} {place len : ℕ} {split : Split} (finds : Finds s array place len) (says : saysSplit split ≡ splitOf (take len array)) where
-  pub not-unsplit : {Q : Type 0} → split ≡ S.R6 → Q
-  not-unsplit e = refused-done (sym (ap saysSplit e) ∙ says ∙ finds .splits)
-
-  pub heard-parts : {p : Parts} → split ≡ S.Parts p → done (place, p) ≡ heardOf s
-  unfolding heardOf told
-  heard-parts {p} e =
-      let same = sym (ap saysSplit e) ∙ says ∙ finds .splits in
-      let q : p ≡ partsOf (take len array) = cc in
-      rw (finds .read, q)
+-- what was found splits, for it is never too short
+pub heard-checked : {s array : List ℕ} {place len : ℕ} → Finds s array place len → (r : Checked) → saysChecked r ≡ splitOf (take len array) → saysFramed place (Fr.Finished r) ≡ heardOf s
+unfolding heardOf told
+heard-checked {s} {array} {place} {len} finds (K.Good p) says =
+    let same = says ∙ finds .splits in
+    let q : p ≡ partsOf (take len array) = cc in
+    rw (finds .read, q)
+heard-checked finds K.Bad says = refused-done (says ∙ finds .splits)
 
 -- what the reader refuses
-pub heard-unread : (s : List ℕ) (f : Found) → OneOf (1 ∷ 2 ∷ []) (tagOf found-type f) → saysFound f ≡ told placeAndLength (readOf s) → saysHeard (unreadOf f) ≡ heardOf s
-unfolding unreadOf heardOf told
-heard-unread s (F.Body place len) k e = absurd (miss (1 ∷ 2 ∷ []) 0 tt k)
-heard-unread s (F.R9 place) k e = rw (told-refused placeAndLength (readOf s) _ _ (sym e))
-heard-unread s (F.R6 place) k e = rw (told-refused placeAndLength (readOf s) _ _ (sym e))
+pub heard-unread : (s : List ℕ) {n : ℕ} {vs : List ℕ} → refused n vs ≡ told placeAndLength (readOf s) → refused n vs ≡ heardOf s
+unfolding heardOf told
+heard-unread s {n} {vs} e = rw (told-refused placeAndLength (readOf s) n vs (sym e))
 
 -- ---- what building handed over
 
 -- the body that was built stands in its array
-pub record Stands (form : Form) (op : ℕ) (holds : Reply) (array : List ℕ) (n : ℕ) : Type 0 where
+pub record BodyStands (form : Form) (op : ℕ) (holds : Reply) (array : List ℕ) (n : ℕ) : Type 0 where
   pub body : List ℕ
   pub built : buildOf form op (replyBytes holds) ≡ done body
   pub front : Front body array n
 
 module _ (form : Form) (op : ℕ) (holds : Reply) (built : Built) {array : List ℕ} (hands : Hands 254 (saysBuilt built) (buildOf form op (replyBytes holds)) array) where
-  not-built : (n : ℕ) → saysBuilt built ≡ refused n [] → (old : List ℕ) → Fills (refused n []) (replyOf form op holds (length old)) old old
+  -- what building refuses
+  pub not-built : (n : ℕ) → saysBuilt built ≡ refused n [] → (old : List ℕ) → Fills (refused n []) (replyOf form op holds (length old)) old old
   unfolding replyOf onDone
   not-built n e old =
       fills-refused (ap (λ (a : Answer (List ℕ)). onDone a (λ body. writeOf body (length old))) (told-refused length (buildOf form op (replyBytes holds)) n [] (sym (hands .says) ∙ e))) old
 
-  pub built-stands : {n : ℕ} → built ≡ B.Body n → Stands form op holds array n
+  pub built-stands : {n : ℕ} → built ≡ B.Body n → BodyStands form op holds array n
   unfolding bytesIn
   built-stands {n} e =
       told-done length (buildOf form op (replyBytes holds)) n (sym (ap saysBuilt e) ∙ hands .says)
@@ -120,15 +110,7 @@ module _ (form : Form) (op : ℕ) (holds : Reply) (built : Built) {array : List 
         front = front body (254 - length body) (hands .holds ∙ ap (λ (r : Answer (List ℕ)). bytesIn r ++ replicate (254 - length (bytesIn r)) 0) k) l;
       })
 
--- what building refuses
-pub unbuilt-fills : (form : Form) (op : ℕ) (holds : Reply) (built : Built) {array : List ℕ} → Hands 254 (saysBuilt built) (buildOf form op (replyBytes holds)) array
-    → OneOf (1 ∷ 2 ∷ []) (tagOf built-type built) → (old : List ℕ) → Fills (saysSent (unbuiltOf built)) (replyOf form op holds (length old)) old old
-unfolding unbuiltOf
-unbuilt-fills form op holds (B.Body n) hands k old = absurd (miss (1 ∷ 2 ∷ []) 0 tt k)
-unbuilt-fills form op holds B.Improper hands k old = not-built form op holds B.Improper hands improper refl old
-unbuilt-fills form op holds B.R14 hands k old = not-built form op holds B.R14 hands R14 refl old
-
 -- what was built is framed
-pub built-replies : {form : Form} {op : ℕ} {holds : Reply} {array : List ℕ} {n : ℕ} (s : Stands form op holds array n) (room : ℕ) → writeOf (take n array) room ≡ replyOf form op holds room
+pub built-replies : {form : Form} {op : ℕ} {holds : Reply} {array : List ℕ} {n : ℕ} (s : BodyStands form op holds array n) (room : ℕ) → writeOf (take n array) room ≡ replyOf form op holds room
 unfolding replyOf onDone
 built-replies s room = ap (λ (b : List ℕ). writeOf b room) (s .front .is) ∙ sym (ap (λ (a : Answer (List ℕ)). onDone a (λ body. writeOf body room)) (s .built))

@@ -4,17 +4,18 @@ use mathlib.Core.Bool.{Bool}
 use mathlib.Core.List.{List, [], _∷_}
 use Prim.Native.Nat.{ℕ, _≤_}
 use lib.Dec.{eqb}
-use lib.ListN.{length, take}
+use lib.ListN.{length, take, getD}
 use Rattle.laws.specs.Pick.{pick}
 use Rattle.paper.specs.Answer.{Answer, done, refused, fault, Fills, same, fills-one}
 use Rattle.paper.specs.Numbers.{R3, R4, R5, R6, R7, R8, R9, R14}
-use Rattle.frame.specs.declared.Found.{Found}
-use Rattle.frame.specs.declared.Found.the-variants as F
 use Rattle.message.specs.declared.Form.{Form}
 use Rattle.message.specs.declared.Parts.{Parts}
 use Rattle.asking.specs.Asking.{heardOf, addressOf, codeOf, timeOf, zeroOf, replyOf}
+use Rattle.asking.specs.declared.Checked.{Checked}
+use Rattle.asking.specs.declared.Checked.the-variants as K
+use Rattle.asking.specs.declared.Framed.{Framed}
+use Rattle.asking.specs.declared.Framed.the-variants as F
 use Rattle.asking.specs.declared.Heard.{Heard}
-use Rattle.asking.specs.declared.Heard.the-variants as H
 use Rattle.asking.specs.declared.Addressed.{Addressed}
 use Rattle.asking.specs.declared.Addressed.the-variants as A
 use Rattle.asking.specs.declared.Coded.{Coded}
@@ -28,15 +29,20 @@ use Rattle.asking.specs.declared.Data.{Data}
 use Rattle.asking.specs.declared.Sent.{Sent}
 use Rattle.asking.specs.declared.Sent.the-variants as S
 use Rattle.message.specs.Message.{improper}
-use Rattle.message.specs.declared.Built.{Built}
-use Rattle.message.specs.declared.Built.the-variants as B
 
 -- ---- the stages: what passes, or the refusal with its place
 
+abbrev pub saysChecked : Checked → Answer Parts
+saysChecked (K.Good parts) = done parts
+saysChecked K.Bad = refused R6 []
+
+abbrev pub saysFramed : ℕ → Framed → Answer (ℕ × Parts)
+saysFramed place (F.Finished (K.Good parts)) = done (place, parts)
+saysFramed place (F.Finished K.Bad) = refused R6 (place ∷ [])
+saysFramed place F.Unfinished = refused R9 (place ∷ [])
+
 abbrev pub saysHeard : Heard → Answer (ℕ × Parts)
-saysHeard (H.Request place parts) = done (place, parts)
-saysHeard (H.R9 place) = refused R9 (place ∷ [])
-saysHeard (H.R6 place) = refused R6 (place ∷ [])
+saysHeard h = saysFramed (h .place) (h .framed)
 
 abbrev pub saysAddressed : Addressed → Answer (Unit {0})
 saysAddressed A.Ours = done tt
@@ -59,18 +65,6 @@ saysSent (S.Frame n) = done n
 saysSent S.Improper = refused improper []
 saysSent S.R14 = refused R14 []
 saysSent S.R8 = refused R8 []
-
--- what building's refusals are to a reply; a body is none
-unfoldable pub unbuiltOf : Built → Sent
-unbuiltOf (B.Body n) = S.Improper
-unbuiltOf B.Improper = S.Improper
-unbuiltOf B.R14 = S.R14
-
--- what the reader's refusals are to a request; a body is none
-unfoldable pub unreadOf : Found → Heard
-unreadOf (F.Body place len) = H.R6 place
-unreadOf (F.R9 place) = H.R9 place
-unreadOf (F.R6 place) = H.R6 place
 
 -- the bytes are the first of the array of 4
 pub record Holds (bytes : List ℕ) (r : Data) : Type 0 where
@@ -115,20 +109,19 @@ sent-back S.Improper = refl
 sent-back S.R14 = refl
 sent-back S.R8 = refl
 
+heardBack : Answer (ℕ × Parts) → Heard
+heardBack (done t) = record { place = t .0; framed = F.Finished (K.Good (t .1)) }
+heardBack (refused n vs) = record { place = getD vs 0 0; framed = pick (eqb n R9) F.Unfinished (F.Finished K.Bad) }
+heardBack (fault n vs) = record { place = 0; framed = F.Unfinished }
+
+framed-back : (place : ℕ) (f : Framed) → heardBack (saysFramed place f) ≡ record { place = place; framed = f }
+unfolding heardBack pick
+framed-back place (F.Finished (K.Good parts)) = refl
+framed-back place (F.Finished K.Bad) = refl
+framed-back place F.Unfinished = refl
+
 pub heard-one : (a b : Heard) → saysHeard a ≡ saysHeard b → a ≡ b
-heard-one (H.Request p x) (H.Request q y) e =
-    let z : _≡_ {A = ℕ × Parts} (p, x) (q, y) = cc in
-    let a : p ≡ q = ap (λ (t : ℕ × Parts). t .0) z in
-    let b : x ≡ y = ap (λ (t : ℕ × Parts). t .1) z in
-    cc
-heard-one (H.Request p x) (H.R9 q) e = cc
-heard-one (H.Request p x) (H.R6 q) e = cc
-heard-one (H.R9 p) (H.Request q y) e = cc
-heard-one (H.R9 p) (H.R9 q) e = cc
-heard-one (H.R9 p) (H.R6 q) e = cc
-heard-one (H.R6 p) (H.Request q y) e = cc
-heard-one (H.R6 p) (H.R9 q) e = cc
-heard-one (H.R6 p) (H.R6 q) e = cc
+heard-one = back-one saysHeard heardBack (λ h. framed-back (h .place) (h .framed))
 
 pub addressed-one : (a b : Addressed) → saysAddressed a ≡ saysAddressed b → a ≡ b
 addressed-one A.Ours A.Ours e = refl

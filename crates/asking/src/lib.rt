@@ -7,15 +7,40 @@ use message::Form;
 use message::Parts;
 use message::Split;
 ghost use mathlib.Core.Path.{_≡_};
+ghost use Prim.Native.Nat.{_≤_};
+ghost use lib.ListN.{length, take};
 ghost use Rattle.frame.specs.Says.{saysWrote};
+ghost use Rattle.message.specs.Message.{splitOf};
 ghost use Rattle.asking.specs.Asking.{ours, replyBytes};
-ghost use Rattle.asking.specs.Says.{Hears, Addresses, Codes, Times, Zeroes, Sends, Holds, unreadOf, unbuiltOf, saysSent};
+ghost use Rattle.asking.specs.Says.{Hears, Addresses, Codes, Times, Zeroes, Sends, Holds, saysChecked, saysSent};
 
-// The stage of R9 and R6: a finished body's parts, with the place of the second closing FF.
-pub enum Heard {
-    Request { place: usize, parts: Parts },
-    R9(usize),
-    R6(usize),
+// The operation code that zeroes.
+pub const C0: u8 = 0xC0;
+// The code that asks for the weight by p7.
+pub const C2: u8 = 0xC2;
+// The code that asks for the weight by p8.
+pub const C3: u8 = 0xC3;
+// The code that asks for the inputs.
+pub const C4: u8 = 0xC4;
+// The code that asks for the outputs.
+pub const C5: u8 = 0xC5;
+
+// A finished body: its parts, or R6 for one too short or with a check that is not 0.
+pub enum Checked {
+    Good(Parts),
+    Bad,
+}
+
+// The stage of R9 and R6: a finished body, or R9 where there is none.
+pub enum Framed {
+    Finished(Checked),
+    Unfinished,
+}
+
+// What stands in the bytes offered, with the place of the second closing FF, or R9's place.
+pub struct Heard {
+    pub place: usize,
+    pub framed: Framed,
 }
 
 // The stage of R5: the address.
@@ -63,14 +88,14 @@ struct Data {
     len: usize,
 }
 
-// The reader's R9 or R6, with its place.
-fn unread(found: Found) -> Heard
-    ensures { λ r. ⌜ r ≡ unreadOf found ⌝ }
+// The first len bytes, taken apart.
+fn parts_of(body: &[u8], len: usize) -> Checked
+    requires { ⌜ len ≤ length (now body) ⌝ }
+    ensures { λ r. ⌜ saysChecked r ≡ splitOf (take len (now (body .entry))) ⌝ }
 {
-    match found {
-        Found::Body { place, len: _ } => Heard::R6(place),
-        Found::R9(place) => Heard::R9(place),
-        Found::R6(place) => Heard::R6(place),
+    match message::split_body(&body[..len]) {
+        Split::Parts(parts) => Checked::Good(parts),
+        Split::R6 => Checked::Bad,
     }
 }
 
@@ -80,14 +105,20 @@ pub fn hear(bytes: &[u8]) -> Heard
 {
     let read = frame::read_frame(bytes);
     let found = read.found;
-    let Found::Body { place, len } = found else {
-        return unread(found);
-    };
-    let body = read.body;
-    let Split::Parts(parts) = message::split_body(&body[..len]) else {
-        return Heard::R6(place);
-    };
-    Heard::Request { place, parts }
+    match found {
+        Found::Body { place, len } => Heard {
+            place,
+            framed: Framed::Finished(parts_of(&read.body, len)),
+        },
+        Found::R9(place) => Heard {
+            place,
+            framed: Framed::Unfinished,
+        },
+        Found::R6(place) => Heard {
+            place,
+            framed: Framed::Finished(Checked::Bad),
+        },
+    }
 }
 
 // The address or serial is matched with its setting.
@@ -116,7 +147,7 @@ pub fn code_stage(place: usize, parts: Parts) -> Coded
     ensures { λ r. ⌜ Codes place parts r ⌝ }
 {
     let op = parts.operation;
-    let known = (op == 0xC0) | ((0xC2 <= op) & (op <= 0xC5));
+    let known = (op == C0) | ((C2 <= op) & (op <= C5));
     if known & (parts.to <= parts.from) {
         return Coded::Known;
     }
@@ -165,17 +196,6 @@ fn data_of(holds: Reply) -> Data
     }
 }
 
-// A body that was not built.
-fn unbuilt(built: Built) -> Sent
-    ensures { λ r. ⌜ r ≡ unbuiltOf built ⌝ }
-{
-    match built {
-        Built::Body(_) => Sent::Improper,
-        Built::Improper => Sent::Improper,
-        Built::R14 => Sent::R14,
-    }
-}
-
 // What the frame writer answered.
 fn sent_as(wrote: Wrote) -> Sent
     ensures { λ r. ⌜ saysSent r ≡ saysWrote wrote ⌝ }
@@ -196,9 +216,12 @@ pub fn write_reply(form: Form, operation: u8, holds: Reply, reply: &mut [u8]) ->
     let len = data.len;
     let body = message::build_body(form, operation, &values[..len]);
     let built = body.built;
-    let Built::Body(n) = built else {
-        return unbuilt(built);
-    };
-    let bytes = body.bytes;
-    sent_as(frame::write_frame(&bytes[..n], reply))
+    match built {
+        Built::Body(n) => {
+            let bytes = body.bytes;
+            sent_as(frame::write_frame(&bytes[..n], reply))
+        }
+        Built::Improper => Sent::Improper,
+        Built::R14 => Sent::R14,
+    }
 }

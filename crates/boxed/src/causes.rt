@@ -72,7 +72,7 @@ fn put_reason(out: &mut [u8], reason: Reason) -> usize {
 // Y and the reason, or R 19.
 pub fn line(out: &mut [u8], reason: Reason) -> usize {
     if let Reason::R19 = reason {
-        return pieces::line(out, values(reason));
+        return pieces::line(out, 0, values(reason));
     }
     let after = put_reason(out, reason);
     pieces::end(out, after)

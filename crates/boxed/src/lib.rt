@@ -11,6 +11,8 @@ use controller::SetAnswer;
 use controller::TickAnswer;
 use counters::Record;
 use pieces::Words;
+ghost use Prim.Native.Nat.{_≤_};
+ghost use lib.ListN.{length};
 
 // D, the outputs, count, amount, settled, product
 fn dose(outputs: u8, record: Record) -> Words {
@@ -32,22 +34,45 @@ fn fault(why: Fault) -> Words {
     }
 }
 
-// O, D, F or R.
-fn tick(answer: TickAnswer) -> Words {
-    match answer {
-        TickAnswer::Outputs(outputs) => Words::one(b'O', outputs as u64),
-        TickAnswer::Dose { outputs, record } => dose(outputs, record),
-        TickAnswer::Fault(why) => fault(why),
-        TickAnswer::R1 => Words::one(b'R', 1),
-    }
-}
-
 // The line of O and the outputs, which most ticks answer.
-pub fn put_outputs(out: &mut [u8], outputs: u8) -> usize {
-    let after_letter = text::put_byte(out, 0, b'O');
+fn put_outputs(out: &mut [u8], at: usize, outputs: u8) -> usize {
+    let after_letter = text::put_byte(out, at, b'O');
     let after_tab = text::put_byte(out, after_letter, text::TAB);
     let after_number = text::put_decimal(out, after_tab, outputs as u64);
     pieces::end(out, after_number)
+}
+
+// The line of a tick's answer: O, D, F or R.
+fn put_tick(out: &mut [u8], at: usize, said: TickAnswer) -> usize {
+    match said {
+        TickAnswer::Outputs(outputs) => put_outputs(out, at, outputs),
+        TickAnswer::Dose { outputs, record } => pieces::line(out, at, dose(outputs, record)),
+        TickAnswer::Fault(why) => pieces::line(out, at, fault(why)),
+        TickAnswer::R1 => pieces::line(out, at, Words::one(b'R', 1)),
+    }
+}
+
+// The line of a tick's answer, put at `at`; it answers the place after it.
+pub fn say_tick(out: &mut [u8], at: usize, said: TickAnswer) -> usize
+    ensures { λ r. ⌜ r ≤ length (now (out .exit)) ⌝ }
+{
+    let end = put_tick(out, at, said);
+    pieces::within(end, out)
+}
+
+// The line of a line request's answer with the buffer that it was lent, so many of the first bytes of `spare`, put at `at`; it answers the place after it.
+pub fn say_request(
+    out: &mut [u8],
+    at: usize,
+    said: RequestAnswer,
+    room: usize,
+    spare: &[u8],
+) -> usize
+    ensures { λ r. ⌜ r ≤ length (now (out .exit)) ⌝ }
+{
+    let n = pieces::within(room, spare);
+    let end = pieces::reply(out, at, request(said), &spare[..n]);
+    pieces::within(end, out)
 }
 
 // A, R 3 or R 2 row.
@@ -102,13 +127,11 @@ fn modbus(answer: PollAnswer) -> Words {
 // What the box answered by a letter and numbers; ? where it answered otherwise.
 pub fn words(said: Answer) -> Words {
     match said {
-        Answer::Tick(ticked) => tick(ticked),
         Answer::Link => Words::none(b'A'),
         Answer::Set(taken) => set(taken),
         Answer::Reset(cleared) => reset(cleared),
         Answer::Counters(kept) => Words::two(b'Q', kept.count as u64, kept.total as u64),
         Answer::Restart(restarted) => restart(restarted),
-        Answer::Request(replied) => request(replied),
         Answer::Modbus(polled) => modbus(polled),
         _ => Words::none(b'?'),
     }

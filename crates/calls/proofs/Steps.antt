@@ -1,79 +1,32 @@
--- What is read behind a field, the answer at a line's end, and that of a whole line. Assumes nothing.
+-- The answer at a line's end, by its bytes, by a number more or none, and that of a whole line. Assumes nothing.
 use mathlib.Core.Path.{_≡_, refl, sym, ap, _∙_, subst}
-use mathlib.Core.Bool.{Bool, _&&_}
+use mathlib.Core.Bool.{Bool, true, false, not, _&&_}
 use mathlib.Core.List.{List, [], _∷_}
-use Prim.Native.Nat.{ℕ, _+_, _≤_, _<_}
+use Prim.Native.Nat.{ℕ, _+_, _*_, _≤_, _<_}
 use native.Mathlib.Omega.{arith}
-use native.Mathlib.Numerals.{add-one}
-use lib.Dec.{leb, eqb}
-use lib.IntN.{ℤ}
+use lib.Dec.{leb}
 use lib.ListN.{length, getD, drop, drop-of-length-le, take}
-use lib.Seq.{drop-cons, sets, take-at, length-take-le}
-use borrow.Author.Tests.{leb-true, leb-false, le-leb, lt-leb}
+use lib.Seq.{sets, take-at, take-all, drop-drop, length-take-le}
+use borrow.Author.Tests.{leb-true, leb-false, le-leb, lt-leb, not-true, not-false}
 use Rattle.laws.specs.Pick.{pick, pick-if, pick-t, pick-f}
-use Rattle.laws.specs.Decimal.{Parsed, good, bad, numberAt}
-use Rattle.laws.specs.DecimalLaws.{number-only}
+use Rattle.laws.specs.Decimal.{Parsed, good, bad}
 use Rattle.laws.specs.Over.{over, sets-over}
-use Rattle.text.specs.Scan.{onGood, expect, fieldAt, leads, Scans}
-use Rattle.text.specs.ScanLaws.{bad-good}
-use Rattle.text.specs.declared.Num.{Num}
-use Rattle.calls.specs.Call.{Call, greatest32, orLast, atEnd, callBy, callOf}
-use Rattle.calls.specs.Reads.{asCall, sizeOf, Within, bytesIn, readIn, Reads, known}
-use Rattle.calls.specs.Reading.{leadsSigned, ScansSigned, carried, Ended, Asks}
-use Rattle.calls.specs.declared.Signed.{Signed}
+use Rattle.text.specs.Scan.{TAB, onGood, fieldAt}
+use Rattle.text.specs.ScanLaws.{expect-hit, expect-miss}
+use Rattle.operands.specs.Parsing.{from-byte}
+use Rattle.operands.specs.Numbers.{signedField, leadsSigned, ReadsSigned}
+use Rattle.operands.specs.Bytes.{carried, carried-half}
+use Rattle.operands.specs.declared.Signed.{Signed}
+use Rattle.calls.specs.Call.{Call, greatest32, bytesAt, bytesField, orLast, atEnd, callBy, callOf}
+use Rattle.calls.specs.Reads.{asCall, sizeOf, Within, parts, bytesIn, readIn, ReadsCall, known}
+use Rattle.calls.specs.Reading.{Counts, Ended, Asks}
+use Rattle.calls.specs.declared.Numbers.{Numbers}
 use Rattle.calls.specs.declared.Call as declared
 use Rattle.calls.specs.declared.Call.the-variants as C
 
-pub on-good : {X Y : Type 0} {p : Parsed X} {v : X} {rest : List ℕ} (k : X → List ℕ → Parsed Y) → p ≡ good v rest → onGood p k ≡ k v rest
-unfolding onGood
-on-good k e = ap (λ (p : Parsed _). onGood p k) e
-
-pub on-bad : {X Y : Type 0} {p : Parsed X} (k : X → List ℕ → Parsed Y) → p ≡ bad → onGood p k ≡ bad
-unfolding onGood
-on-bad k e = ap (λ (p : Parsed _). onGood p k) e
-
-pub on-same : {X Y : Type 0} (p : Parsed X) {f g : X → List ℕ → Parsed Y} → ((v : X) (rest : List ℕ) → f v rest ≡ g v rest) → onGood p f ≡ onGood p g
-unfolding onGood
-on-same (good v rest) h = h v rest
-on-same bad h = refl
-
-pub on-on : {X Y Z : Type 0} (p : Parsed X) (f : X → List ℕ → Parsed Y) (g : Y → List ℕ → Parsed Z)
-    → onGood (onGood p f) g ≡ onGood p (λ v rest. onGood (f v rest) g)
-unfolding onGood
-on-on (good v rest) f g = refl
-on-on bad f g = refl
-
-pub on-id : {X : Type 0} (p : Parsed X) → onGood p (λ v rest. good v rest) ≡ p
-unfolding onGood
-on-id (good v rest) = refl
-on-id bad = refl
-
-pub at-on : {X : Type 0} (p : Parsed X) (k : X → List ℕ → Parsed Call) → atEnd (onGood p k) ≡ onGood p (λ v rest. atEnd (k v rest))
-unfolding onGood atEnd
-at-on (good v rest) k = refl
-at-on bad k = refl
-
-pub good-as : {X : Type 0} {v w : X} {rest : List ℕ} → v ≡ w → good v rest ≡ good w rest
-good-as {X} {v} {w} {rest} e = ap (λ (x : X). good x rest) e
-
--- what a rule reads, by a step's answer
-pub step : {s : List ℕ} {rule : Parsed ℤ} {r r' : Signed} → ScansSigned s rule r → r ≡ r' → rule ≡ leadsSigned s r'
+-- what the rule of a signed number reads, by its answer
+pub step : {s : List ℕ} {at : ℕ} {r r' : Signed} → ReadsSigned s at r → r ≡ r' → signedField (drop at s) ≡ leadsSigned s r'
 step {s} y e = y .reads ∙ ap (leadsSigned s) e
-
-pub num : {s : List ℕ} {rule : Parsed ℕ} {r r' : Num} → Scans s rule r → r ≡ r' → rule ≡ leads s r'
-num {s} y e = y .reads ∙ ap (leads s) e
-
--- a number is at most the greatest that is read
-pub number-most : (most : ℕ) (l : List ℕ) {v : ℕ} {rest : List ℕ} → numberAt most l ≡ good v rest → v ≤ most
-number-most most l {v} {rest} e = number-only most l v rest e .1
-
-pub field-most : (most : ℕ) (l : List ℕ) {v : ℕ} {rest : List ℕ} → fieldAt most l ≡ good v rest → v ≤ most
-unfolding fieldAt expect pick
-field-most most [] e = bad-good e
-field-most most (x ∷ xs) {v} {rest} e = pick-if (λ (p : Parsed ℕ). p ≡ good v rest → v ≤ most) (eqb x 9) (λ t e. number-most most xs e) (λ t e. bad-good e) e
-
-pub from-byte : (s : List ℕ) (at : ℕ) → at < length s → drop at s ≡ getD s at 0 ∷ drop (at + 1) s
-from-byte s at h = rw (add-one, drop-cons s at 0)
 
 -- ---- the answer
 
@@ -98,6 +51,35 @@ module _ {s : List ℕ} {rule : Parsed Call} where
   unfolding atEnd
   asked-last h a n w = record { reads = ap atEnd h ∙ a; carries = n; within = w }
 
+-- ---- a field of bytes
+
+pub some-bytes : (s : List ℕ) {n : ℕ} → getD s 1 0 ≡ TAB → n ≡ length (carried s) → bytesField (drop 1 s) ≡ good (carried s) (drop (2 + 2 * n) s)
+unfolding bytesField bytesAt carried
+some-bytes s {n} t e =
+    expect-hit s 1 TAB bytesAt (omega arith) t
+    ∙ ap (good (carried s)) (drop-drop (2 * length (carried s)) 2 s ∙ ap (λ (i : ℕ). drop (2 + 2 * i) s) (sym e))
+
+pub no-bytes : (s : List ℕ) → (getD s 1 0 ≡ TAB → ⊥) → bytesField (drop 1 s) ≡ bad
+unfolding bytesField
+no-bytes s n = expect-miss s 1 TAB bytesAt n
+
+-- all of them
+pub whole : {l : List ℕ} {n : ℕ} → n ≡ length l → l ≡ take n l
+whole {l} {n} e = sym (take-all n l (omega arith))
+
+-- a line of at most 4,095 bytes carries at most 2,047
+pub few : (s : List ℕ) {n : ℕ} → n ≡ length (carried s) → length s ≤ 4095 → n ≤ 2047
+few s e h = omega (arith, carried-half s)
+
+-- ---- a row of numbers
+
+module _ {s : List ℕ} {rule : Parsed (List ℕ)} {r : Numbers} (y : Counts s rule r) where
+  pub row : not (r .good) ≡ false → rule ≡ good (r .values) (drop (r .next) s)
+  row t = y .reads ∙ pick-t _ _ _ (not-false _ t)
+
+  pub no-row : not (r .good) ≡ true → rule ≡ bad
+  no-row t = y .reads ∙ pick-f _ _ _ (not-true _ t)
+
 -- ---- a number more, or none where the line ends
 
 module _ (without : Call) (behind : ℕ → Call) (s : List ℕ) (next : ℕ) where
@@ -112,8 +94,9 @@ module _ (without : Call) (behind : ℕ → Call) (s : List ℕ) (next : ℕ) wh
 -- ---- the answer to a whole line
 
 -- by a letter that is k
-pub by-key : {s : List ℕ} {b k : ℕ} {r : declared.Call} → b ≡ getD s 0 0 → b ≡ k → Asks s (callBy k (drop 1 s)) r → Asks s (callBy (getD s 0 0) (drop 1 s)) r
-by-key {s} {b} {k} {r} e f a = subst (λ (n : ℕ). Asks s (callBy n (drop 1 s)) r) (sym f ∙ e) a
+pub by-key : {s : List ℕ} {b : ℕ} (k : ℕ) (rule : ℕ → List ℕ → Parsed Call) {r : declared.Call} → b ≡ getD s 0 0 → b ≡ k → rule k (drop 1 s) ≡ callBy k (drop 1 s) → Asks s (rule b (drop 1 s)) r
+    → Asks s (callBy (getD s 0 0) (drop 1 s)) r
+by-key {s} {b} k rule {r} e f g a = subst (λ (p : Parsed Call). Asks s p r) (ap (λ (n : ℕ). rule n (drop 1 s)) f ∙ g ∙ ap (λ (n : ℕ). callBy n (drop 1 s)) (sym f ∙ e)) a
 
 -- no letter is no call
 call-by : (l : List ℕ) → callOf l ≡ atEnd (callBy (getD l 0 0) (drop 1 l))
@@ -122,21 +105,21 @@ call-by [] = refl
 call-by (x ∷ xs) = refl
 
 module _ {l old : List ℕ} where
-  unread : readIn (length old) l ≡ bad → Reads l old old C.Unknown
-  unfolding asCall bytesIn Within over
+  unread : readIn (length old) l ≡ bad → ReadsCall l old old C.Unknown
+  unfolding asCall parts Within over
   unread e = record { reads = sym e; left = ap (λ (p : Parsed Call). over (bytesIn p) old) (sym e); within = tt }
 
   -- no room for the bytes of every line
-  pub unread-room : length old < 2048 → Reads l old old C.Unknown
+  pub unread-room : length old < 2048 → ReadsCall l old old C.Unknown
   unfolding readIn
   unread-room h = unread (pick-f _ _ _ (ap (λ (t : Bool). t && leb (length l) 4095) (lt-leb _ _ h)))
 
   -- too long a line
-  pub unread-long : 2048 ≤ length old → 4095 < length l → Reads l old old C.Unknown
+  pub unread-long : 2048 ≤ length old → 4095 < length l → ReadsCall l old old C.Unknown
   unfolding readIn
   unread-long h k = unread (pick-f _ _ _ (ap (λ (t : Bool). t && leb (length l) 4095) (le-leb _ _ h) ∙ lt-leb _ _ k))
 
-  pub stored : {new : List ℕ} {r : declared.Call} → Asks l (callBy (getD l 0 0) (drop 1 l)) r → 2048 ≤ length old → length l ≤ 4095 → new ≡ sets old 0 (take (sizeOf r) (carried l)) → Reads l old new r
+  pub stored : {new : List ℕ} {r : declared.Call} → Asks l (callBy (getD l 0 0) (drop 1 l)) r → 2048 ≤ length old → length l ≤ 4095 → new ≡ sets old 0 (take (sizeOf r) (carried l)) → ReadsCall l old new r
   unfolding readIn over
   stored {new} {r} a h k e =
       let b = take (sizeOf r) (carried l) in

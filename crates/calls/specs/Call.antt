@@ -1,12 +1,12 @@
 -- One call to a line: what a line of a script asks. Assumes nothing.
-use mathlib.Core.Bool.{Bool, _&&_, _||_}
+use mathlib.Core.Bool.{Bool}
 use mathlib.Core.List.{List, [], _∷_}
-use Prim.Native.Nat.{ℕ, zero, suc, _+_, _-_, _*_}
-use lib.Dec.{leb, eqb}
-use lib.IntN.{ℤ, pos, negℤ}
-use lib.ListN.{length, getD}
+use Prim.Native.Nat.{ℕ, zero, suc, _+_, _*_}
+use lib.Dec.{eqb}
+use lib.IntN.{ℤ}
+use lib.ListN.{length, getD, drop, set, replicate}
 use Rattle.laws.specs.Pick.{pick}
-use Rattle.laws.specs.Decimal.{Parsed, good, bad, numberAt, isDigit}
+use Rattle.laws.specs.Decimal.{Parsed, good, bad}
 use Rattle.settings.specs.declared.Settings.{Settings}
 use Rattle.field.specs.declared.Field.{Field}
 use Rattle.field.specs.declared.Weight.{Weight}
@@ -16,6 +16,8 @@ use Rattle.journal.specs.declared.Form.the-variants.{Old, New}
 use Rattle.journal.specs.declared.Line.{Line}
 use Rattle.journal.specs.declared.Line.the-variants.{Dose, On}
 use Rattle.text.specs.Scan.{TAB, expect, onGood, fieldAt}
+use Rattle.operands.specs.Numbers.{signedField, setWith}
+use Rattle.operands.specs.Bytes.{leadingBytes}
 
 -- every call of the box and of its writers and readers
 pub data Call : Type 0 where
@@ -46,51 +48,21 @@ greatest32 = 4294967295
 unfoldable pub flagField : List ℕ → Parsed Bool
 flagField l = onGood (fieldAt 1 l) (λ n rest. good (eqb n 1) rest)
 
--- a number below 0: a minus, and a number that is not 0
-unfoldable pub minus : Parsed ℕ → Parsed ℤ
-minus (good zero rest) = bad
-minus (good (suc n) rest) = good (negℤ (pos (suc n))) rest
-minus bad = bad
-
-unfoldable pub plus : Parsed ℕ → Parsed ℤ
-plus (good n rest) = good (pos n) rest
-plus bad = bad
-
--- -2,147,483,648..2,147,483,647
-unfoldable pub signedAt : List ℕ → Parsed ℤ
-signedAt [] = bad
-signedAt (b ∷ bs) = pick (eqb b 45) (minus (numberAt 2147483648 bs)) (plus (numberAt 2147483647 (b ∷ bs)))
-
-unfoldable pub signedField : List ℕ → Parsed ℤ
-signedField l = expect TAB l signedAt
-
--- 0..9 and A..F
-unfoldable pub isHex : ℕ → Bool
-isHex b = isDigit b || (leb 65 b && leb b 70)
-
-unfoldable pub hexValue : ℕ → ℕ
-hexValue b = pick (isDigit b) (b - 48) (b - 55)
-
--- bytes as upper-case hex, two digits a byte, up to the next tab or the end
+-- bytes as upper-case hex, two digits a byte, as far as two digits stand
 unfoldable pub bytesAt : List ℕ → Parsed (List ℕ)
-bytesAt [] = good [] []
-bytesAt (a ∷ []) = pick (eqb a TAB) (good [] (a ∷ [])) bad
-bytesAt (a ∷ b ∷ l) =
-    let more = onGood (bytesAt l) (λ bytes rest. good ((hexValue a * 16 + hexValue b) ∷ bytes) rest) in
-    pick (eqb a TAB) (good [] (a ∷ b ∷ l)) (pick (isHex a && isHex b) more bad)
+bytesAt l = good (leadingBytes l) (drop (2 * length (leadingBytes l)) l)
 
 unfoldable pub bytesField : List ℕ → Parsed (List ℕ)
 bytesField l = expect TAB l bytesAt
 
--- n numbers, each of at most 4,294,967,295
-unfoldable pub numbersField : ℕ → List ℕ → Parsed (List ℕ)
-numbersField zero l = good [] l
-numbersField (suc n) l = onGood (fieldAt greatest32 l) (λ v rest. onGood (numbersField n rest) (λ vs rest'. good (v ∷ vs) rest'))
+-- n numbers, each of at most 4,294,967,295, put into a row from place k on
+unfoldable pub rowFrom : List ℕ → ℕ → ℕ → List ℕ → Parsed (List ℕ)
+rowFrom row k zero l = good row l
+rowFrom row k (suc n) l = onGood (fieldAt greatest32 l) (λ v rest. rowFrom (set row k v) (k + 1) n rest)
 
--- four bytes
-unfoldable pub fieldFrom : {X : Type 0} → List ℕ → (Field → Parsed X) → Parsed X
-fieldFrom bytes next =
-    pick (eqb (length bytes) 4) (next (four (getD bytes 0 0) (getD bytes 1 0) (getD bytes 2 0) (getD bytes 3 0))) bad
+-- n numbers, and 0 for the others of 19
+unfoldable pub numbersField : ℕ → List ℕ → Parsed (List ℕ)
+numbersField n l = rowFrom (replicate 19 0) 0 n l
 
 -- ---- calls: after the letter
 
@@ -105,30 +77,6 @@ linkAt l = onGood (flagField l) (λ on rest. good (link on) rest)
 -- Y output
 unfoldable pub whyAt : List ℕ → Parsed Call
 whyAt l = onGood (fieldAt 255 l) (λ k rest. good (why k) rest)
-
--- the first 17 of some numbers as settings, in the order of document 01's table, and the product code
-unfoldable pub setWith : List ℕ → ℕ → Settings
-setWith vs product =
-    record {
-      algorithm = getD vs 0 0;
-      capacity = getD vs 1 0;
-      dose = getD vs 2 0;
-      pc = getD vs 3 0;
-      pf = getD vs 4 0;
-      level = getD vs 5 0;
-      p7 = getD vs 6 0;
-      p8 = getD vs 7 0;
-      p9 = getD vs 8 0;
-      p11 = getD vs 9 0;
-      o = getD vs 10 0;
-      in1 = getD vs 11 0;
-      in2 = getD vs 12 0;
-      in3 = getD vs 13 0;
-      address = getD vs 14 0;
-      serial = getD vs 15 0;
-      point = getD vs 16 0;
-      product = product;
-    }
 
 -- one number more, or none where the line ends
 unfoldable pub orLast : Call → (ℕ → Call) → List ℕ → Parsed Call
@@ -163,7 +111,9 @@ writeFieldAt l =
 
 -- K four bytes
 unfoldable pub readFieldAt : List ℕ → Parsed Call
-readFieldAt l = onGood (bytesField l) (λ bytes rest. fieldFrom bytes (λ f. good (readField f) rest))
+readFieldAt l =
+    onGood (bytesField l) (λ bytes rest.
+    pick (eqb (length bytes) 4) (good (readField (four (getD bytes 0 0) (getD bytes 1 0) (getD bytes 2 0) (getD bytes 3 0))) rest) bad)
 
 -- D hour count amount settled product room
 unfoldable pub doseAt : List ℕ → Parsed Call

@@ -11,11 +11,13 @@ use Rattle.field.specs.Field.{four, weight}
 use Rattle.journal.specs.declared.Form.the-variants.{Old, New}
 use Rattle.journal.specs.declared.Line.the-variants.{Dose}
 use Rattle.text.specs.Scan.{expect, onGood, fieldAt}
-use Rattle.calls.specs.Call.{tick, settings, restart, request, modbus, why, readFrame, writeField, readField, writeLine, readLine, hour, minus, plus, signedAt, signedField, isHex, hexValue, bytesAt, bytesField, flagField, numbersField, fieldFrom, tickAt, linkAt, whyAt, setWith, orLast, settingsAt, restartAt, roomAt, bytesCall, writeFieldAt, readFieldAt, doseAt, onAt, callBy, atEnd, callOf}
+use Rattle.operands.specs.Numbers.{minus, plus, signedAt, signedField, setWith}
+use Rattle.operands.specs.Bytes.{isHex, hexValue, two, leadingBytes}
+use Rattle.calls.specs.Call.{tick, settings, restart, request, modbus, why, readFrame, writeField, readField, writeLine, readLine, hour, bytesAt, bytesField, flagField, rowFrom, numbersField, tickAt, linkAt, whyAt, orLast, settingsAt, restartAt, roomAt, bytesCall, writeFieldAt, readFieldAt, doseAt, onAt, callBy, atEnd, callOf}
 
 -- to unfold this is to unfold every rule of what a line asks
 unfoldable pub readings : Unit {0}
-unfolding callOf atEnd callBy tickAt linkAt whyAt settingsAt restartAt orLast setWith roomAt bytesCall writeFieldAt readFieldAt doseAt onAt fieldFrom numbersField bytesField bytesAt hexValue isHex signedField signedAt plus minus flagField fieldAt expect onGood numberAt digitsFrom isDigit pick
+unfolding callOf atEnd callBy tickAt linkAt whyAt settingsAt restartAt orLast setWith roomAt bytesCall writeFieldAt readFieldAt doseAt onAt numbersField rowFrom bytesField bytesAt leadingBytes two hexValue isHex signedField signedAt plus minus flagField fieldAt expect onGood numberAt digitsFrom isDigit pick
 readings = tt
 
 -- a sample of -2,147,483,648..2,147,483,647 and inputs of 0..255; no leading zero, no -0, nothing behind the inputs

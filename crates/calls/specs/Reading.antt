@@ -1,55 +1,22 @@
 -- What the steps of the reader answer: fields at a place of a line, and a line's call. Assumes nothing.
 use mathlib.Core.Path.{_≡_}
-use mathlib.Core.Bool.{_&&_}
-use mathlib.Core.List.{List, [], _∷_}
-use Prim.Native.Nat.{ℕ, _+_, _*_, _≤_}
+use mathlib.Core.List.{List, []}
+use Prim.Native.Nat.{ℕ, _≤_}
 use lib.Dec.{leb, eqb}
-use lib.IntN.{ℤ}
 use lib.ListN.{length, take, drop}
 use Rattle.laws.specs.Pick.{pick}
 use Rattle.laws.specs.Decimal.{Parsed, good, bad}
 use Rattle.journal.specs.declared.Form.the-variants.{Old, New}
-use Rattle.calls.specs.Call.{Call, request, modbus, writeFrame, readFrame, readLine, hour, hours, greatest32, isHex, hexValue, atEnd}
+use Rattle.operands.specs.Bytes.{carried}
+use Rattle.calls.specs.Call.{Call, request, modbus, writeFrame, readFrame, readLine, hour, hours, greatest32, atEnd}
 use Rattle.calls.specs.Reads.{asCall, sizeOf, Within}
 use Rattle.calls.specs.declared.Call as declared
 use Rattle.calls.specs.declared.Call.the-variants.{Unknown}
-use Rattle.calls.specs.declared.Signed.{Signed}
-use Rattle.calls.specs.declared.Signed.the-variants as S
 use Rattle.calls.specs.declared.Numbers.{Numbers}
 
--- ---- what a step answers: the value, and the bytes of s that follow it
-
-abbrev pub leadsSigned : List ℕ → Signed → Parsed ℤ
-leadsSigned s (S.Good v next) = good v (drop next s)
-leadsSigned s S.Bad = bad
-
-pub record ScansSigned (s : List ℕ) (rule : Parsed ℤ) (r : Signed) : Type 0 where
-  pub reads : rule ≡ leadsSigned s r
-
--- n numbers
-pub record Counts (s : List ℕ) (n : ℕ) (rule : Parsed (List ℕ)) (r : Numbers) : Type 0 where
-  pub reads : rule ≡ pick (r .good) (good (take n (r .values)) (drop (r .next) s)) bad
-  pub all : length (r .values) ≡ 19
-
--- ---- the bytes of a line: its first field, two digits a byte
-
--- the bytes before the first place where no two digits stand
-unfoldable pub leadingBytes : List ℕ → List ℕ
-leadingBytes [] = []
-leadingBytes (a ∷ []) = []
-leadingBytes (a ∷ b ∷ l) = let more = (hexValue a * 16 + hexValue b) ∷ leadingBytes l in pick (isHex a && isHex b) more []
-
--- behind the letter and the tab
-unfoldable pub carried : List ℕ → List ℕ
-carried s = leadingBytes (drop 2 s)
-
--- n bytes stand before place p, and those from there on are the others
-abbrev pub Left : List ℕ → ℕ → ℕ → Type 0
-Left s p n = n + length (leadingBytes (drop p s)) ≡ length (carried s)
-
--- eight bytes stand at place p, and the others behind them
-abbrev pub Digits16 : List ℕ → ℕ → Type 0
-Digits16 s p = length (leadingBytes (drop p s)) ≡ 8 + length (leadingBytes (drop (p + 16) s))
+-- the numbers of a row, and the bytes of s that follow them
+pub record Counts (s : List ℕ) (rule : Parsed (List ℕ)) (r : Numbers) : Type 0 where
+  pub reads : rule ≡ pick (r .good) (good (r .values) (drop (r .next) s)) bad
 
 -- the call of a letter that takes bytes, and the greatest number that it takes behind them
 unfoldable pub roomCall : ℕ → List ℕ → ℕ → Call

@@ -39,26 +39,29 @@ asCall bytes (C.Hour n h) = good (hour (take n bytes) h) []
 asCall bytes (C.Hours n room) = good (hours (take n bytes) room) []
 asCall bytes C.Unknown = bad
 
--- the bytes that a call carries
-unfoldable pub bytesIn : Parsed Call → List ℕ
-bytesIn (good (tick x i) rest) = []
-bytesIn (good (link on) rest) = []
-bytesIn (good (settings set) rest) = []
-bytesIn (good reset rest) = []
-bytesIn (good counters rest) = []
-bytesIn (good (restart set count total) rest) = []
-bytesIn (good (request s room) rest) = s
-bytesIn (good (modbus s room) rest) = s
-bytesIn (good (why k) rest) = []
-bytesIn (good (writeFrame s room) rest) = s
-bytesIn (good (readFrame s) rest) = s
-bytesIn (good (writeField w) rest) = []
-bytesIn (good (readField f) rest) = []
-bytesIn (good (writeLine l room) rest) = []
-bytesIn (good (readLine f s) rest) = s
-bytesIn (good (hour s h) rest) = s
-bytesIn (good (hours s room) rest) = s
-bytesIn bad = []
+-- the answer of the reader that stands for a call, and the bytes that the call carries
+unfoldable pub parts : Parsed Call → declared.Call × List ℕ
+parts (good (tick x i) rest) = (C.Tick x i, [])
+parts (good (link on) rest) = (C.Link on, [])
+parts (good (settings set) rest) = (C.Settings set, [])
+parts (good reset rest) = (C.Reset, [])
+parts (good counters rest) = (C.Counters, [])
+parts (good (restart set count total) rest) = (C.Restart set count total, [])
+parts (good (request s room) rest) = (C.Request (length s) room, s)
+parts (good (modbus s room) rest) = (C.Modbus (length s) room, s)
+parts (good (why k) rest) = (C.Why k, [])
+parts (good (writeFrame s room) rest) = (C.WriteFrame (length s) room, s)
+parts (good (readFrame s) rest) = (C.ReadFrame (length s), s)
+parts (good (writeField w) rest) = (C.WriteField w, [])
+parts (good (readField f) rest) = (C.ReadField f, [])
+parts (good (writeLine l room) rest) = (C.WriteLine l room, [])
+parts (good (readLine f s) rest) = (C.ReadLine f (length s), s)
+parts (good (hour s h) rest) = (C.Hour (length s) h, s)
+parts (good (hours s room) rest) = (C.Hours (length s) room, s)
+parts bad = (C.Unknown, [])
+
+abbrev pub bytesIn : Parsed Call → List ℕ
+bytesIn p = parts p .1
 
 -- how many bytes an answer carries
 unfoldable pub sizeOf : declared.Call → ℕ
@@ -113,44 +116,21 @@ Within (C.Hours n room) = (n ≤ 2048) × (room ≤ 2000)
 Within C.Unknown = Unit {0}
 
 -- the answer is the line's call; its bytes stand at the buffer's start, the rest of which is as it was: all of it where the line is no call
-pub record Reads (l old new : List ℕ) (r : declared.Call) : Type 0 where
+pub record ReadsCall (l old new : List ℕ) (r : declared.Call) : Type 0 where
   pub reads : asCall new r ≡ readIn (length old) l
   pub left : new ≡ over (bytesIn (readIn (length old) l)) old
   pub within : Within r
 
--- ---- an answer and its bytes
-
--- the answer of the reader that stands for a call
-unfoldable pub answered : Parsed Call → declared.Call
-answered (good (tick x i) rest) = C.Tick x i
-answered (good (link on) rest) = C.Link on
-answered (good (settings set) rest) = C.Settings set
-answered (good reset rest) = C.Reset
-answered (good counters rest) = C.Counters
-answered (good (restart set count total) rest) = C.Restart set count total
-answered (good (request s room) rest) = C.Request (length s) room
-answered (good (modbus s room) rest) = C.Modbus (length s) room
-answered (good (why k) rest) = C.Why k
-answered (good (writeFrame s room) rest) = C.WriteFrame (length s) room
-answered (good (readFrame s) rest) = C.ReadFrame (length s)
-answered (good (writeField w) rest) = C.WriteField w
-answered (good (readField f) rest) = C.ReadField f
-answered (good (writeLine l room) rest) = C.WriteLine l room
-answered (good (readLine f s) rest) = C.ReadLine f (length s)
-answered (good (hour s h) rest) = C.Hour (length s) h
-answered (good (hours s room) rest) = C.Hours (length s) room
-answered bad = C.Unknown
-
--- its bytes are the first of the buffer, and with them it is determined by the call that it stands for
+-- an answer's bytes are the first of the buffer, and with them it is determined by the call that it stands for
 pub record Known (r : declared.Call) : Type 0 where
   pub bytes : (b : List ℕ) → bytesIn (asCall b r) ≡ take (sizeOf r) b
   pub same : (a b : List ℕ) → take (sizeOf r) a ≡ take (sizeOf r) b → asCall a r ≡ asCall b r
   pub few : Within r → sizeOf r ≤ 2048
   pub none : (b : List ℕ) → asCall b r ≡ bad → sizeOf r ≡ 0
-  pub back : (b : List ℕ) → sizeOf r ≤ length b → answered (asCall b r) ≡ r
+  pub back : (b : List ℕ) → sizeOf r ≤ length b → parts (asCall b r) .0 ≡ r
 
 pub known : (r : declared.Call) → Known r
-unfolding asCall bytesIn sizeOf Within answered
+unfolding asCall parts sizeOf Within
 known (C.Tick x i) = record { bytes = λ b. refl; same = λ a b e. refl; few = λ w. omega arith; none = λ b e. refl; back = λ b i. refl }
 known (C.Link on) = record { bytes = λ b. refl; same = λ a b e. refl; few = λ w. omega arith; none = λ b e. refl; back = λ b i. refl }
 known (C.Settings set) = record { bytes = λ b. refl; same = λ a b e. refl; few = λ w. omega arith; none = λ b e. refl; back = λ b i. refl }
@@ -172,7 +152,7 @@ known C.Unknown = record { bytes = λ b. refl; same = λ a b e. refl; few = λ w
 
 -- ---- what a caller of the reader knows
 
-module _ {l old new : List ℕ} {r : declared.Call} (p : Reads l old new r) where
+module _ {l old new : List ℕ} {r : declared.Call} (p : ReadsCall l old new r) where
   size-fits : sizeOf r ≤ length old
   unfolding readIn
   size-fits =
@@ -201,8 +181,8 @@ module _ {l old new : List ℕ} {r : declared.Call} (p : Reads l old new r) wher
   read-call h k = p .reads ∙ pick-t _ _ _ (ap (λ (t : Bool). t && leb (length l) 4095) (le-leb _ _ h) ∙ le-leb _ _ k)
 
 -- two results that both meet the contract are equal
-pub read-determined : {l old new new' : List ℕ} {r r' : declared.Call} → Reads l old new r → Reads l old new' r' → (r ≡ r') × (new ≡ new')
+pub read-determined : {l old new new' : List ℕ} {r r' : declared.Call} → ReadsCall l old new r → ReadsCall l old new' r' → (r ≡ r') × (new ≡ new')
 read-determined {l} {old} {new} {new'} {r} {r'} p q =
     let n : new ≡ new' = p .left ∙ sym (q .left) in
     let e : asCall new r ≡ asCall new' r' = p .reads ∙ sym (q .reads) in
-    (sym (known r .back new (read-inside p)) ∙ ap answered e ∙ known r' .back new' (read-inside q), n)
+    (sym (known r .back new (read-inside p)) ∙ ap (λ (c : Parsed Call). parts c .0) e ∙ known r' .back new' (read-inside q), n)

@@ -1,12 +1,12 @@
 // Each kind of line, read behind its letter.
 use crate::Call;
-use crate::GREATEST;
-use crate::Signed;
 use crate::fields;
 use field::Field;
 use field::Weight;
 use journal::Form;
 use journal::Line;
+use operands::GREATEST;
+use operands::Signed;
 use text::Num;
 ghost use mathlib.Core.Path.{_≡_};
 ghost use Prim.Native.Nat.{_≤_};
@@ -14,8 +14,6 @@ ghost use lib.ListN.{length, drop};
 ghost use Rattle.calls.specs.Call.{tickAt, linkAt, whyAt, settingsAt, restartAt, roomAt, bytesCall, writeFieldAt, readFieldAt, doseAt, onAt};
 ghost use Rattle.calls.specs.Reads.{sizeOf};
 ghost use Rattle.calls.specs.Reading.{aloneCall, roomCall, roomMost, Ended, Asks, Carries};
-
-const TAB: u8 = 9;
 
 // The call, where nothing of the line follows it.
 pub(crate) fn ended(line: &[u8], end: usize, call: Call) -> Call
@@ -31,7 +29,7 @@ pub(crate) fn ended(line: &[u8], end: usize, call: Call) -> Call
 pub(crate) fn tick(line: &[u8]) -> Call
     ensures { λ r. ⌜ Asks (now (line .entry)) (tickAt (drop 1 (now (line .entry)))) r × (sizeOf r ≡ 0) ⌝ }
 {
-    let Signed::Good(sample, after) = fields::signed_at(line, 1) else {
+    let Signed::Good(sample, after) = operands::signed_at(line, 1) else {
         return Call::Unknown;
     };
     let Num::Good(inputs, end) = text::field_at(line, after, 255) else {
@@ -70,12 +68,12 @@ pub(crate) fn set(line: &[u8]) -> Call
     }
     let v = numbers.values;
     if line.len() <= numbers.next {
-        return Call::Settings(fields::set_of(v, 0));
+        return Call::Settings(operands::set_of(v, 0));
     }
     let Num::Good(product, end) = text::field_at(line, numbers.next, GREATEST) else {
         return Call::Unknown;
     };
-    ended(line, end, Call::Settings(fields::set_of(v, product)))
+    ended(line, end, Call::Settings(operands::set_of(v, product)))
 }
 
 // N SET count total; without a product it is 0.
@@ -88,7 +86,7 @@ pub(crate) fn restart(line: &[u8]) -> Call
     }
     let v = numbers.values;
     if line.len() <= numbers.next {
-        return Call::Restart(fields::set_of(v, 0), v[17], v[18]);
+        return Call::Restart(operands::set_of(v, 0), v[17], v[18]);
     }
     let Num::Good(total, end) = text::field_at(line, numbers.next, GREATEST) else {
         return Call::Unknown;
@@ -96,20 +94,20 @@ pub(crate) fn restart(line: &[u8]) -> Call
     ended(
         line,
         end,
-        Call::Restart(fields::set_of(v, v[17]), v[18], total),
+        Call::Restart(operands::set_of(v, v[17]), v[18], total),
     )
 }
 
 // The call of a letter that takes bytes, and of most a number.
-fn room_call(letter: u8, n: usize, number: u32) -> Call
+fn room_call(letter: u8, n: u32, number: u32) -> Call
     requires { ⌜ (n ≤ 2048) × (number ≤ roomMost letter) ⌝ }
     ensures { λ r. ⌜ Carries (roomCall letter) n number r ⌝ }
 {
     match letter {
-        b'B' => Call::Request(n, number as usize),
-        b'M' => Call::Modbus(n, number as usize),
-        b'W' => Call::WriteFrame(n, number as usize),
-        b'j' => Call::Hours(n, number as usize),
+        b'B' => Call::Request(n, number),
+        b'M' => Call::Modbus(n, number),
+        b'W' => Call::WriteFrame(n, number),
+        b'j' => Call::Hours(n, number),
         b'X' => Call::ReadFrame(n),
         b'l' => Call::ReadLine(Form::Old, n),
         b'm' => Call::ReadLine(Form::New, n),
@@ -123,14 +121,14 @@ pub(crate) fn room(line: &[u8], letter: u8, most: u32) -> Call
     requires most { ⌜ most ≡ roomMost letter ⌝ }
     ensures { λ r. ⌜ Asks (now (line .entry)) (roomAt most (roomCall letter) (drop 1 (now (line .entry)))) r ⌝ }
 {
-    if text::byte_at(line, 1) != TAB {
+    if text::byte_at(line, 1) != text::TAB {
         return Call::Unknown;
     }
-    let n = fields::count(line);
+    let n = operands::count(line);
     let Num::Good(number, end) = text::field_at(line, 2 + 2 * n, most) else {
         return Call::Unknown;
     };
-    ended(line, end, room_call(letter, n, number))
+    ended(line, end, room_call(letter, n as u32, number))
 }
 
 // X, l and m: bytes alone.
@@ -138,18 +136,18 @@ pub(crate) fn alone(line: &[u8], letter: u8) -> Call
     requires { ⌜ length (now line) ≤ 4095 ⌝ }
     ensures { λ r. ⌜ Asks (now (line .entry)) (bytesCall (aloneCall letter) (drop 1 (now (line .entry)))) r ⌝ }
 {
-    if text::byte_at(line, 1) != TAB {
+    if text::byte_at(line, 1) != text::TAB {
         return Call::Unknown;
     }
-    let n = fields::count(line);
-    ended(line, 2 + 2 * n, room_call(letter, n, 0))
+    let n = operands::count(line);
+    ended(line, 2 + 2 * n, room_call(letter, n as u32, 0))
 }
 
 // G weight stable over point
 pub(crate) fn weight(line: &[u8]) -> Call
     ensures { λ r. ⌜ Asks (now (line .entry)) (writeFieldAt (drop 1 (now (line .entry)))) r ⌝ }
 {
-    let Signed::Good(value, after_value) = fields::signed_at(line, 1) else {
+    let Signed::Good(value, after_value) = operands::signed_at(line, 1) else {
         return Call::Unknown;
     };
     let Num::Good(stable, after_stable) = text::field_at(line, after_value, 1) else {
@@ -172,13 +170,12 @@ pub(crate) fn weight(line: &[u8]) -> Call
 
 // K four bytes
 pub(crate) fn four(line: &[u8]) -> Call
-    requires { ⌜ length (now line) ≤ 4095 ⌝ }
     ensures { λ r. ⌜ Asks (now (line .entry)) (readFieldAt (drop 1 (now (line .entry)))) r ⌝ }
 {
-    if text::byte_at(line, 1) != TAB {
+    if text::byte_at(line, 1) != text::TAB {
         return Call::Unknown;
     }
-    if fields::count(line) != 4 {
+    if operands::count(line) != 4 {
         return Call::Unknown;
     }
     let field = Field {
@@ -209,7 +206,7 @@ pub(crate) fn dose(line: &[u8]) -> Call
         settled: v[3],
         product: v[4],
     };
-    ended(line, end, Call::WriteLine(dose, room as usize))
+    ended(line, end, Call::WriteLine(dose, room))
 }
 
 // H hour room
@@ -222,5 +219,5 @@ pub(crate) fn on(line: &[u8]) -> Call
     let Num::Good(room, end) = text::field_at(line, after, 64) else {
         return Call::Unknown;
     };
-    ended(line, end, Call::WriteLine(Line::On { hour }, room as usize))
+    ended(line, end, Call::WriteLine(Line::On { hour }, room))
 }

@@ -11,14 +11,8 @@ ghost use mathlib.Core.Path.{_≡_};
 ghost use Prim.Native.Nat.{_≤_};
 ghost use lib.ListN.{length, drop, getD};
 ghost use Rattle.calls.specs.Call.{callBy};
-ghost use Rattle.calls.specs.Reads.{Sizes, Reads};
+ghost use Rattle.calls.specs.Reads.{Sizes, ReadsCall};
 ghost use Rattle.calls.specs.Reading.{Asks};
-
-// A number that may be below 0, read at a place: its value and the place after it, or none.
-enum Signed {
-    Good(i32, usize),
-    Bad,
-}
 
 // n numbers read at a place; the others are 0.
 struct Numbers {
@@ -39,31 +33,28 @@ pub enum Call {
     // A restart: the set, the stored count and total.
     Restart(Settings, u32, u32),
     // A line request on so many bytes, and the room of the reply buffer.
-    Request(usize, usize),
+    Request(u32, u32),
     // A MODBUS frame of so many bytes, and the room of the reply buffer.
-    Modbus(usize, usize),
+    Modbus(u32, u32),
     // Why an output is as it is.
     Why(u8),
     // The frame writer on a body of so many bytes, and the room of its buffer.
-    WriteFrame(usize, usize),
+    WriteFrame(u32, u32),
     // The frame reader on so many bytes.
-    ReadFrame(usize),
+    ReadFrame(u32),
     WriteField(Weight),
     ReadField(Field),
     // The writer of a journal's line of the new form, and the room of its buffer.
-    WriteLine(Line, usize),
+    WriteLine(Line, u32),
     // The reader of one line of a form, of so many bytes.
-    ReadLine(Form, usize),
+    ReadLine(Form, u32),
     // One hour of a journal of so many bytes.
-    Hour(usize, u32),
+    Hour(u32, u32),
     // The hour program's text of a journal of so many bytes, and the room of its buffer.
-    Hours(usize, usize),
+    Hours(u32, u32),
     // No call.
     Unknown,
 }
-
-// The greatest number.
-const GREATEST: u32 = 4294967295;
 
 // So many bytes hold those of every line.
 pub const BYTES: usize = 2048;
@@ -95,7 +86,7 @@ fn call_of(line: &[u8]) -> Call
         b'H' => asks::on(line),
         b'l' => asks::alone(line, letter),
         b'm' => asks::alone(line, letter),
-        b'u' => asks::room(line, letter, GREATEST),
+        b'u' => asks::room(line, letter, operands::GREATEST),
         b'j' => asks::room(line, letter, 2000),
         _ => Call::Unknown,
     }
@@ -106,20 +97,20 @@ pub fn size_of(call: Call) -> usize
     ensures { λ r. ⌜ Sizes call r ⌝ }
 {
     match call {
-        Call::Request(n, _) => n,
-        Call::Modbus(n, _) => n,
-        Call::WriteFrame(n, _) => n,
-        Call::ReadFrame(n) => n,
-        Call::ReadLine(_, n) => n,
-        Call::Hour(n, _) => n,
-        Call::Hours(n, _) => n,
+        Call::Request(n, _) => n as usize,
+        Call::Modbus(n, _) => n as usize,
+        Call::WriteFrame(n, _) => n as usize,
+        Call::ReadFrame(n) => n as usize,
+        Call::ReadLine(_, n) => n as usize,
+        Call::Hour(n, _) => n as usize,
+        Call::Hours(n, _) => n as usize,
         _ => 0,
     }
 }
 
 // The call of a line, its LF left out; its bytes are stored at the start of `bytes`, which is left as it was where the line is no call.
 pub fn read(line: &[u8], bytes: &mut [u8]) -> Call
-    ensures { λ r. ⌜ Reads (now (line .entry)) (now (bytes .entry)) (now (bytes .exit)) r ⌝ }
+    ensures { λ r. ⌜ ReadsCall (now (line .entry)) (now (bytes .entry)) (now (bytes .exit)) r ⌝ }
 {
     if bytes.len() < BYTES {
         return Call::Unknown;

@@ -12,7 +12,7 @@ use lib.ListN.{length, length-append}
 use lib.Seq.{sets}
 use borrow.Author.Tests.{le-leb, le-ltb, lt-ltb, eq-eqb, ne-eqb}
 use borrow.Rule.Slice.PartMut.{midOf, putMid}
-use Rattle.laws.specs.Pick.{pick, pick-t, pick-f}
+use Rattle.laws.specs.Pick.{pick, pick-t, pick-f, pick-map}
 use Rattle.laws.specs.Over.{over, sets-append, sets-over}
 use Rattle.laws.specs.Decimal.{numberAt, decimal, digitsOf, glyph}
 use Rattle.laws.specs.DecimalLaws.{decimal-small}
@@ -27,9 +27,9 @@ use Rattle.journal.specs.declared.Line.the-variants.{On}
 use Rattle.entry.specs.Says.{saysWrote}
 use Rattle.entry.specs.declared.Wrote.{Wrote}
 use Rattle.entry.specs.declared.Wrote.the-variants as W
-use Rattle.clock.specs.Clock.{ticksAnHour, greatestHour, Note, note, refusalText, refuse, firstOf, closing, nextHour, withTicks, oneMore, counts, heardBy, Runs}
-use Rattle.clock.specs.Marking.{sizeOf, Prints, prints-over, Adds, Writable, Writes, writes-as, writes-none, roomed, fitsLine, fitted, Opens, Marks}
-use Rattle.clock.specs.Keeps.{first-runs, heard-runs, roomed-is, roomed-none, fitted-is}
+use Rattle.clock.specs.Clock.{ticksAnHour, greatestHour, Note, note, refusalText, refuse, firstOf, closing, nextHour, withTicks, oneMore, counts, passedBy, Runs}
+use Rattle.clock.specs.Marking.{sizeOf, Prints, Adds, Writes, prints-writes, writes-as, writes-none, fitsLine, Does, Passes}
+use Rattle.clock.specs.Keeps.{passed-runs, roomed-is, roomed-none, Uncounted, restarted, lost, other}
 use Rattle.clock.specs.Part.{put-part, part-length}
 use Rattle.clock.specs.declared.Heard.{Heard}
 use Rattle.clock.specs.declared.Heard.the-variants.{Ticked, Dosed, Restarted, Lost, Other}
@@ -68,10 +68,6 @@ version-put {old} w room e f =
     let is = wrote w (pick-t _ _ _ (le-leb 4 (length old) (omega arith))) f in
     record { left = is .1 ∙ sym (sets-over old (86 ∷ 9 ∷ 50 ∷ 10 ∷ []) (omega arith)); next = e ∙ is .0; short = omega arith }
 
--- the journal begins with it
-pub version-writes : {old new : List ℕ} {n : ℕ} {m : Note} {next : Clock} → 64 ≤ length old → note next versionText ≡ m → Prints 4 old 0 versionText new n → Writes m old new (record { next = next; len = n })
-version-writes room e p = let o = prints-over (omega arith) p in writes-as (sym e) (record { next = refl; left = o .0; len = o .1 })
-
 -- ---- a refusal
 
 ten : decimal 10 ≡ 49 ∷ 48 ∷ []
@@ -90,27 +86,14 @@ refusal-put old n h =
     let size : length (refusalText n) ≡ 7 = ap length e in
     record { left = ap (sets old 0) (sym e); next = omega (arith, size); short = omega (arith, size) }
 
-pub refuse-writes : {old new : List ℕ} {n : ℕ} {next : Clock} (k : Clock) (line : ℕ) → 64 ≤ length old → next ≡ refuse line k .next → Prints 7 old 0 (refusalText line) new n
-    → Writes (refuse line k) old new (record { next = next; len = n })
-unfolding refuse
-refuse-writes k line h e p = let o = prints-over (omega arith) p in record { next = e; left = o .0; len = o .1 }
-
 -- ---- one tick more
+
+pub adds-text : {next : Clock} {n : Note} {at r : ℕ} {old text new : List ℕ} → n ≡ note next text → Prints 31 old at text new r → Adds at n old new (record { next = next; len = r })
+adds-text {next} {at = at} {r} {old} {new = new} e p = subst (λ (m : Note). Adds at m old new (record { next = next; len = r })) (sym e) (record { next = refl; prints = p })
 
 -- nothing is put
 pub adds-none : {next : Clock} {n : Note} (at : ℕ) (old : List ℕ) → n ≡ note next [] → Adds at n old old (record { next = next; len = at })
-adds-none at old e =
-    record {
-      next = sym (ap (λ (m : Note). m .next) e);
-      prints = record { left = ap (λ (m : Note). sets old at (m .text)) (sym e); next = sym (ap (λ (m : Note). at + length (m .text)) e ∙ add-zero at); short = omega (arith, ap (λ (m : Note). length (m .text)) e) };
-    }
-
-pub adds-text : {next : Clock} {n : Note} {at r : ℕ} {old text new : List ℕ} → n ≡ note next text → Prints 31 old at text new r → Adds at n old new (record { next = next; len = r })
-adds-text {next} {n} {at} {r} {old} {text} {new} e p =
-    record {
-      next = sym (ap (λ (m : Note). m .next) e);
-      prints = record { left = p .left ∙ ap (λ (m : Note). sets old at (m .text)) (sym e); next = p .next ∙ ap (λ (m : Note). at + length (m .text)) (sym e); short = omega (arith, p .short, ap (λ (m : Note). length (m .text)) e) };
-    }
+adds-none at old e = adds-text e (record { left = refl; next = sym (add-zero at); short = omega arith })
 
 pub more-same : (k : Clock) → (k .ticks + 1 ≡ ticksAnHour → ⊥) → oneMore k [] ≡ note (withTicks (k .ticks + 1) k) []
 unfolding oneMore linesText
@@ -132,13 +115,8 @@ more-closed k h e = more-next k h ∙ ap (λ (ls : List Line). note (nextHour k)
 
 -- a dose stands before what the tick adds else
 more-dosed : (k : Clock) (d : Line) → oneMore k (d ∷ []) ≡ note (oneMore k [] .next) (textOf New d ++ oneMore k [] .text)
-unfolding oneMore linesText pick
-more-dosed k d = go (eqb (k .ticks + 1) ticksAnHour)
-  where
-    go : (b : Bool) → pick b (note (nextHour k) (textOf New d ++ linesText New (closing k))) (note (withTicks (k .ticks + 1) k) (textOf New d ++ []))
-        ≡ note (pick b (note (nextHour k) (linesText New (closing k))) (note (withTicks (k .ticks + 1) k) []) .next) (textOf New d ++ pick b (note (nextHour k) (linesText New (closing k))) (note (withTicks (k .ticks + 1) k) []) .text)
-    go true = refl
-    go false = refl
+unfolding oneMore linesText
+more-dosed k d = sym (pick-map (λ (n : Note). note (n .next) (textOf New d ++ n .text)) (eqb (k .ticks + 1) ticksAnHour) _ _)
 
 counts-more : (k : Clock) (doses : List Line) → k .hour ≤ greatestHour → counts k doses ≡ oneMore k doses
 unfolding counts
@@ -149,9 +127,7 @@ unfolding counts
 counts-refuses k doses h = pick-t _ _ _ (lt-ltb greatestHour (k .hour) h)
 
 pub ticked-writes : {old new : List ℕ} {r : Marked} (k : Clock) → k .hour ≤ greatestHour → 64 ≤ length old → Adds 0 (oneMore k []) old new r → Writes (counts k []) old new r
-ticked-writes k h room a =
-    let o = prints-over (omega arith) (a .prints) in
-    writes-as (counts-more k [] h) (record { next = a .next; left = o .0; len = o .1 })
+ticked-writes k h room a = writes-as (counts-more k [] h) (prints-writes (omega arith) (a .next) (a .prints))
 
 pub dosed-writes : {old mid new : List ℕ} {q : ℕ} {r : Marked} (k : Clock) (d : Line) → k .hour ≤ greatestHour → 64 ≤ length old
     → Prints 31 old 0 (textOf New d) mid q → Adds q (oneMore k []) mid new r → Writes (counts k (d ∷ [])) old new r
@@ -163,8 +139,7 @@ dosed-writes {old} {mid} {new} {q} {r} k d h room p a =
       next = a .prints .next ∙ ap (λ (n : ℕ). n + length more) (p .next) ∙ add-assoc 0 (length (textOf New d)) (length more) ∙ ap (λ (n : ℕ). 0 + n) (sym (length-append (textOf New d) more));
       short = omega (arith, length-append (textOf New d) more, p .short, a .prints .short);
     } in
-    let o = prints-over (omega arith) both in
-    writes-as (counts-more k (d ∷ []) h ∙ more-dosed k d) (record { next = a .next; left = o .0; len = o .1 })
+    writes-as (counts-more k (d ∷ []) h ∙ more-dosed k d) (prints-writes (omega arith) (a .next) both)
 
 -- ---- the calls
 
@@ -177,22 +152,29 @@ other-fits Restarted e = refl
 other-fits Lost e = refl
 other-fits Other e = refl
 
-module _ {old : List ℕ} (k : Clock) (runs : Runs k) where
-  stays : (n : Note) → length old < 64 → Writes (roomed (length old) k n) old old (record { next = k; len = 0 })
-  stays n room = writes-none (sym (roomed-none (length old) k n room))
+-- a line that is neither a restart nor no call passes and leaves the clock
+pub stays : (k : Clock) (h : Heard) → OneOf (0 ∷ 1 ∷ 4 ∷ []) (tagOf heard-type h) → k ≡ passedBy k h
+unfolding passedBy
+stays k Ticked e = refl
+stays k (Dosed d) e = refl
+stays k Restarted e = absurd (miss (0 ∷ 1 ∷ 4 ∷ []) 2 tt e)
+stays k Lost e = absurd (miss (0 ∷ 1 ∷ 4 ∷ []) 3 tt e)
+stays k Other e = refl
 
-  pub opens-none : (line : List ℕ) → length old < 64 → Opens k line old old (record { next = k; len = 0 })
-  opens-none line room = record { writes = stays _ room; runs = runs }
+pub uncounted : (h : Heard) → OneOf (2 ∷ 3 ∷ 4 ∷ []) (tagOf heard-type h) → Uncounted h
+uncounted Ticked e = absurd (miss (2 ∷ 3 ∷ 4 ∷ []) 0 tt e)
+uncounted (Dosed d) e = absurd (miss (2 ∷ 3 ∷ 4 ∷ []) 1 tt e)
+uncounted Restarted e = restarted
+uncounted Lost e = lost
+uncounted Other e = other
 
-  pub opens-first : {new : List ℕ} {r : Marked} (line : List ℕ) → 64 ≤ length old → Writes (firstOf k (numberAt greatestHour line)) old new r → Opens k line old new r
-  opens-first line room w = record { writes = writes-as (roomed-is (length old) k _ room) w; runs = subst Runs (sym (w .next)) (first-runs k line runs) }
+pub passes : {r : Clock} (k : Clock) (h : Heard) → r ≡ passedBy k h → Passes k h r
+passes k h e = record { next = e; runs = λ s. subst Runs (sym e) (passed-runs k h s) }
 
-  pub marks-none : (h : Heard) → length old < 64 → Marks k h old old (record { next = k; len = 0 })
-  marks-none h room = record { writes = stays _ room; runs = runs }
+module _ {old : List ℕ} {n : Note} (k : Clock) where
+  -- with too little room nothing is noted
+  pub does-none : Runs k → length old < 64 → Does k n old old (record { next = k; len = 0 })
+  does-none s room = record { writes = writes-none (sym (roomed-none (length old) k n room)); runs = s }
 
-  pub marks-unfit : (h : Heard) → 64 ≤ length old → fitsLine h ≡ false → Marks k h old old (record { next = k; len = 0 })
-  unfolding fitted
-  marks-unfit h room e = record { writes = writes-none (sym (roomed-is (length old) k _ room ∙ pick-f _ _ _ e)); runs = runs }
-
-  pub marks-heard : {new : List ℕ} {r : Marked} (h : Heard) → 64 ≤ length old → Writable h → Writes (heardBy k h) old new r → Marks k h old new r
-  marks-heard h room f w = record { writes = writes-as (roomed-is (length old) k _ room ∙ fitted-is k h f) w; runs = subst Runs (sym (w .next)) (heard-runs k h runs) }
+  pub does : {m : Note} {new : List ℕ} {r : Marked} → 64 ≤ length old → n ≡ m → Runs (m .next) → Writes m old new r → Does k n old new r
+  does room e s w = record { writes = writes-as (roomed-is (length old) k _ room ∙ e) w; runs = subst Runs (sym (w .next)) s }

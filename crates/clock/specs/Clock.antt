@@ -106,6 +106,14 @@ heardBy k Restarted = note (restartedBy k) []
 heardBy k Lost = note (lostBy k) []
 heardBy k Other = note k []
 
+-- what is left of the clock by a line that is no counted tick
+unfoldable pub passedBy : Clock → Heard → Clock
+passedBy k Ticked = k
+passedBy k (Dosed d) = k
+passedBy k Restarted = restartedBy k
+passedBy k Lost = lostBy k
+passedBy k Other = k
+
 -- ---- what every clock from start or an earlier call satisfies
 
 pub record Runs (k : Clock) : Type 0 where

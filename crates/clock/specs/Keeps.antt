@@ -17,8 +17,8 @@ use Rattle.journal.specs.declared.Line.{Line}
 use Rattle.journal.specs.declared.Line.the-variants.{On}
 use Rattle.counters.specs.declared.Record.{Record}
 use Rattle.counters.specs.Laws.{Recordable}
-use Rattle.clock.specs.Clock.{ticksAnHour, greatestHour, startOf, Note, note, withStage, withHour, withTicks, withWhole, withKnown, refuse, firstOf, doseIn, nextHour, oneMore, counts, restartedBy, lostBy, heardBy, Runs}
-use Rattle.clock.specs.Marking.{Writable, Writes, writes-as, roomed, fitsLine, fitted, Opens, Marks}
+use Rattle.clock.specs.Clock.{ticksAnHour, greatestHour, startOf, Note, note, withStage, withHour, withTicks, withWhole, withKnown, refuse, firstOf, doseIn, nextHour, oneMore, counts, restartedBy, lostBy, heardBy, passedBy, Runs}
+use Rattle.clock.specs.Marking.{Writes, writes-as, roomed, fitsLine, Writable, fitted, Does}
 use Rattle.clock.specs.declared.Heard.{Heard}
 use Rattle.clock.specs.declared.Heard.the-variants.{Ticked, Dosed, Restarted, Lost, Other}
 use Rattle.clock.specs.declared.Clock.{Clock}
@@ -29,27 +29,17 @@ use Rattle.clock.specs.declared.Marked.{Marked}
 pub on-in-range : (h : ℕ) → h ≤ greatestHour → inRange New (On h) ≡ true
 on-in-range h m = hour-inside New h m
 
-pub dose-in-range : (h : ℕ) (d : Record) → h ≤ greatestHour → Recordable d → inRange New (doseIn h d) ≡ true
-unfolding doseIn productMost
-dose-in-range h d m k =
-    dose-inside New h (d .count) (d .amount) (d .settled) (d .product) m (k .count) (k .amount) (k .settled) (k .product)
+-- a dose that can be written in hour 0 can be written in every hour
+pub dose-in-range : (h : ℕ) (d : Record) → h ≤ greatestHour → Writable (Dosed d) → inRange New (doseIn h d) ≡ true
+unfolding fitsLine doseIn
+dose-in-range h d m w =
+    let r = dose-range New 0 (d .count) (d .amount) (d .settled) (d .product) w in
+    dose-inside New h (d .count) (d .amount) (d .settled) (d .product) m (r .1) (r .2) (r .3) (r .4)
 
--- a dose that can be written is within the ranges of a D line, and the other way about
-pub writable-fits : (h : Heard) → Writable h → fitsLine h ≡ true
-unfolding fitsLine
-writable-fits Ticked w = refl
-writable-fits (Dosed d) w = dose-in-range 0 d (omega arith) w
-writable-fits Restarted w = refl
-writable-fits Lost w = refl
-writable-fits Other w = refl
-
-pub fits-writable : (h : Heard) → fitsLine h ≡ true → Writable h
+-- and the record of a dose that is told of can be
+pub recordable-writable : (d : Record) → Recordable d → Writable (Dosed d)
 unfolding fitsLine doseIn productMost
-fits-writable Ticked e = tt
-fits-writable (Dosed d) e = let r = dose-range New 0 (d .count) (d .amount) (d .settled) (d .product) e in record { count = r .1; amount = r .2; settled = r .3; product = r .4 }
-fits-writable Restarted e = tt
-fits-writable Lost e = tt
-fits-writable Other e = tt
+recordable-writable d k = dose-inside New 0 (d .count) (d .amount) (d .settled) (d .product) (omega arith) (k .count) (k .amount) (k .settled) (k .product)
 
 -- ---- the clock
 
@@ -83,20 +73,20 @@ counts-runs k doses s =
     (λ e. refuse-runs 0 k s)
     (λ e. pick-if (λ (n : Note). Runs (n .next)) (eqb (k .ticks + 1) ticksAnHour) (λ f. next-runs k (ltb-false greatestHour (k .hour) e)) (λ f. ticks-runs k s f))
 
-pub restarted-runs : (k : Clock) → Runs k → Runs (restartedBy k)
-unfolding restartedBy withKnown withWhole
-restarted-runs k s = record { ticks = s .ticks; hour = s .hour }
-
-pub lost-runs : (k : Clock) → Runs k → Runs (lostBy k)
-unfolding lostBy withKnown withWhole
-lost-runs k s = record { ticks = s .ticks; hour = s .hour }
+pub passed-runs : (k : Clock) (h : Heard) → Runs k → Runs (passedBy k h)
+unfolding passedBy restartedBy lostBy withKnown withWhole
+passed-runs k Ticked s = s
+passed-runs k (Dosed d) s = s
+passed-runs k Restarted s = record { ticks = s .ticks; hour = s .hour }
+passed-runs k Lost s = record { ticks = s .ticks; hour = s .hour }
+passed-runs k Other s = s
 
 pub heard-runs : (k : Clock) (h : Heard) → Runs k → Runs (heardBy k h .next)
-unfolding heardBy
+unfolding heardBy passedBy
 heard-runs k Ticked s = counts-runs k _ s
 heard-runs k (Dosed d) s = counts-runs k _ s
-heard-runs k Restarted s = restarted-runs k s
-heard-runs k Lost s = lost-runs k s
+heard-runs k Restarted s = passed-runs k Restarted s
+heard-runs k Lost s = passed-runs k Lost s
 heard-runs k Other s = s
 
 -- the first line is a number of at most 9,999,999 or none
@@ -116,10 +106,21 @@ roomed-none room k n h = pick-f _ _ _ (lt-leb 64 room h)
 -- and with a dose that can be written, the call does what the line adds
 pub fitted-is : (k : Clock) (h : Heard) → Writable h → fitted k h ≡ heardBy k h
 unfolding fitted
-fitted-is k h w = pick-t _ _ _ (writable-fits h w)
+fitted-is k h w = pick-t _ _ _ w
 
-pub opens-writes : {k : Clock} {line old new : List ℕ} {r : Marked} → 64 ≤ length old → Opens k line old new r → Writes (firstOf k (numberAt greatestHour line)) old new r
-opens-writes {k} {old = old} room o = writes-as (sym (roomed-is (length old) k _ room)) (o .writes)
+pub does-writes : {k : Clock} {n m : Note} {old new : List ℕ} {r : Marked} → 64 ≤ length old → n ≡ m → Does k n old new r → Writes m old new r
+does-writes {k} {old = old} room e o = writes-as (sym (roomed-is (length old) k _ room ∙ e)) (o .writes)
 
-pub marks-writes : {k : Clock} {h : Heard} {old new : List ℕ} {r : Marked} → 64 ≤ length old → Writable h → Marks k h old new r → Writes (heardBy k h) old new r
-marks-writes {k} {h} {old} room w m = writes-as (sym (roomed-is (length old) k _ room ∙ fitted-is k h w)) (m .writes)
+-- ---- a line that is no counted tick
+
+pub data Uncounted : Heard → Type 0 where
+  restarted : Uncounted Restarted
+  lost : Uncounted Lost
+  other : Uncounted Other
+
+-- adds nothing, and is heard as it passes
+pub heard-passed : {h : Heard} (k : Clock) → Uncounted h → heardBy k h ≡ note (passedBy k h) []
+unfolding heardBy passedBy
+heard-passed k restarted = refl
+heard-passed k lost = refl
+heard-passed k other = refl

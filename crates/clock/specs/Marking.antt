@@ -16,8 +16,7 @@ use Rattle.journal.specs.declared.Form.the-variants.{New}
 use Rattle.journal.specs.Line.{inRange}
 use Rattle.entry.specs.declared.Wrote.{Wrote}
 use Rattle.entry.specs.declared.Wrote.the-variants as W
-use Rattle.counters.specs.Laws.{Recordable}
-use Rattle.clock.specs.Clock.{greatestHour, startOf, Note, note, firstOf, doseIn, heardBy, Runs}
+use Rattle.clock.specs.Clock.{greatestHour, startOf, Note, note, firstOf, doseIn, heardBy, passedBy, Runs}
 use Rattle.clock.specs.declared.Heard.{Heard}
 use Rattle.clock.specs.declared.Heard.the-variants.{Ticked, Dosed, Restarted, Lost, Other}
 use Rattle.clock.specs.declared.Clock.{Clock}
@@ -47,20 +46,6 @@ pub record Prints (most : ℕ) (old : List ℕ) (at : ℕ) (text new : List ℕ)
   pub next : r ≡ at + length text
   pub short : length text ≤ most
 
--- a text at the buffer's start
-pub prints-over : {most r : ℕ} {old text new : List ℕ} → most ≤ length old → Prints most old 0 text new r → (new ≡ over text old) × (r ≡ length text)
-prints-over {most} {r} {old} {text} {new} h p =
-    let k : length text ≤ length old = omega (arith, p .short) in
-    (p .left ∙ sets-over old text k, p .next ∙ zero-add (length text))
-
--- the D line of a dose is never refused
-abbrev pub Writable : Heard → Type 0
-Writable Ticked = Unit {0}
-Writable (Dosed d) = Recordable d
-Writable Restarted = Unit {0}
-Writable Lost = Unit {0}
-Writable Other = Unit {0}
-
 -- the next clock is the note's, and its text stands behind `at` bytes
 pub record Adds (at : ℕ) (n : Note) (old new : List ℕ) (r : Marked) : Type 0 where
   pub next : r .next ≡ n .next
@@ -71,6 +56,10 @@ pub record Writes (n : Note) (old new : List ℕ) (r : Marked) : Type 0 where
   pub next : r .next ≡ n .next
   pub left : new ≡ over (n .text) old
   pub len : r .len ≡ length (n .text)
+
+-- a text at the buffer's start
+pub prints-writes : {n : Note} {most : ℕ} {old new : List ℕ} {r : Marked} → most ≤ length old → r .next ≡ n .next → Prints most old 0 (n .text) new (r .len) → Writes n old new r
+prints-writes {n} {most} {old} h e p = record { next = e; left = p .left ∙ sets-over old (n .text) (omega (arith, p .short)); len = p .next ∙ zero-add (length (n .text)) }
 
 pub writes-as : {n m : Note} {old new : List ℕ} {r : Marked} → n ≡ m → Writes m old new r → Writes n old new r
 writes-as {n} {m} {old} {new} {r} e w = subst (λ (x : Note). Writes x old new r) (sym e) w
@@ -94,29 +83,38 @@ fitsLine Restarted = true
 fitsLine Lost = true
 fitsLine Other = true
 
--- nor is a dose that no D line holds
+-- and then it is never refused
+abbrev pub Writable : Heard → Type 0
+Writable h = fitsLine h ≡ true
+
+-- a dose that no D line holds is not noted
 unfoldable pub fitted : Clock → Heard → Note
 fitted k h = pick (fitsLine h) (heardBy k h) (note k [])
 
--- the first line
-pub record Opens (k : Clock) (line old new : List ℕ) (r : Marked) : Type 0 where
-  pub writes : Writes (roomed (length old) k (firstOf k (numberAt greatestHour line))) old new r
+-- the note stands at the buffer's start, the rest of which is as it was
+pub record Does (k : Clock) (n : Note) (old new : List ℕ) (r : Marked) : Type 0 where
+  pub writes : Writes (roomed (length old) k n) old new r
   pub runs : Runs (r .next)
+
+-- the first line
+abbrev pub Opens : Clock → List ℕ → List ℕ → List ℕ → Marked → Type 0
+Opens k line = Does k (firstOf k (numberAt greatestHour line))
 
 -- a line that is heard
-pub record Marks (k : Clock) (h : Heard) (old new : List ℕ) (r : Marked) : Type 0 where
-  pub writes : Writes (roomed (length old) k (fitted k h)) old new r
-  pub runs : Runs (r .next)
+abbrev pub Marks : Clock → Heard → List ℕ → List ℕ → Marked → Type 0
+Marks k h = Does k (fitted k h)
 
--- two results that both meet a contract are equal
-writes-determined : {n : Note} {old new new' : List ℕ} {a b : Marked} → Writes n old new a → Writes n old new' b → (a ≡ b) × (new ≡ new')
-writes-determined p q = (
-  ap₂ (λ (k : Clock) (n : ℕ). record { next = k; len = n }) (same (p .next) (q .next)) (same (p .len) (q .len)),
-  same (p .left) (q .left),
+-- a line that is no counted tick
+pub record Passes (k : Clock) (h : Heard) (r : Clock) : Type 0 where
+  pub next : r ≡ passedBy k h
+  pub runs : Runs k → Runs r
+
+-- two results that both meet a contract are equal, of the first line and of one that is heard
+pub does-determined : {k : Clock} {n : Note} {old new new' : List ℕ} {a b : Marked} → Does k n old new a → Does k n old new' b → (a ≡ b) × (new ≡ new')
+does-determined p q = (
+  ap₂ (λ (k : Clock) (n : ℕ). record { next = k; len = n }) (same (p .writes .next) (q .writes .next)) (same (p .writes .len) (q .writes .len)),
+  same (p .writes .left) (q .writes .left),
 )
 
-pub first-determined : {k : Clock} {line old new new' : List ℕ} {a b : Marked} → Opens k line old new a → Opens k line old new' b → (a ≡ b) × (new ≡ new')
-first-determined p q = writes-determined (p .writes) (q .writes)
-
-pub heard-determined : {k : Clock} {h : Heard} {old new new' : List ℕ} {a b : Marked} → Marks k h old new a → Marks k h old new' b → (a ≡ b) × (new ≡ new')
-heard-determined p q = writes-determined (p .writes) (q .writes)
+pub passed-determined : {k : Clock} {h : Heard} {a b : Clock} → Passes k h a → Passes k h b → a ≡ b
+passed-determined p q = same (p .next) (q .next)

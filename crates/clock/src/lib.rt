@@ -12,9 +12,8 @@ ghost use lib.ListN.{length};
 ghost use Rattle.laws.specs.Decimal.{numberAt};
 ghost use Rattle.journal.specs.Line.{versionText, textOf, inRange};
 ghost use Rattle.journal.specs.declared.Form.the-variants.{New};
-ghost use Rattle.counters.specs.Laws.{Recordable};
 ghost use Rattle.clock.specs.Clock.{greatestHour, refusalText, refuse, firstOf, doseIn, oneMore, counts, restartedBy, heardBy, Runs};
-ghost use Rattle.clock.specs.Marking.{Starts, sizeOf, Prints, Adds, Writable, fitsLine, Writes, Opens, Marks};
+ghost use Rattle.clock.specs.Marking.{Starts, sizeOf, Prints, Adds, fitsLine, Writable, Writes, Opens, Marks, Passes};
 
 // Before the first line, recording, or over after a refusal.
 pub enum Stage {
@@ -188,7 +187,7 @@ fn dose_line(hour: u32, dose: Record) -> Line
 
 // A counted tick that completed a dose.
 fn dosed(k: Clock, dose: Record, out: &mut [u8]) -> Marked
-    requires { ⌜ Runs k × Recordable dose × (64 ≤ length (now out)) ⌝ }
+    requires { ⌜ Runs k × Writable (Heard.Dosed dose) × (64 ≤ length (now out)) ⌝ }
     ensures { λ n. ⌜ Writes (counts k (doseIn (k .hour) dose ∷ [])) (now (out .entry)) (now (out .exit)) n ⌝ }
 {
     if GREATEST_HOUR < k.hour {
@@ -219,19 +218,10 @@ fn by_heard(k: Clock, heard: Heard, out: &mut [u8]) -> Marked
     match heard {
         Heard::Ticked => ticked(k, out),
         Heard::Dosed(dose) => dosed(k, dose, out),
-        Heard::Restarted => Marked {
-            next: restarted(k),
+        _ => Marked {
+            next: k.passed(heard),
             len: 0,
         },
-        Heard::Lost => Marked {
-            next: Clock {
-                whole: false,
-                known: false,
-                ..k
-            },
-            len: 0,
-        },
-        Heard::Other => Marked { next: k, len: 0 },
     }
 }
 
@@ -291,5 +281,20 @@ impl Clock {
             return Marked { next: self, len: 0 };
         }
         by_heard(self, heard, out)
+    }
+
+    // What a line that is no counted tick leaves: an accepted restart, no call, or any other call; it adds nothing.
+    pub fn passed(self, heard: Heard) -> Clock
+        ensures { λ r. ⌜ Passes self heard r ⌝ }
+    {
+        match heard {
+            Heard::Restarted => restarted(self),
+            Heard::Lost => Clock {
+                whole: false,
+                known: false,
+                ..self
+            },
+            _ => self,
+        }
     }
 }

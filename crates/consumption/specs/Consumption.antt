@@ -49,11 +49,11 @@ use Rattle.series.specs.Lines.{amountsOf, hourWith}
 use Rattle.lines.specs.Lines.{linesOf}
 use Rattle.calls.specs.Call.{Call, callOf}
 use Rattle.acts.specs.Acts.{Ask, event, counters, why, nothing, unknown, askBy, eventsIn, madeBy, saidAt, saidTo}
-use Rattle.clock.specs.Clock.{ticksAnHour, greatestHour, Note, note, withStage, withHour, withTicks, withWhole, withKnown, refusalText, refuse, firstOf, doseIn, closing, nextHour, oneMore, counts, restartedBy, lostBy, heardBy, Runs}
+use Rattle.clock.specs.Clock.{ticksAnHour, greatestHour, Note, note, withStage, withHour, withTicks, withWhole, withKnown, refusalText, refuse, firstOf, doseIn, closing, nextHour, oneMore, counts, restartedBy, lostBy, heardBy, passedBy, Runs}
 use Rattle.recorder.specs.Recording.{heardDoses, heardTick, heardRestart, heardSaid, heardOf, noteBy, noteOf, boxBy, nextOf, startOf, notesOf, recordOf}
 use Rattle.clock.specs.Clock as clock
 use Rattle.clock.specs.Marking.{Writable}
-use Rattle.clock.specs.Keeps.{on-in-range, dose-in-range, ticks-runs, next-runs, restarted-runs, lost-runs}
+use Rattle.clock.specs.Keeps.{on-in-range, dose-in-range, ticks-runs, next-runs, passed-runs}
 use Rattle.recorder.specs.Keeps.{made-sound, heard-writable}
 use Rattle.clock.specs.declared.Heard.{Heard}
 use Rattle.clock.specs.declared.Heard.the-variants.{Ticked, Dosed, Restarted, Lost, Other}
@@ -659,11 +659,11 @@ counted-lines c k ds script ms s r o g e rest = go (ltb greatestHour (k .hour)) 
 
 heard-lines : (h : Heard) (c : Controller) (k : Clock) (script : List (List ℕ)) (ms : List Line) → k .stage ≡ Recording → Runs k → Writable h → Good ms
     → heardBy k h .text ++ notesOf (with c (heardBy k h .next)) script ≡ linesText New ms → Following c script → ms ≡ linesBy k (h ∷ heardAll c script)
-unfolding heardBy linesBy restartedBy lostBy withKnown withWhole
+unfolding heardBy passedBy linesBy restartedBy lostBy withKnown withWhole
 heard-lines Ticked c k script ms s r w g e rest = counted-lines c k [] script ms s r (λ h. tt) g e rest
 heard-lines (Dosed d) c k script ms s r w g e rest = counted-lines c k (doseIn (k .hour) d ∷ []) script ms s r (λ h. (dose-in-range (k .hour) d h w, tt)) g e rest
-heard-lines Restarted c k script ms s r w g e rest = rest (restartedBy k) ms s (restarted-runs k r) g e
-heard-lines Lost c k script ms s r w g e rest = rest (lostBy k) ms s (lost-runs k r) g e
+heard-lines Restarted c k script ms s r w g e rest = rest (restartedBy k) ms s (passed-runs k Restarted r) g e
+heard-lines Lost c k script ms s r w g e rest = rest (lostBy k) ms s (passed-runs k Lost r) g e
 heard-lines Other c k script ms s r w g e rest = rest k ms s r g e
 
 script-lines : (script : List (List ℕ)) (c : Controller) → Sound c → Following c script

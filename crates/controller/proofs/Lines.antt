@@ -3,47 +3,38 @@ use mathlib.Core.Path.{_≡_, refl, sym, ap, subst, _∙_}
 use mathlib.Core.Bool.{Bool, true, false, _&&_}
 use mathlib.Core.List.{List, [], _∷_}
 use Prim.Native.Nat.{ℕ}
-use lib.Dec.{leb}
+use lib.Dec.{leb, eqb}
 use lib.ListN.{length}
 use types.Run.{OneOf, miss}
 use denote.Enum.Declared.{tagOf}
-use Rattle.laws.specs.Pick.{pick, pick-t, pick-f}
+use Rattle.laws.specs.Pick.{pick, pick-t, pick-f, pick-map}
 use Rattle.paper.specs.Answer.{Answer, done, refused, told, onDone, inRoom, leaves, Fills}
 use Rattle.paper.specs.AnswerLaws.{refused-done, done-refused, passed}
 use Rattle.paper.specs.Numbers.{R3, R4, R5, R7, R8}
 use Rattle.settings.specs.Good.{good-ranges}
+use Rattle.window.specs.declared.Window.{Window}
+use Rattle.dosing.specs.declared.Units.{Units}
+use Rattle.scale.specs.Scale.{asWindow}
+use Rattle.scale.specs.Laws.{lent-window}
 use Rattle.asking.proofs.Sent.{the-type as sent-type}
 use Rattle.asking.specs.declared.Sent.{Sent}
 use Rattle.asking.specs.declared.Sent.the-variants as W
 use Rattle.message.specs.declared.Form.{Form}
 use Rattle.message.specs.declared.Parts.{Parts}
-use Rattle.asking.proofs.Addressed.{the-type as addressed-type}
-use Rattle.asking.proofs.Coded.{the-type as coded-type}
-use Rattle.asking.proofs.Heard.{the-type as heard-type}
-use Rattle.asking.proofs.Timed.{the-type as timed-type}
-use Rattle.asking.proofs.Zeroing.{the-type as zeroing-type}
 use Rattle.asking.specs.Asking.{Asked, askedBy, heardOf, ours, addressOf, known, bare, codeOf, timeOf, zeroOf, askOf, replyBytes}
 use Rattle.asking.specs.Laws.{reply-framed}
-use Rattle.asking.specs.Says.{Hears, Addresses, Codes, Times, Zeroes, Sends, saysSent, sent-one}
-use Rattle.asking.specs.declared.Addressed.{Addressed}
-use Rattle.asking.specs.declared.Addressed.the-variants as A
-use Rattle.asking.specs.declared.Coded.{Coded}
-use Rattle.asking.specs.declared.Coded.the-variants as C
-use Rattle.asking.specs.declared.Heard.{Heard}
-use Rattle.asking.specs.declared.Heard.the-variants as H
-use Rattle.asking.specs.declared.Timed.{Timed}
-use Rattle.asking.specs.declared.Timed.the-variants as T
-use Rattle.asking.specs.declared.Zeroing.{Zeroing}
-use Rattle.asking.specs.declared.Zeroing.the-variants as Z
+use Rattle.asking.specs.Says.{Sends, saysSent, sent-one}
 use Rattle.asking.specs.declared.Reply.{Reply}
-use Rattle.readout.specs.Readout.{mayZero, replyFor}
+use Rattle.readout.specs.Readout.{mayZero, zeroTo, replyFor}
+use Rattle.readout.specs.Says.{Zeroed}
+use Rattle.readout.specs.declared.Zero.{Zero}
 use Rattle.readout.specs.Laws.{reply-bytes}
+use Rattle.controller.specs.State.{withZ}
 use Rattle.controller.specs.Tick.{Result, still}
 use Rattle.controller.specs.Calls.{isReady}
 use Rattle.controller.specs.Line.{timely, allowed, askedOf, replyData, replyFrame, zeroedBy, Replied, replied, repliesTo, requestOf}
 use Rattle.controller.specs.Sound.{Sound}
 use Rattle.controller.specs.Says.{saysReply, placeAndLength, bytesOf, Replies}
-use Rattle.controller.specs.Stages.{unheard}
 use Rattle.controller.specs.Keeps.{request-sound}
 use Rattle.controller.specs.Promises.{weight-writable}
 use Rattle.controller.specs.declared.Controller.{Controller}
@@ -57,56 +48,74 @@ unfolding pick
 refusal true n vs us e = refused-done e
 refusal false n vs us e = refl
 
+-- R9, R6
+pub not-heard : (c : Controller) (s : List ℕ) {n : ℕ} {vs : List ℕ} → refused n vs ≡ heardOf s → askedOf c s ≡ refused n vs
+unfolding askedOf askOf onDone
+not-heard c s e = rw (← e)
+
 module _ (c : Controller) (s : List ℕ) {place : ℕ} {p : Parts} (heard : done (place, p) ≡ heardOf s) where
   by-stages : askedOf c s
       ≡ onDone (onDone (addressOf place (p .form) (c .set .address) (c .set .serial)) (λ u. onDone (codeOf place p) (λ v. done (askedBy place p)))) (λ a. allowed c a)
   unfolding askedOf askOf onDone
   by-stages = rw (← heard)
 
-  pub not-ours : (r : Addressed) → OneOf (1 ∷ []) (tagOf addressed-type r) → Addresses place (p .form) (c .set .address) (c .set .serial) r → askedOf c s ≡ refused R5 (place ∷ [])
+  pub not-ours : {us : List ℕ} → refused R5 us ≡ addressOf place (p .form) (c .set .address) (c .set .serial) → askedOf c s ≡ refused R5 (place ∷ [])
   unfolding addressOf onDone
-  not-ours A.Ours k e = absurd (miss (1 ∷ []) 0 tt k)
-  not-ours (A.R5 other) k e = by-stages ∙ rw (refusal (ours (p .form) (c .set .address) (c .set .serial)) R5 (place ∷ []) (other ∷ []) e)
+  not-ours e = by-stages ∙ rw (refusal (ours (p .form) (c .set .address) (c .set .serial)) R5 (place ∷ []) _ e)
 
   module _ (us : done tt ≡ addressOf place (p .form) (c .set .address) (c .set .serial)) where
-    pub not-known : (r : Coded) → OneOf (1 ∷ []) (tagOf coded-type r) → Codes place p r → askedOf c s ≡ refused R7 (place ∷ [])
+    pub not-known : {vs : List ℕ} → refused R7 vs ≡ codeOf place p → askedOf c s ≡ refused R7 (place ∷ [])
     unfolding codeOf onDone
-    not-known C.Known k e = absurd (miss (1 ∷ []) 0 tt k)
-    not-known (C.R7 other) k e = by-stages ∙ rw (← us, refusal (known (p .operation) && bare p) R7 (place ∷ []) (other ∷ []) e)
+    not-known e = by-stages ∙ rw (← us, refusal (known (p .operation) && bare p) R7 (place ∷ []) _ e)
 
     module _ (good : done tt ≡ codeOf place p) where
-      pub not-timed : (r : Timed) → OneOf (1 ∷ []) (tagOf timed-type r) → Times place (timely (p .operation) (isReady c)) r → askedOf c s ≡ refused R3 (place ∷ [])
+      pub not-timed : {vs : List ℕ} → refused R3 vs ≡ timeOf place (timely (p .operation) (isReady c)) → askedOf c s ≡ refused R3 (place ∷ [])
       unfolding timeOf allowed onDone
-      not-timed T.Allowed k e = absurd (miss (1 ∷ []) 0 tt k)
-      not-timed (T.R3 other) k e = by-stages ∙ rw (← us, ← good, refusal (timely (p .operation) (isReady c)) R3 (place ∷ []) (other ∷ []) e)
+      not-timed e = by-stages ∙ rw (← us, ← good, refusal (timely (p .operation) (isReady c)) R3 (place ∷ []) _ e)
 
       module _ (timed : done tt ≡ timeOf place (timely (p .operation) (isReady c))) where
-        pub not-zeroable : (r : Zeroing) → OneOf (1 ∷ []) (tagOf zeroing-type r) → Zeroes place (mayZero (p .operation) (c .set) (c .window)) r → askedOf c s ≡ refused R4 (place ∷ [])
+        pub not-zeroable : {vs : List ℕ} → refused R4 vs ≡ zeroOf place (mayZero (p .operation) (c .set) (c .window)) → askedOf c s ≡ refused R4 (place ∷ [])
         unfolding zeroOf allowed onDone
-        not-zeroable Z.Allowed k e = absurd (miss (1 ∷ []) 0 tt k)
-        not-zeroable (Z.R4 other) k e =
-            by-stages ∙ rw (← us, ← good, ← timed, refusal (mayZero (p .operation) (c .set) (c .window)) R4 (place ∷ []) (other ∷ []) e)
+        not-zeroable e =
+            by-stages ∙ rw (← us, ← good, ← timed, refusal (mayZero (p .operation) (c .set) (c .window)) R4 (place ∷ []) _ e)
 
         -- no stage refuses
         pub is-asked : done tt ≡ zeroOf place (mayZero (p .operation) (c .set) (c .window)) → askedOf c s ≡ done (askedBy place p)
         unfolding allowed onDone
         is-asked zeroed = by-stages ∙ rw (← us, ← good, ← timed, ← zeroed)
 
--- the data of a sound controller's reply
-reply-data : (c : Controller) (op : ℕ) {holds : Reply} → Sound c → holds ≡ replyFor op (c .set) (c .window) (c .z) (c .s) (c .inputs) (c .gates) (c .alarm) → replyBytes holds ≡ replyData c op
-unfolding replyData
-reply-data c op s e =
-    rw e (reply-bytes (c .set) (c .window) (c .z) (c .s) (c .inputs) (c .gates) (c .alarm) (weight-writable c (c .set .p8) s) (weight-writable c (c .set .p7) s) op)
+-- ---- what the samples lent give
 
--- a reply to what is ours can always be framed
-pub framed : (c : Controller) (form : Form) (op place : ℕ) (holds : Reply) (w : Sent) {old new : List ℕ} → Sound c
-    → done tt ≡ addressOf place form (c .set .address) (c .set .serial) → holds ≡ replyFor op (c .set) (c .window) (c .z) (c .s) (c .inputs) (c .gates) (c .alarm) → Sends form op holds old new w
-    → Fills (saysSent w) (inRoom [] (length old) (replyFrame c (record { place = place; form = form; operation = op }))) old new
-unfolding addressOf replyFrame
-framed c form op place holds w {old} {new} s us e fills =
-    let r = good-ranges (c .set) (s .set) in
-    let own = passed (ours form (c .set .address) (c .set .serial)) (done tt) R5 (place ∷ []) tt (sym us) .0 in
-    rw (← reply-data c op s e) (subst (λ (x : Answer (List ℕ)). Fills (saysSent w) x old new) (reply-framed (c .set .address) (c .set .serial) (r .address .0) (r .address .1) form op holds (length old) (r .serial) own) fills)
+module _ (c : Controller) (s : Sound c) where
+  abbrev lent : Window
+  lent = asWindow (c .window .samples) (c .window .held)
+
+  own : lent ≡ c .window
+  own = lent-window (c .window) (s .places)
+
+  pub may-zero : {op : ℕ} {r : Zero} → Zeroed op (c .set) lent (c .z) r → r .may ≡ mayZero op (c .set) (c .window)
+  may-zero e = rw own at (e .may)
+
+  -- Z after a request that is answered
+  pub zeroed-so : {op : ℕ} {r : Zero} → Zeroed op (c .set) lent (c .z) r → withZ (r .z) c ≡ zeroedBy c op
+  unfolding zeroTo zeroedBy
+  zeroed-so {op} e = ap (λ (z : Units). withZ z c) (rw own at (e .z)) ∙ pick-map (λ (z : Units). withZ z c) (eqb op 0xC0) _ (c .z)
+
+  -- the data of a sound controller's reply
+  reply-data : (op : ℕ) {holds : Reply} → holds ≡ replyFor op (c .set) lent (c .z) (c .s) (c .inputs) (c .gates) (c .alarm) → replyBytes holds ≡ replyData c op
+  unfolding replyData
+  reply-data op e =
+      rw (e, own) (reply-bytes (c .set) (c .window) (c .z) (c .s) (c .inputs) (c .gates) (c .alarm) (weight-writable c (c .set .p8) s) (weight-writable c (c .set .p7) s) op)
+
+  -- a reply to what is ours can always be framed
+  pub framed : (form : Form) (op place : ℕ) (holds : Reply) (w : Sent) {old new : List ℕ}
+      → done tt ≡ addressOf place form (c .set .address) (c .set .serial) → holds ≡ replyFor op (c .set) lent (c .z) (c .s) (c .inputs) (c .gates) (c .alarm) → Sends form op holds old new w
+      → Fills (saysSent w) (inRoom [] (length old) (replyFrame c (record { place = place; form = form; operation = op }))) old new
+  unfolding addressOf replyFrame
+  framed form op place holds w {old} {new} us e fills =
+      let r = good-ranges (c .set) (s .set) in
+      let mine = passed (ours form (c .set .address) (c .set .serial)) (done tt) R5 (place ∷ []) tt (sym us) .0 in
+      rw (← reply-data op e) (subst (λ (x : Answer (List ℕ)). Fills (saysSent w) x old new) (reply-framed (c .set .address) (c .set .serial) (r .address .0) (r .address .1) form op holds (length old) (r .serial) mine) fills)
 
 -- ---- the contract
 
@@ -131,12 +140,6 @@ module _ (c : Controller) (s old : List ℕ) (sound : Sound c) where
       → r .next ≡ c → saysReply (r .answer) ≡ refused n vs → Replies c s old old r
   unfolding told leaves
   refuses e n a = replies (still c (refused _ _)) (refused-so e) n a refl
-
-  pub unheard-refuses : {r : Requested} (h : Heard) → OneOf (1 ∷ 2 ∷ []) (tagOf heard-type h) → Hears s h → r .next ≡ c → r .answer ≡ unheard h → Replies c s old old r
-  unfolding unheard askedOf askOf onDone
-  unheard-refuses (H.Request place parts) k e n a = absurd (miss (1 ∷ 2 ∷ []) 0 tt k)
-  unheard-refuses (H.R9 place) k e n a = refuses (rw (← e)) n (ap saysReply a)
-  unheard-refuses (H.R6 place) k e n a = refuses (rw (← e)) n (ap saysReply a)
 
   -- what the writer gives
   module _ {a : Asked} (w : Sent) {new : List ℕ} (e : askedOf c s ≡ done a) (fills : Fills (saysSent w) (inRoom [] (length old) (replyFrame c a)) old new) where

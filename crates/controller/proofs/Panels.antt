@@ -8,7 +8,7 @@ use Rattle.paper.specs.Answer.{Answer, done, refused, fault, told, Fills}
 use Rattle.paper.specs.AnswerLaws.{done-refused, fault-done, told-refused, fills-refused}
 use Rattle.paper.specs.Numbers.{R8, R17}
 use Rattle.registers.specs.Registers.{tableOf}
-use Rattle.modbus.specs.Asks.{Ask, registers, link, exception, hearOf}
+use Rattle.modbus.specs.Asks.{Ask, registers, link, exception}
 use Rattle.modbus.specs.Replies.{servedOf, linkAfter}
 use Rattle.modbus.specs.Says.{heardAs, saysHearing, saysSent, Hears, Serves}
 use Rattle.modbus.specs.declared.Asked.{Asked}
@@ -16,6 +16,8 @@ use Rattle.modbus.specs.declared.Hearing.{Hearing}
 use Rattle.modbus.specs.declared.Hearing.the-variants as H
 use Rattle.modbus.specs.declared.Sent.{Sent}
 use Rattle.modbus.specs.declared.Sent.the-variants as S
+use Rattle.scale.specs.Scale.{asWindow}
+use Rattle.scale.specs.Laws.{lent-window}
 use Rattle.readout.specs.Readout.{valuesFor}
 use Rattle.readout.specs.Laws.{values-in}
 use Rattle.controller.specs.State.{withLink}
@@ -31,12 +33,12 @@ use Rattle.controller.specs.declared.PollAnswer.the-variants as M
 use Rattle.controller.specs.declared.Polled.{Polled}
 
 -- the registers of a sound controller
-pub registers-so : (c : Controller) {words : List ℕ} → Sound c → words ≡ tableOf (valuesFor (c .set) (c .window) (c .z) (c .s) (c .inputs) (c .gates) (c .alarm) (c .counters) (c .link)) → words ≡ tableOf (valuesOf c)
+pub registers-so : (c : Controller) {words : List ℕ} → Sound c → words ≡ tableOf (valuesFor (c .set) (asWindow (c .window .samples) (c .window .held)) (c .z) (c .s) (c .inputs) (c .gates) (c .alarm) (c .counters) (c .link)) → words ≡ tableOf (valuesOf c)
 unfolding valuesOf
 registers-so c s e =
     let fine = weight-writable c (c .set .p8) s in
     let coarse = weight-writable c (c .set .p7) s in
-    e ∙ ap tableOf (values-in (c .set) (c .window) (c .z) (c .s) (c .inputs) (c .gates) (c .alarm) fine coarse (c .counters) (c .link) (weight-held c s (c .set .p8)) (weight-held c s (c .set .p7)))
+    rw (lent-window (c .window) (s .places)) at e ∙ ap tableOf (values-in (c .set) (c .window) (c .z) (c .s) (c .inputs) (c .gates) (c .alarm) fine coarse (c .counters) (c .link) (weight-held c s (c .set .p8)) (weight-held c s (c .set .p7)))
 
 -- serving answers what the rule gives
 served-answer : (c : Controller) (ask : Ask) (a : Answer (List ℕ)) → servedBy c ask a .answer ≡ a

@@ -22,10 +22,10 @@ use Rattle.controller.specs.declared.TickAnswer.the-variants as T
 use Rattle.controller.specs.declared.Ticked.{Ticked}
 use Rattle.controller.specs.declared.SetAnswer.{SetAnswer}
 use Rattle.controller.specs.declared.SetAnswer.the-variants as S
-use Rattle.controller.specs.declared.SetTo.{SetTo}
+use Rattle.controller.specs.declared.Configured.{Configured}
 use Rattle.controller.specs.declared.ResetAnswer.{ResetAnswer}
 use Rattle.controller.specs.declared.ResetAnswer.the-variants as C
-use Rattle.controller.specs.declared.ResetTo.{ResetTo}
+use Rattle.controller.specs.declared.Cleared.{Cleared}
 use Rattle.controller.specs.declared.RestartAnswer.{RestartAnswer}
 use Rattle.controller.specs.declared.RestartAnswer.the-variants as N
 use Rattle.controller.specs.declared.Restarted.{Restarted}
@@ -156,14 +156,14 @@ restart-determined set count total a b p q =
     ap₂ {C = Restarted} (λ (c : Controller) (x : RestartAnswer). record { next = c; answer = x })
     (same (p .next) (q .next)) (restart-one (a .answer) (b .answer) (same (p .says) (q .says)))
 
-pub settings-determined : (c : Controller) (set : Settings) (a b : SetTo) → Sets c set a → Sets c set b → a ≡ b
+pub settings-determined : (c : Controller) (set : Settings) (a b : Configured) → Sets c set a → Sets c set b → a ≡ b
 settings-determined c set a b p q =
-    ap₂ {C = SetTo} (λ (d : Controller) (x : SetAnswer). record { next = d; answer = x })
+    ap₂ {C = Configured} (λ (d : Controller) (x : SetAnswer). record { next = d; answer = x })
     (same (p .next) (q .next)) (set-one (a .answer) (b .answer) (same (p .says) (q .says)))
 
-pub reset-determined : (c : Controller) (a b : ResetTo) → Resets c a → Resets c b → a ≡ b
+pub reset-determined : (c : Controller) (a b : Cleared) → Resets c a → Resets c b → a ≡ b
 reset-determined c a b p q =
-    ap₂ {C = ResetTo} (λ (d : Controller) (x : ResetAnswer). record { next = d; answer = x })
+    ap₂ {C = Cleared} (λ (d : Controller) (x : ResetAnswer). record { next = d; answer = x })
     (same (p .next) (q .next)) (reset-one (a .answer) (b .answer) (same (p .says) (q .says)))
 
 pub counters-determined : (c : Controller) (a b : Counters) → Counted c a → Counted c b → a ≡ b

@@ -5,7 +5,6 @@ pub mod Line
 pub mod Modbus
 pub mod Sound
 pub mod Says
-pub mod Stages
 pub mod Cases
 pub mod LineCases
 pub mod Outside

@@ -22,10 +22,10 @@ use Rattle.controller.specs.declared.TickAnswer.the-variants as T
 use Rattle.controller.specs.declared.Ticked.{Ticked}
 use Rattle.controller.specs.declared.SetAnswer.{SetAnswer}
 use Rattle.controller.specs.declared.SetAnswer.the-variants as S
-use Rattle.controller.specs.declared.SetTo.{SetTo}
+use Rattle.controller.specs.declared.Configured.{Configured}
 use Rattle.controller.specs.declared.ResetAnswer.{ResetAnswer}
 use Rattle.controller.specs.declared.ResetAnswer.the-variants as C
-use Rattle.controller.specs.declared.ResetTo.{ResetTo}
+use Rattle.controller.specs.declared.Cleared.{Cleared}
 use Rattle.controller.specs.declared.RestartAnswer.{RestartAnswer}
 use Rattle.controller.specs.declared.RestartAnswer.the-variants as N
 use Rattle.controller.specs.declared.Restarted.{Restarted}
@@ -92,12 +92,12 @@ Links c on r = Made (linkOf c on) r
 abbrev pub Counted : Controller → Counters → Type 0
 Counted c r = r ≡ c .counters
 
-pub record Sets (c : Controller) (set : Settings) (r : SetTo) : Type 0 where
+pub record Sets (c : Controller) (set : Settings) (r : Configured) : Type 0 where
   pub next : r .next ≡ settingsOf c set .next
   pub says : saysSet (r .answer) ≡ settingsOf c set .answer
   pub sound : Sound (r .next)
 
-pub record Resets (c : Controller) (r : ResetTo) : Type 0 where
+pub record Resets (c : Controller) (r : Cleared) : Type 0 where
   pub next : r .next ≡ resetOf c .next
   pub says : saysReset (r .answer) ≡ resetOf c .answer
   pub sound : Sound (r .next)

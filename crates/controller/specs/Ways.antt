@@ -49,8 +49,8 @@ pub record Reaches (c d : Controller) : Type 0 where
   pub counters : d .counters ≡ c .counters
 
 -- the same, each part in its place
-abbrev Agrees : Controller → Controller → Type 0
-Agrees c d =
+abbrev Unmoved : Controller → Controller → Type 0
+Unmoved c d =
     Sound d
     × (d .condition ≡ Clear)
     × (d .set ≡ c .set)
@@ -67,7 +67,7 @@ module _ (Q : Result Told → Type 0) (faults : (why : Fault) (d : Controller) �
       (λ channel a b. faults (F.F14 channel) (withRuns r c) (faulted-sound c s (F.F14 channel) r h (a, b) u)) go
 
   steps6to8-ways : (c : Controller) (start : Bool) (n : ℕ) → Sound c → c .condition ≡ Clear → c .unstarted ≡ false → n ≤ 4032
-      → ((d : Controller) → Agrees c d → Q (step7 d start)) → Q (steps6to8 c start n)
+      → ((d : Controller) → Unmoved c d → Q (step7 d start)) → Q (steps6to8 c start n)
   unfolding steps6to8
   steps6to8-ways c start n s e u h go =
       let t = calm-sound c s n h in
@@ -77,7 +77,7 @@ module _ (Q : Result Told → Type 0) (faults : (why : Fault) (d : Controller) �
       (λ w. go d (runs-sound (withS n c) t r (clear-watched (c .condition) r e w), e, refl, refl, refl, refl, refl))
 
   steps4and5-ways : (c : Controller) (x : ℤ) → Sound c → c .condition ≡ Clear → c .unstarted ≡ false → natAbs x ≤ 900000
-      → ((d : Controller) (start : Bool) → Agrees c d → Q (step7 d start)) → Q (steps4and5 c x)
+      → ((d : Controller) (start : Bool) → Unmoved c d → Q (step7 d start)) → Q (steps4and5 c x)
   unfolding steps4and5
   steps4and5-ways c x s e u h go =
       let held = pushOf (c .window) x in
@@ -88,7 +88,7 @@ module _ (Q : Result Told → Type 0) (faults : (why : Fault) (d : Controller) �
       (λ d a. go d _ a)
 
   step3-ways : (c : Controller) (x : ℤ) (i : ℕ) → Sound c → c .condition ≡ Clear → i ≤ 15
-      → ((d : Controller) (start : Bool) → Agrees c d → Q (step7 d start)) → Q (step3 c x i)
+      → ((d : Controller) (start : Bool) → Unmoved c d → Q (step7 d start)) → Q (step3 c x i)
   unfolding step3
   step3-ways c x i s e h go =
       let d = withUnstarted false (withInputs i c) in
@@ -99,7 +99,7 @@ module _ (Q : Result Told → Type 0) (faults : (why : Fault) (d : Controller) �
 
   step2-ways : (k : Condition) (c : Controller) (x : ℤ) (i : ℕ) → Sound c → c .condition ≡ k → i ≤ 15
       → ((why : Fault) → c .condition ≡ Faulted why → Q (still c (saysFault why)))
-      → ((d : Controller) (start : Bool) → Agrees c d → Q (step7 d start)) → Q (step2 k c x i)
+      → ((d : Controller) (start : Bool) → Unmoved c d → Q (step7 d start)) → Q (step2 k c x i)
   unfolding step2
   step2-ways Clear c x i s e h again go = step3-ways c x i s e h go
   step2-ways (Faulted why) c x i s e h again go = again why e

@@ -1,7 +1,7 @@
 // The controller: fresh, restarted, tick, link start, settings, counter reset, counters, line request, MODBUS frame.
-mod calls;
 mod line;
 mod panel;
+mod setup;
 mod tick;
 
 use channels::Runs;
@@ -76,7 +76,7 @@ pub enum SetAnswer {
 }
 
 // The controller after new settings, and the answer.
-pub struct SetTo {
+pub struct Configured {
     pub next: Controller,
     pub answer: SetAnswer,
 }
@@ -88,7 +88,7 @@ pub enum ResetAnswer {
 }
 
 // The controller after a counter reset, and the answer.
-pub struct ResetTo {
+pub struct Cleared {
     pub next: Controller,
     pub answer: ResetAnswer,
 }

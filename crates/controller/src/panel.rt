@@ -20,9 +20,12 @@ impl Controller {
             return polled(self, self.link, PollAnswer::R17);
         };
         let link = modbus::link_after(asked, self.link);
+        let window = self.window;
+        let held = window.held;
         let words = readout::table(
             self.set,
-            self.window,
+            &window.samples,
+            held,
             self.z,
             self.s,
             self.inputs,

@@ -21,12 +21,15 @@ ghost use Rattle.controller.specs.Says.{Ticks, saysTick};
 ghost use Rattle.controller.specs.Parts.{Gives, Small, Takes};
 
 impl Controller {
+    // Inputs 1 to 4, all on.
+    pub const INPUTS_MOST: u8 = 15;
+
     // One tick: a sample and the inputs.
     pub fn tick(self, sample: i32, inputs: u8) -> Ticked
         requires { ⌜ Sound self ⌝ }
         ensures { λ r. ⌜ Ticks self sample inputs r ⌝ }
     {
-        if 15 < inputs {
+        if Controller::INPUTS_MOST < inputs {
             return Ticked {
                 next: self,
                 answer: TickAnswer::R1,

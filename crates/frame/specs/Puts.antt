@@ -6,6 +6,6 @@ use lib.ListN.{length}
 use lib.Seq.{sets}
 
 -- bytes are put from a place on; next is the place after them
-pub record Puts (bytes old new : List ℕ) (at next : ℕ) : Type 0 where
+pub record PutsBytes (bytes old new : List ℕ) (at next : ℕ) : Type 0 where
   pub after : next ≡ at + length bytes
   pub left : new ≡ sets old at bytes

@@ -60,7 +60,7 @@ abbrev pub bytesOf : Finished → List ℕ
 bytesOf f = f .bytes
 
 -- what the reader hands over: the rule's answer, and the body in an array of 255 whose places past it are 0
-pub record Reads (s : List ℕ) (r : Read) : Type 0 where
+pub record ReadsFrame (s : List ℕ) (r : Read) : Type 0 where
   pub says : saysFound (r .found) ≡ told placeAndLength (readOf s)
   pub holds : r .body ≡ bytesIn (told bytesOf (readOf s)) ++ replicate (255 - length (bytesIn (told bytesOf (readOf s)))) 0
 
@@ -84,7 +84,7 @@ framable-determined body a b p q = same p q
 pub write-determined : (body old new new' : List ℕ) (a b : Wrote) → Writes body old new a → Writes body old new' b → (a ≡ b) × (new ≡ new')
 write-determined body old new new' a b p q = (wrote-one a b (fills-one p q .0), fills-one p q .1)
 
-pub read-determined : (s : List ℕ) (a b : Read) → Reads s a → Reads s b → a ≡ b
+pub read-determined : (s : List ℕ) (a b : Read) → ReadsFrame s a → ReadsFrame s b → a ≡ b
 read-determined s a b p q =
     ap₂ {C = Read} (λ (f : Found) (l : List ℕ). record { found = f; body = l })
     (found-one (a .found) (b .found) (same (p .says) (q .says))) (same (p .holds) (q .holds))

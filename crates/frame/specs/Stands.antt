@@ -28,7 +28,7 @@ pub record Held (st : State) (buf : List ℕ) : Type 0 where
   pub full : length buf ≡ 255
 
 -- state and buffer stand for this reading
-pub record Stands (st : State) (buf : List ℕ) (r : Reading) : Type 0 where
+pub record HoldsReading (st : State) (buf : List ℕ) (r : Reading) : Type 0 where
   pub reading : stands st buf ≡ r
   pub held : Held st buf
 
@@ -44,10 +44,3 @@ pub record Takes (s : List ℕ) (i n : ℕ) (old new : List ℕ) (r : ℕ) : Typ
   pub fits : n + r ≤ 255
   pub full : length new ≡ 255
   pub same : (p : ℕ) → run (body p (take (n + r) new)) (i + r) (drop (i + r) s) ≡ run (body p (take n old)) i (drop i s)
-
--- reading from place j on with this state and buffer is reading from place i on with the others
-pub record Goes (s : List ℕ) (st : State) (buf : List ℕ) (i : ℕ) (next : State) (new : List ℕ) (j : ℕ) : Type 0 where
-  pub on : i ≤ j
-  pub inside : j ≤ length s
-  pub same : run (stands next new) j (drop j s) ≡ run (stands st buf) i (drop i s)
-  pub held : Held next new

@@ -4,13 +4,14 @@ ghost use mathlib.Core.List.{_++_};
 ghost use Prim.Native.Nat.{_+_, _-_, _≤_};
 ghost use lib.ListN.{length, take, replicate};
 ghost use lib.Seq.{sets};
+ghost use Rattle.paper.specs.Answer.{Answer, told, bytesIn};
 ghost use Rattle.frame.specs.Check.{check, enter};
 ghost use Rattle.frame.specs.Table.{entries};
 ghost use Rattle.frame.specs.Frame.{sentByte, sent, frame};
-ghost use Rattle.frame.specs.Read.{grown, step, readAll, tooShort, bad};
-ghost use Rattle.frame.specs.Says.{ChecksTo, TellsFramable, Writes, Reads};
-ghost use Rattle.frame.specs.Puts.{Puts};
-ghost use Rattle.frame.specs.Stands.{stands, Held, Stands, Skips, Takes, Goes};
+ghost use Rattle.frame.specs.Read.{grown, step, readAll, tooShort, bad, Finished, answerOf};
+ghost use Rattle.frame.specs.Says.{saysFound, placeAndLength, bytesOf, ChecksTo, TellsFramable, Writes, ReadsFrame};
+ghost use Rattle.frame.specs.Puts.{PutsBytes};
+ghost use Rattle.frame.specs.Stands.{stands, Held, HoldsReading, Skips, Takes};
 
 mod table;
 
@@ -53,12 +54,6 @@ enum State {
         len: usize,
         place: usize,
     },
-}
-
-// How far reading has come, and the place to go on at.
-struct Ahead {
-    st: State,
-    at: usize,
 }
 
 // The table, made once for the bytes of a body.
@@ -145,10 +140,10 @@ fn frame_len(body: &[u8], c: u8) -> usize
     sent_len(body) + byte_len(c) + 3
 }
 
-// Puts a body byte as it is sent, and answers the place after it.
+// PutsBytes a body byte as it is sent, and answers the place after it.
 fn put_byte(out: &mut [u8], at: usize, b: u8) -> usize
     requires { ⌜ at + length (sentByte b) ≤ length (now out) ⌝ }
-    ensures { λ r. ⌜ Puts (sentByte b) (now (out .entry)) (now (out .exit)) at r ⌝ }
+    ensures { λ r. ⌜ PutsBytes (sentByte b) (now (out .entry)) (now (out .exit)) at r ⌝ }
 {
     out[at] = b;
     if b == 0xFF {
@@ -158,10 +153,10 @@ fn put_byte(out: &mut [u8], at: usize, b: u8) -> usize
     at + 1
 }
 
-// Puts a body as it is sent, and answers the place after it.
+// PutsBytes a body as it is sent, and answers the place after it.
 fn put_body(out: &mut [u8], at: usize, body: &[u8]) -> usize
     requires { ⌜ at + length (sent (now body)) ≤ length (now out) ⌝ }
-    ensures { λ r. ⌜ Puts (sent (now (body .entry))) (now (out .entry)) (now (out .exit)) at r ⌝ }
+    ensures { λ r. ⌜ PutsBytes (sent (now (body .entry))) (now (out .entry)) (now (out .exit)) at r ⌝ }
 {
     let mut to = at;
     let mut i: usize = 0;
@@ -172,7 +167,7 @@ fn put_body(out: &mut [u8], at: usize, body: &[u8]) -> usize
     to
 }
 
-// Puts a body's frame at the buffer's start; c is the body's check byte.
+// PutsBytes a body's frame at the buffer's start; c is the body's check byte.
 fn put_frame(out: &mut [u8], body: &[u8], c: u8)
     requires { ⌜ (length (frame (now body)) ≤ length (now out)) × (c ≡ check (now body)) ⌝ }
     ensures { λ _. ⌜ now (out .exit) ≡ sets (now (out .entry)) 0 (frame (now (body .entry))) ⌝ }
@@ -203,7 +198,7 @@ pub fn write_frame(body: &[u8], out: &mut [u8]) -> Wrote
 // A body of n bytes grows by one, or is dropped.
 fn grow(buf: &mut [u8], before: usize, n: usize, b: u8) -> State
     requires { ⌜ (length (now buf) ≡ 255) × (n ≤ 255) ⌝ }
-    ensures { λ r. ⌜ Stands r (now (buf .exit)) (grown before (take n (now (buf .entry))) b) ⌝ }
+    ensures { λ r. ⌜ HoldsReading r (now (buf .exit)) (grown before (take n (now (buf .entry))) b) ⌝ }
 {
     if n < 255 {
         buf[n] = b;
@@ -215,7 +210,7 @@ fn grow(buf: &mut [u8], before: usize, n: usize, b: u8) -> State
 // The byte b at place i is read.
 fn step(st: State, buf: &mut [u8], i: usize, b: u8) -> State
     requires { ⌜ Held st (now buf) ⌝ }
-    ensures { λ r. ⌜ Stands r (now (buf .exit)) (step (stands st (now (buf .entry))) i b) ⌝ }
+    ensures { λ r. ⌜ HoldsReading r (now (buf .exit)) (step (stands st (now (buf .entry))) i b) ⌝ }
 {
     match st {
         State::Seek => {
@@ -291,46 +286,33 @@ fn fill(bytes: &[u8], i: usize, buf: &mut [u8], n: usize) -> usize
     k
 }
 
-// Reads on from place i over the bytes that leave a search a search and a body a body.
-fn run_on(st: State, bytes: &[u8], i: usize, buf: &mut [u8]) -> Ahead
-    requires { ⌜ (i ≤ length (now bytes)) × Held st (now buf) ⌝ }
-    ensures { λ r. ⌜ Goes (now (bytes .entry)) st (now (buf .entry)) i (r .st) (now (buf .exit)) (r .at) ⌝ }
-{
-    match st {
-        State::Seek => Ahead {
-            st,
-            at: skip(bytes, i),
-        },
-        State::Body { before, len } => {
-            let k = fill(bytes, i, buf, len);
-            Ahead {
-                st: State::Body {
-                    before,
-                    len: len + k,
-                },
-                at: i + k,
-            }
-        }
-        _ => Ahead { st, at: i },
-    }
-}
-
-// Reads bytes up to the end of the first finished body, which is left at the buffer's start.
+// ReadsFrame bytes up to the end of the first finished body, which is left at the buffer's start.
 fn scan(bytes: &[u8], buf: &mut [u8]) -> State
     requires { ⌜ length (now buf) ≡ 255 ⌝ }
-    ensures { λ r. ⌜ Stands r (now (buf .exit)) (readAll (now (bytes .entry))) ⌝ }
+    ensures { λ r. ⌜ HoldsReading r (now (buf .exit)) (readAll (now (bytes .entry))) ⌝ }
 {
     let mut st = State::Seek;
     let mut i: usize = 0;
     while i < bytes.len() {
         st = step(st, buf, i, bytes[i]);
         i += 1;
-        if let State::Ended { len: _, place: _ } = st {
-            return st;
+        match st {
+            State::Ended { len: _, place: _ } => {
+                return st;
+            }
+            State::Seek => {
+                i = skip(bytes, i);
+            }
+            State::Body { before, len } => {
+                let k = fill(bytes, i, buf, len);
+                st = State::Body {
+                    before,
+                    len: len + k,
+                };
+                i += k;
+            }
+            _ => {}
         }
-        let ahead = run_on(st, bytes, i, buf);
-        st = ahead.st;
-        i = ahead.at;
     }
     st
 }
@@ -358,7 +340,7 @@ fn bad(body: &[u8]) -> bool
     check_byte(body) != 0
 }
 
-// Puts 0 at each place from n on.
+// PutsBytes 0 at each place from n on.
 fn clear(buf: &mut [u8], n: usize)
     requires { ⌜ n ≤ length (now buf) ⌝ }
     ensures { λ _. ⌜ now (buf .exit) ≡ take n (now (buf .entry)) ++ replicate (length (now (buf .entry)) - n) 0 ⌝ }
@@ -370,40 +352,46 @@ fn clear(buf: &mut [u8], n: usize)
     }
 }
 
-// An answer with no body.
-fn no_body(found: Found) -> Read
-    ensures { λ r. ⌜ (r .found ≡ found) × (r .body ≡ replicate 255 0) ⌝ }
+// What is answered of n bytes where reading has come so far: R9 with its place, R6, or the body.
+fn answer_of(st: State, buf: &[u8], n: usize) -> Found
+    requires { ⌜ Held st (now buf) ⌝ }
+    ensures { λ r. ⌜ saysFound r ≡ told placeAndLength (answerOf n (stands st (now (buf .entry)))) ⌝ }
 {
-    Read {
-        found,
-        body: [0u8; 255],
-    }
-}
-
-// Reads bytes up to the end of the first finished body, and answers that body or why there is none.
-pub fn read_frame(bytes: &[u8]) -> Read
-    ensures { λ r. ⌜ Reads (now (bytes .entry)) r ⌝ }
-{
-    let mut buf = [0u8; 255];
-    let st = scan(bytes, &mut buf);
     match st {
-        State::Seek => no_body(Found::R9(bytes.len())),
-        State::Lead(before) => no_body(Found::R9(before)),
-        State::Body { before, len: _ } => no_body(Found::R9(before)),
+        State::Seek => Found::R9(n),
+        State::Lead(before) => Found::R9(before),
+        State::Body { before, len: _ } => Found::R9(before),
         State::Mark {
             before,
             len: _,
             last: _,
-        } => no_body(Found::R9(before)),
+        } => Found::R9(before),
         State::Ended { len, place } => {
             if bad(&buf[..len]) {
-                return no_body(Found::R6(place));
+                return Found::R6(place);
             }
-            clear(&mut buf, len);
-            Read {
-                found: Found::Body { place, len },
-                body: buf,
-            }
+            Found::Body { place, len }
         }
     }
+}
+
+// The length of the body that is answered; 0 where none is.
+fn body_len(found: Found) -> usize
+    ensures { λ r. ⌜ ((a : Answer Finished) → saysFound found ≡ told placeAndLength a → r ≡ length (bytesIn (told bytesOf a))) ⌝ }
+{
+    match found {
+        Found::Body { place: _, len } => len,
+        _ => 0,
+    }
+}
+
+// ReadsFrame bytes up to the end of the first finished body, and answers that body or why there is none.
+pub fn read_frame(bytes: &[u8]) -> Read
+    ensures { λ r. ⌜ ReadsFrame (now (bytes .entry)) r ⌝ }
+{
+    let mut buf = [0u8; 255];
+    let st = scan(bytes, &mut buf);
+    let found = answer_of(st, &buf, bytes.len());
+    clear(&mut buf, body_len(found));
+    Read { found, body: buf }
 }

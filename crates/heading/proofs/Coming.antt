@@ -13,7 +13,7 @@ use Rattle.laws.specs.Pick.{pick, pick-t}
 use Rattle.text.specs.Scan.{LF}
 use Rattle.lines.specs.Lines.{Plain, linesOf, begunOf, tooLong, asked, lines-whole}
 use Rattle.lines.specs.Places.{plainLength, endOf, partOf, plain-taken, plain-within, plain-line, plain-begun, Carries, carry-inside}
-use Rattle.lines.specs.Intake.{startOf, pending, comes, overlong, lineTo, begunTo, nextOf, handed, HandsOver, Stands, Behind, next-steps, carry-pending}
+use Rattle.lines.specs.Intake.{startOf, pending, comes, overlong, lineTo, begunTo, nextOf, handed, HandsOver, NextStands, Behind, next-steps, carry-pending}
 use Rattle.lines.specs.declared.Intake.{Intake}
 use Rattle.lines.specs.declared.Taken.{Taken}
 use Rattle.lines.specs.declared.Next.{Next}
@@ -128,8 +128,8 @@ module _ (i : Intake) (buffer : List ℕ) where
 
   line-within : (t : Taken) (from to : ℕ) → HandsOver i buffer t → t .next ≡ Line from to → (from ≤ to) × (to < length buffer)
   line-within t from to e n =
-      let s : Stands i buffer (t .intake) (t .next) = subst (λ (x : Taken). Stands i buffer (x .intake) (x .next)) (sym e) (next-steps i buffer .stands) in
-      let b : Behind i buffer from to (t .intake) = subst (λ (x : Next). Stands i buffer (t .intake) x) n s in
+      let s : NextStands i buffer (t .intake) (t .next) = subst (λ (x : Taken). NextStands i buffer (x .intake) (x .next)) (sym e) (next-steps i buffer .stands) in
+      let b : Behind i buffer from to (t .intake) = subst (λ (x : Next). NextStands i buffer (t .intake) x) n s in
       (b .order, b .inside)
 
   cut-of : (t : Taken) (from to : ℕ) → HandsOver i buffer t → t .next ≡ Line from to → (came : List ℕ) → Begun came i buffer → Cut came from to (t .intake) buffer

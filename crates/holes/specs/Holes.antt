@@ -40,6 +40,11 @@ inHole h ls = holeFrom h Nothing ls
 
 -- ---- each clause on numbers
 
+-- to unfold this is to unfold what a hole is
+unfoldable pub holeRules : Unit {0}
+unfolding inHole holeFrom endsHole doseBefore follows nextCount pick
+holeRules = tt
+
 -- 6 and 1 follow 5, and nothing else near it
 pub follows-cases : map (follows 5) (6 ∷ 1 ∷ 0 ∷ 5 ∷ 7 ∷ 4 ∷ []) ≡ true ∷ true ∷ false ∷ false ∷ false ∷ false ∷ []
 unfolding follows nextCount pick
@@ -65,14 +70,14 @@ holes ls = map (λ h. inHole h ls) (9 ∷ 10 ∷ 11 ∷ 12 ∷ 13 ∷ 14 ∷ 15 
 pub hole-hours :
     (holes (dose 10 1 ∷ dose 10 5 ∷ On 10 ∷ dose 11 6 ∷ On 11 ∷ []) ≡ false ∷ true ∷ false ∷ false ∷ false ∷ false ∷ false ∷ [])
     × (holes (On 9 ∷ dose 10 1 ∷ On 10 ∷ On 11 ∷ On 13 ∷ dose 14 3 ∷ On 14 ∷ On 15 ∷ []) ≡ false ∷ true ∷ true ∷ true ∷ true ∷ true ∷ false ∷ [])
-unfolding inHole holeFrom endsHole doseBefore follows nextCount pick
+unfolding holeRules
 hole-hours = (refl, refl)
 
 -- the first D line is not tested; 0 after 999,999, a 1 after anything and a second 1 make no hole
 pub hole-none :
     (holes (On 9 ∷ dose 10 500 ∷ On 10 ∷ dose 13 501 ∷ []) ≡ false ∷ false ∷ false ∷ false ∷ false ∷ false ∷ false ∷ [])
     × (holes (dose 10 999999 ∷ dose 11 0 ∷ On 11 ∷ dose 12 1 ∷ dose 13 1 ∷ On 13 ∷ dose 14 2 ∷ []) ≡ false ∷ false ∷ false ∷ false ∷ false ∷ false ∷ false ∷ [])
-unfolding inHole holeFrom endsHole doseBefore follows nextCount pick
+unfolding holeRules
 hole-none = (refl, refl)
 
 -- after a hole the next D is held against its far end: 6 follows 5 there, 2 does not; the same count again and one that goes back do not follow
@@ -80,7 +85,7 @@ pub hole-next :
     (holes (dose 10 1 ∷ dose 11 5 ∷ dose 12 6 ∷ On 12 ∷ []) ≡ false ∷ true ∷ true ∷ false ∷ false ∷ false ∷ false ∷ [])
     × (holes (dose 10 1 ∷ dose 11 5 ∷ dose 12 2 ∷ dose 13 3 ∷ []) ≡ false ∷ true ∷ true ∷ true ∷ false ∷ false ∷ false ∷ [])
     × (holes (dose 10 5 ∷ On 10 ∷ dose 11 5 ∷ dose 12 6 ∷ dose 13 5 ∷ []) ≡ false ∷ true ∷ true ∷ true ∷ true ∷ false ∷ false ∷ [])
-unfolding inHole holeFrom endsHole doseBefore follows nextCount pick
+unfolding holeRules
 hole-next = (refl, refl, refl)
 
 -- the test runs over all products: counts that follow across two of them make no hole, and one that does not follow that of another product makes one
@@ -88,5 +93,5 @@ pub hole-products :
     (holes (doseOf 0 10 1 ∷ doseOf 7 11 2 ∷ doseOf 0 12 3 ∷ doseOf 7 13 4 ∷ []) ≡ false ∷ false ∷ false ∷ false ∷ false ∷ false ∷ false ∷ [])
     × (holes (doseOf 0 10 1 ∷ doseOf 7 12 3 ∷ On 12 ∷ doseOf 0 13 4 ∷ []) ≡ false ∷ true ∷ true ∷ true ∷ false ∷ false ∷ false ∷ [])
     × (holes (doseOf 0 10 1 ∷ doseOf 7 11 5 ∷ doseOf 0 12 2 ∷ []) ≡ false ∷ true ∷ true ∷ true ∷ false ∷ false ∷ false ∷ [])
-unfolding inHole holeFrom endsHole doseBefore follows nextCount pick
+unfolding holeRules
 hole-products = (refl, refl, refl)

@@ -12,7 +12,7 @@ use Rattle.laws.specs.Decimal.{bad}
 use Rattle.paper.specs.Answer.{Answer, done, refused, fault, told}
 use Rattle.paper.specs.Numbers.{R10, R11, R12}
 use Rattle.journal.specs.Line.{textOf, lineOf}
-use Rattle.journal.specs.LineLaws.{Stands, text-only, text-least, range-either}
+use Rattle.journal.specs.LineLaws.{LineStands, text-only, text-least, range-either}
 use Rattle.journal.specs.Journal.{hourIn, outOfOrder, tooFar, noPast, pastAfter, ordered, formOf, journalOf, firstHour, lastHour}
 use Rattle.journal.specs.JournalLaws.{linesFrom, headBytes, headLines, head-inside, journal-lines, told-none, told-bad, told-good, order-broken, order-far, order-kept}
 use Rattle.journal.specs.declared.Line.{Line}
@@ -163,7 +163,7 @@ module _ {w : Products} {s : List ℕ} {past : Past} {at n : ℕ} {table : List 
   pub malformed : at < length s → lineOf (formOf s) (drop at s) ≡ bad → journalOf s ≡ refused R10 ((headLines (formOf s) + n + 1) ∷ [])
   malformed h e = p .left ∙ told-bad (formOf s) (λ (ms : List Line). p .lines ++ ms) past (headLines (formOf s) + n + 1) (drop at s) (rw (length-drop at s) (omega arith)) e
 
-  module _ (l : Line) (next : ℕ) (st : Stands (formOf s) s at l next) where
+  module _ (l : Line) (next : ℕ) (st : LineStands (formOf s) s at l next) where
     -- the tests of its order
     abbrev back : Bool
     back = past .begun && outOfOrder (past .last) (past .closed) (hourIn l)

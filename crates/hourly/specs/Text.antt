@@ -1,7 +1,7 @@
 -- The hour program's text (document 01, "Journal and hours"). Assumes nothing.
 use mathlib.Core.Path.{_≡_, refl}
 use mathlib.Core.List.{List, [], _∷_, _++_, map}
-use Prim.Native.Nat.{ℕ, zero, suc, _+_, _-_}
+use Prim.Native.Nat.{ℕ, zero, suc, _-_}
 use lib.IntN.{pos}
 use lib.ListN.{length}
 use lib.Ieee.{binary64, toBits, div, ofInt}
@@ -12,7 +12,7 @@ use Rattle.text.specs.Scan.{LF, TAB}
 use Rattle.journal.specs.Journal.{journalOf, firstHour, lastHour, hourIn, example}
 use Rattle.journal.specs.declared.Line.{Line}
 use Rattle.journal.specs.declared.Line.the-variants.{Dose, On}
-use Rattle.holes.specs.Holes.{nextCount, follows, doseBefore, endsHole, holeFrom, inHole}
+use Rattle.holes.specs.Holes.{holeRules}
 use Rattle.hourly.specs.declared.Products.{Products}
 use Rattle.hourly.specs.declared.Products.the-variants.{All, One}
 use Rattle.hourly.specs.Hours.{HourAnswer, measured, idle, missing, hourOf, measuredOrIdle, hasOn, isOn, asksFor, amountsAt, doseAt, total, greatest, sumOf, largestOf, meanOf, asF64}
@@ -80,9 +80,19 @@ printOf w s room = onDone (journalOf s) (λ ls. inRoom [] room (hoursText w ls))
 abbrev printed : ℕ → Row → HourRow
 printed h r = record { hour = h; row = r }
 
+-- to unfold this is to unfold what an hour answers
+unfoldable pub hourRules : Unit {0}
+unfolding holeRules hourOf measuredOrIdle hasOn isOn amountsAt doseAt asksFor total greatest sumOf largestOf meanOf asF64 div ofInt
+hourRules = tt
+
+-- and which rows a journal has
+unfoldable rowRules : Unit {0}
+unfolding hourRules rowsOf spanOf hoursFrom firstHour lastHour hourIn rowOf rowFrom toBits
+rowRules = tt
+
 -- document 01's example, and its first, last and missing row as bytes
 pub example-rows : rowsOf All example ≡ printed 10 (rowM 2 998 0x407F300000000000) ∷ printed 11 rowI ∷ printed 12 rowX ∷ printed 13 rowI ∷ []
-unfolding rowsOf spanOf hoursFrom firstHour lastHour hourIn rowOf rowFrom hourOf inHole holeFrom endsHole doseBefore follows nextCount measuredOrIdle hasOn isOn amountsAt doseAt asksFor total greatest sumOf largestOf meanOf asF64 toBits div ofInt pick
+unfolding rowRules
 example-rows = refl
 
 pub row-bytes :
@@ -106,13 +116,13 @@ mean-once = refl
 -- a closing D without its H is missing; two D lines of an hour without an H too; hour 0; the mean of three amounts, rounded once
 pub closing-rows : rowsOf All (On 0 ∷ Dose 2 1 1 1 0 ∷ Dose 2 2 1 1 0 ∷ Dose 2 3 0 1 0 ∷ On 2 ∷ Dose 3 4 9 1 0 ∷ Dose 3 5 9 1 0 ∷ [])
     ≡ printed 0 rowI ∷ printed 1 rowX ∷ printed 2 (rowM 3 2 0x3FE5555555555555) ∷ printed 3 rowX ∷ []
-unfolding rowsOf spanOf hoursFrom firstHour lastHour hourIn rowOf rowFrom hourOf inHole holeFrom endsHole doseBefore follows nextCount measuredOrIdle hasOn isOn amountsAt doseAt asksFor total greatest sumOf largestOf meanOf asF64 toBits div ofInt pick
+unfolding rowRules
 closing-rows = refl
 
 -- three lines lost: the hours of the D lines around them and the one between are missing, H lines or not, and those beside them are as they were
 pub hole-rows : rowsOf All (On 9 ∷ Dose 10 1 7 1 0 ∷ On 10 ∷ On 11 ∷ Dose 12 5 7 1 0 ∷ On 12 ∷ Dose 13 6 7 1 0 ∷ On 13 ∷ On 14 ∷ [])
     ≡ printed 9 rowI ∷ printed 10 rowX ∷ printed 11 rowX ∷ printed 12 rowX ∷ printed 13 (rowM 1 7 0x401C000000000000) ∷ printed 14 rowI ∷ []
-unfolding rowsOf spanOf hoursFrom firstHour lastHour hourIn rowOf rowFrom hourOf inHole holeFrom endsHole doseBefore follows nextCount measuredOrIdle hasOn isOn amountsAt doseAt asksFor total greatest sumOf largestOf meanOf asF64 toBits div ofInt pick
+unfolding rowRules
 hole-rows = refl
 
 -- the sum, the largest amount and the mean of the example's hour 10: 998, 500 and 499; an hour outside is missing
@@ -121,7 +131,7 @@ pub example-figures :
     × (largestOf (498 ∷ 500 ∷ 2 ∷ []) ≡ ofInt binary64 (pos 500))
     × (hourOf All example 9 ≡ missing)
     × (hourOf All example 14 ≡ missing)
-unfolding firstHour lastHour hourIn hourOf inHole holeFrom endsHole doseBefore follows nextCount measuredOrIdle hasOn isOn amountsAt doseAt asksFor total greatest sumOf largestOf meanOf asF64 div ofInt pick
+unfolding hourRules
 example-figures = (refl, refl, refl, refl)
 
 -- two products of one hopper: product 7 in hours 10 and 12, product 0 in 10 and 11, an hour 13 with no dose and an hour 14 without its H
@@ -134,17 +144,17 @@ pub product-rows :
     × (rowsOf (One 7) twoProducts ≡ printed 10 (rowM 2 500 0x406F400000000000) ∷ printed 11 rowI ∷ printed 12 (rowM 1 8 0x4020000000000000) ∷ printed 13 rowI ∷ printed 14 rowX ∷ [])
     × (rowsOf (One 0) twoProducts ≡ printed 10 (rowM 1 500 0x407F400000000000) ∷ printed 11 (rowM 1 250 0x406F400000000000) ∷ printed 12 rowI ∷ printed 13 rowI ∷ printed 14 rowX ∷ [])
     × (rowsOf (One 255) twoProducts ≡ printed 10 rowI ∷ printed 11 rowI ∷ printed 12 rowI ∷ printed 13 rowI ∷ printed 14 rowX ∷ [])
-unfolding rowsOf spanOf hoursFrom firstHour lastHour hourIn rowOf rowFrom hourOf inHole holeFrom endsHole doseBefore follows nextCount measuredOrIdle hasOn isOn amountsAt doseAt asksFor total greatest sumOf largestOf meanOf asF64 toBits div ofInt pick
+unfolding rowRules
 product-rows = (refl, refl, refl, refl)
 
 -- the first and the last hour are those of the journal's lines, also where another product was dosed there
 pub other-ends : rowsOf (One 7) (Dose 10 1 500 1 0 ∷ Dose 11 2 8 1 7 ∷ On 11 ∷ Dose 12 3 5 1 0 ∷ []) ≡ printed 10 rowX ∷ printed 11 (rowM 1 8 0x4020000000000000) ∷ printed 12 rowX ∷ []
-unfolding rowsOf spanOf hoursFrom firstHour lastHour hourIn rowOf rowFrom hourOf inHole holeFrom endsHole doseBefore follows nextCount measuredOrIdle hasOn isOn amountsAt doseAt asksFor total greatest sumOf largestOf meanOf asF64 toBits div ofInt pick
+unfolding rowRules
 other-ends = refl
 
 -- a hole makes its hours missing for every product, also for one with no D near it; and counts that follow over all products make none, though those of one product do not
 pub product-holes :
     (rowsOf (One 3) (On 9 ∷ Dose 10 1 7 1 0 ∷ On 10 ∷ On 11 ∷ Dose 12 5 7 1 7 ∷ On 12 ∷ On 13 ∷ []) ≡ printed 9 rowI ∷ printed 10 rowX ∷ printed 11 rowX ∷ printed 12 rowX ∷ printed 13 rowI ∷ [])
     × (rowsOf (One 0) (Dose 10 1 7 1 0 ∷ Dose 10 2 5 1 7 ∷ On 10 ∷ Dose 11 3 7 1 0 ∷ On 11 ∷ []) ≡ printed 10 (rowM 1 7 0x401C000000000000) ∷ printed 11 (rowM 1 7 0x401C000000000000) ∷ [])
-unfolding rowsOf spanOf hoursFrom firstHour lastHour hourIn rowOf rowFrom hourOf inHole holeFrom endsHole doseBefore follows nextCount measuredOrIdle hasOn isOn amountsAt doseAt asksFor total greatest sumOf largestOf meanOf asF64 toBits div ofInt pick
+unfolding rowRules
 product-holes = (refl, refl)

@@ -3,7 +3,7 @@ use mathlib.Core.Path.{_≡_, refl, sym, ap, _∙_, subst}
 use mathlib.Core.Bool.{Bool, true, false}
 use mathlib.Core.List.{List, [], _∷_, _++_}
 use mathlib.Core.Logic.{_⊎_, inl, inr}
-use Prim.Native.Nat.{ℕ, _+_, _-_, _≤_, _<_}
+use Prim.Native.Nat.{ℕ, _+_, _≤_, _<_}
 use native.Mathlib.Omega.{arith}
 use native.Mathlib.Numerals.{add-one}
 use native.Mathlib.Decide.{decLt}
@@ -18,7 +18,7 @@ use Rattle.text.specs.ScanLaws.{byte-inside, from-place, expect-hit, expect-mis
 use Rattle.journal.specs.Line.{letterD, letterH, mostOfD, mostOfH, fieldsAt, doseFrom, onFrom, lineOf}
 use Rattle.journal.specs.declared.Form.{Form}
 use Rattle.journal.specs.declared.Form.the-variants.{Old, New}
-use Rattle.journal.specs.LineLaws.{Stands, stands-at}
+use Rattle.journal.specs.LineLaws.{LineStands, stands-at}
 use Rattle.journal.specs.Fields.{mostOf, fieldsOfD, fieldsAfter, productFrom, lineFrom}
 use Rattle.journal.specs.declared.Line.{Line}
 use Rattle.journal.specs.declared.Line.the-variants.{On}
@@ -230,5 +230,5 @@ module _ {s : List ℕ} {at n : ℕ} {got : List ℕ} {k p : ℕ} (w : Fielded s
     fielded-torn h e = line-torn f s got at n p asked (w .some) (all-read h) e
 
     -- its LF behind the last: they make the line
-    pub fielded-line : n ≤ k → getD s p 0 ≡ LF → Stands f s at (lineFrom n got) (p + 1)
+    pub fielded-line : n ≤ k → getD s p 0 ≡ LF → LineStands f s at (lineFrom n got) (p + 1)
     fielded-line h e = stands-at f s at (lineFrom n got) (p + 1) (line-read f s got at n p asked (w .some) (all-read h) e) (omega (arith, byte-inside s p (omega arith)))

@@ -6,11 +6,10 @@ use Prim.Native.Nat.{ℕ, zero, suc, _+_}
 use lib.Dec.{leb, ltb}
 use lib.ListN.{length, drop}
 use Rattle.laws.specs.Pick.{pick}
-use Rattle.laws.specs.Decimal.{decimal, digitsOf, glyph, Parsed, good, bad, numberAt, digitsFrom, isDigit}
+use Rattle.laws.specs.Decimal.{Parsed, good, bad}
 use Rattle.paper.specs.Answer.{Answer, done, refused, told}
 use Rattle.paper.specs.Numbers.{R10, R11, R12, R13}
-use Rattle.text.specs.Scan.{expect, onGood}
-use Rattle.journal.specs.Line.{versionText, versioned, lineOf, textOf, doseFields, fieldsText, fieldsAt, doseFrom, onFrom, mostOfD, mostOfH}
+use Rattle.journal.specs.Line.{versionText, versioned, lineOf, textOf, lineRules}
 use Rattle.journal.specs.declared.Form.{Form}
 use Rattle.journal.specs.declared.Form.the-variants.{Old, New}
 use Rattle.journal.specs.declared.Line.{Line}
@@ -102,6 +101,11 @@ journalText f ls = headText f ++ linesText f ls
 abbrev pub example : List Line
 example = Dose 10 1 500 1 0 ∷ Dose 10 2 498 1 0 ∷ On 10 ∷ On 11 ∷ Dose 12 3 250 0 0 ∷ On 13 ∷ []
 
+-- to unfold this is to unfold how a journal is written and read
+unfoldable pub journalRules : Unit {0}
+unfolding lineRules journalOf formOf versioned versionText bodyOf readFrom onLine ordered pastAfter noPast outOfOrder tooFar closes hourIn told journalText headText linesText
+journalRules = tt
+
 -- document 01's example; an hour that goes back, an hour again after its H, 743 hours above the first and 744; an earlier R11 before a later R10; an empty line and an empty journal
 pub cases :
     (journalOf (journalText Old example) ≡ done example)
@@ -112,14 +116,14 @@ pub cases :
     × (journalOf (journalText Old (On 10 ∷ On 10 ∷ []) ++ 10 ∷ []) ≡ refused R11 (2 ∷ []))
     × (journalOf (journalText Old (On 10 ∷ []) ++ 10 ∷ []) ≡ refused R10 (2 ∷ []))
     × (journalOf [] ≡ done [])
-unfolding journalOf formOf versioned bodyOf readFrom onLine ordered pastAfter noPast outOfOrder tooFar closes hourIn told journalText headText linesText textOf doseFields fieldsText decimal digitsOf glyph lineOf onGood expect fieldsAt mostOfD mostOfH doseFrom onFrom numberAt digitsFrom isDigit pick
+unfolding journalRules
 cases = (refl, refl, refl, refl, refl, refl, refl, refl)
 
 -- two products of one hour; V alone is a journal with no hours
 pub new-cases :
     (journalOf (86 ∷ 9 ∷ 50 ∷ 10 ∷ linesText New (Dose 10 1 500 1 0 ∷ Dose 10 2 498 1 7 ∷ On 10 ∷ [])) ≡ done (Dose 10 1 500 1 0 ∷ Dose 10 2 498 1 7 ∷ On 10 ∷ []))
     × (journalOf (86 ∷ 9 ∷ 50 ∷ 10 ∷ []) ≡ done [])
-unfolding journalOf formOf versioned bodyOf readFrom onLine ordered pastAfter noPast outOfOrder tooFar closes hourIn told linesText textOf doseFields fieldsText decimal digitsOf glyph lineOf onGood expect fieldsAt mostOfD mostOfH doseFrom onFrom numberAt digitsFrom isDigit pick
+unfolding journalRules
 new-cases = (refl, refl)
 
 -- each form refused in the other: a D without a product behind V, one with a product where there is no V; behind good lines too
@@ -128,7 +132,7 @@ pub mixed-forms :
     × (journalOf (linesText New (Dose 10 1 5 1 0 ∷ [])) ≡ refused R10 (1 ∷ []))
     × (journalOf (versionText ++ linesText New (Dose 10 1 5 1 7 ∷ On 10 ∷ []) ++ linesText Old (Dose 11 2 5 1 0 ∷ [])) ≡ refused R10 (4 ∷ []))
     × (journalOf (linesText Old (Dose 10 1 5 1 0 ∷ On 10 ∷ []) ++ linesText New (Dose 11 2 5 1 0 ∷ [])) ≡ refused R10 (3 ∷ []))
-unfolding journalOf versionText formOf versioned bodyOf readFrom onLine ordered pastAfter noPast outOfOrder tooFar closes hourIn told linesText textOf doseFields fieldsText decimal digitsOf glyph lineOf onGood expect fieldsAt mostOfD mostOfH doseFrom onFrom numberAt digitsFrom isDigit pick
+unfolding journalRules
 mixed-forms = (refl, refl, refl, refl)
 
 -- V is line 1 only: a second one, one behind an H, also of an hour that could not follow; V 3, V without its LF, V with a CR and an empty line before V
@@ -140,7 +144,7 @@ pub versions-refused :
     × (journalOf (86 ∷ 9 ∷ 50 ∷ []) ≡ refused R10 (1 ∷ []))
     × (journalOf (86 ∷ 9 ∷ 50 ∷ 13 ∷ 10 ∷ []) ≡ refused R10 (1 ∷ []))
     × (journalOf (10 ∷ versionText) ≡ refused R10 (1 ∷ []))
-unfolding journalOf versionText formOf versioned bodyOf readFrom onLine ordered pastAfter noPast outOfOrder tooFar closes hourIn told linesText textOf fieldsText decimal digitsOf glyph lineOf onGood expect fieldsAt mostOfH onFrom numberAt digitsFrom isDigit pick
+unfolding journalRules
 versions-refused = (refl, refl, refl, refl, refl, refl, refl)
 
 -- behind V: R11 and R12 start after it, and their lines count it
@@ -151,5 +155,5 @@ pub new-order :
     × (journalOf (versionText ++ linesText New (On 0 ∷ [])) ≡ done (On 0 ∷ []))
     × (journalOf (versionText ++ linesText New (On 10 ∷ Dose 10 2 5 1 7 ∷ [])) ≡ refused R11 (3 ∷ []))
     × (journalOf (versionText ++ linesText New (On 10 ∷ Dose 9 2 5 1 7 ∷ []) ++ 10 ∷ []) ≡ refused R11 (3 ∷ []))
-unfolding journalOf versionText formOf versioned bodyOf readFrom onLine ordered pastAfter noPast outOfOrder tooFar closes hourIn told linesText textOf doseFields fieldsText decimal digitsOf glyph lineOf onGood expect fieldsAt mostOfD mostOfH doseFrom onFrom numberAt digitsFrom isDigit pick
+unfolding journalRules
 new-order = (refl, refl, refl, refl, refl, refl)

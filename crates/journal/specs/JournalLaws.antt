@@ -2,7 +2,7 @@
 use mathlib.Core.Path.{_≡_, refl, sym, ap, _∙_, subst}
 use mathlib.Core.Bool.{Bool, true, false, _&&_}
 use mathlib.Core.List.{List, [], _∷_, _++_}
-use Prim.Native.Nat.{ℕ, zero, suc, _+_, _-_, _*_, _≤_, _<_}
+use Prim.Native.Nat.{ℕ, zero, suc, _+_, _*_, _≤_, _<_}
 use native.Mathlib.Nat.{le-refl}
 use native.Mathlib.Omega.{arith}
 use native.Mathlib.Numerals.{add-one}
@@ -177,9 +177,9 @@ pub record Keeps (p : Past) (l : Line) : Type 0 where
   pub near : (p .begun && tooFar (p .first) (hourIn l)) ≡ false
 
 -- the bytes s hold the lines ls, all of one form, after lines that leave p
-pub data Reads (f : Form) : Past → List ℕ → List Line → Type 0 where
-  none : {p : Past} → Reads f p [] []
-  more : {p : Past} {s rest : List ℕ} {l : Line} {ls : List Line} → lineOf f s ≡ good l rest → Keeps p l → Reads f (pastAfter p l) rest ls → Reads f p s (l ∷ ls)
+pub data ReadsLines (f : Form) : Past → List ℕ → List Line → Type 0 where
+  none : {p : Past} → ReadsLines f p [] []
+  more : {p : Past} {s rest : List ℕ} {l : Line} {ls : List Line} → lineOf f s ≡ good l rest → Keeps p l → ReadsLines f (pastAfter p l) rest ls → ReadsLines f p s (l ∷ ls)
 
 kept : (p : Past) (l : Line) (n : ℕ) (a : Answer (List Line)) (ls : List Line) → ordered p l n a ≡ done ls → Keeps p l × (a ≡ done ls)
 unfolding ordered
@@ -197,25 +197,25 @@ told-done l (done ms) ls e = (ms, refl, cc)
 told-done l (refused n vs) ls e = refused-done e
 told-done l (fault n vs) ls e = fault-done e
 
-reads-none : (f : Form) (p : Past) (n : ℕ) (ls : List Line) → linesFrom f p n [] ≡ done ls → Reads f p [] ls
-reads-none f p n ls e = let q : [] ≡ ls = cc (lines-none f p n) in subst (λ (ms : List Line). Reads f p [] ms) q none
+reads-none : (f : Form) (p : Past) (n : ℕ) (ls : List Line) → linesFrom f p n [] ≡ done ls → ReadsLines f p [] ls
+reads-none f p n ls e = let q : [] ≡ ls = cc (lines-none f p n) in subst (λ (ms : List Line). ReadsLines f p [] ms) q none
 
 -- bytes are read as lines exactly if they hold them
-pub lines-reads : (f : Form) (b : ℕ) (p : Past) (n : ℕ) (s : List ℕ) (ls : List Line) → length s ≤ b → linesFrom f p n s ≡ done ls → Reads f p s ls
+pub lines-reads : (f : Form) (b : ℕ) (p : Past) (n : ℕ) (s : List ℕ) (ls : List Line) → length s ≤ b → linesFrom f p n s ≡ done ls → ReadsLines f p s ls
 lines-reads f zero p n [] ls h e = reads-none f p n ls e
 lines-reads f zero p n (x ∷ xs) ls h e = absurd (omega arith)
 lines-reads f (suc b) p n [] ls h e = reads-none f p n ls e
 lines-reads f (suc b) p n (x ∷ xs) ls h e = go (λ q m r ms k d. lines-reads f b q m r ms k d) (lineOf f (x ∷ xs)) refl
   where
-    go : ((q : Past) (m : ℕ) (r : List ℕ) (ms : List Line) → length r ≤ b → linesFrom f q m r ≡ done ms → Reads f q r ms) → (q : Parsed Line) → lineOf f (x ∷ xs) ≡ q → Reads f p (x ∷ xs) ls
+    go : ((q : Past) (m : ℕ) (r : List ℕ) (ms : List Line) → length r ≤ b → linesFrom f q m r ≡ done ms → ReadsLines f q r ms) → (q : Parsed Line) → lineOf f (x ∷ xs) ≡ q → ReadsLines f p (x ∷ xs) ls
     go again (good l rest) q =
         let k = kept p l n _ ls (sym (lines-good f p n (x ∷ xs) l rest q) ∙ e) in
         let t = told-done l (linesFrom f (pastAfter p l) (suc n) rest) ls (k .1) in
         let s = line-shorter f (x ∷ xs) l rest q in
-        subst (λ (ms : List Line). Reads f p (x ∷ xs) ms) (sym (t .2)) (more q (k .0) (again (pastAfter p l) (suc n) rest (t .0) (omega arith) (t .1)))
+        subst (λ (ms : List Line). ReadsLines f p (x ∷ xs) ms) (sym (t .2)) (more q (k .0) (again (pastAfter p l) (suc n) rest (t .0) (omega arith) (t .1)))
     go again bad q = refused-done (sym (lines-bad f p n (x ∷ xs) (omega arith) q) ∙ e)
 
-pub reads-lines : {f : Form} {p : Past} {s : List ℕ} {ls : List Line} (n : ℕ) → Reads f p s ls → linesFrom f p n s ≡ done ls
+pub reads-lines : {f : Form} {p : Past} {s : List ℕ} {ls : List Line} (n : ℕ) → ReadsLines f p s ls → linesFrom f p n s ≡ done ls
 unfolding ordered told
 reads-lines {f} {p} n none = lines-none f p n
 reads-lines {f} {p} {s} n (more {rest = rest} {l = l} {ls = ls} e k r) =
@@ -229,12 +229,12 @@ journal-short s ls e =
     ]
 
 -- a journal is read as lines exactly if it is not too long and they stand behind what it begins with
-pub journal-reads : (s : List ℕ) (ls : List Line) → journalOf s ≡ done ls → Reads (formOf s) noPast (drop (headBytes (formOf s)) s) ls
+pub journal-reads : (s : List ℕ) (ls : List Line) → journalOf s ≡ done ls → ReadsLines (formOf s) noPast (drop (headBytes (formOf s)) s) ls
 journal-reads s ls e =
     let body = drop (headBytes (formOf s)) s in
     lines-reads (formOf s) (length body) noPast (headLines (formOf s) + 1) body ls (le-refl (length body)) (sym (journal-lines s (journal-short s ls e)) ∙ e)
 
-pub reads-journal : (s : List ℕ) (ls : List Line) → length s ≤ 65536 → Reads (formOf s) noPast (drop (headBytes (formOf s)) s) ls → journalOf s ≡ done ls
+pub reads-journal : (s : List ℕ) (ls : List Line) → length s ≤ 65536 → ReadsLines (formOf s) noPast (drop (headBytes (formOf s)) s) ls → journalOf s ≡ done ls
 reads-journal s ls h r = journal-lines s h ∙ reads-lines (headLines (formOf s) + 1) r
 
 -- a rule holds of each line
@@ -247,12 +247,12 @@ each-map [] f e = tt
 each-map (l ∷ ls) f e = (f l (e .0), each-map ls f (e .1))
 
 -- the bytes are the lines' text
-reads-text : {f : Form} {p : Past} {s : List ℕ} {ls : List Line} → Reads f p s ls → s ≡ linesText f ls
+reads-text : {f : Form} {p : Past} {s : List ℕ} {ls : List Line} → ReadsLines f p s ls → s ≡ linesText f ls
 unfolding linesText
 reads-text none = refl
 reads-text {f} {p} {s} (more {rest = rest} {l = l} e k r) = text-only f s l rest e .text ∙ ap (λ (t : List ℕ). textOf f l ++ t) (reads-text r)
 
-reads-range : {f : Form} {p : Past} {s : List ℕ} {ls : List Line} → Reads f p s ls → Each (λ l. inRange f l ≡ true) ls
+reads-range : {f : Form} {p : Past} {s : List ℕ} {ls : List Line} → ReadsLines f p s ls → Each (λ l. inRange f l ≡ true) ls
 reads-range none = tt
 reads-range {f} {p} {s} (more {rest = rest} {l = l} e k r) = (text-only f s l rest e .range, reads-range r)
 

@@ -140,6 +140,11 @@ placed n bad = noLine
 unfoldable pub lineAt : Form → List ℕ → ℕ → Place
 lineAt f s at = placed (length s) (lineOf f (drop at s))
 
+-- to unfold this is to unfold how a line is written and read
+unfoldable pub lineRules : Unit {0}
+unfolding lineOf onGood expect fieldsAt mostOfD mostOfH doseFrom onFrom numberAt digitsFrom isDigit textOf doseFields fieldsText decimal digitsOf glyph pick
+lineRules = tt
+
 -- a D line and an H line read, and what a sign, a leading zero, a tab too many, a missing LF, a value one above its range and a lower-case letter are
 pub cases :
     (oneLine Old (68 ∷ 9 ∷ 49 ∷ 48 ∷ 9 ∷ 49 ∷ 9 ∷ 53 ∷ 48 ∷ 48 ∷ 9 ∷ 49 ∷ 10 ∷ []) ≡ done (dated (Dose 10 1 500 1 0)))
@@ -151,7 +156,7 @@ pub cases :
     × (oneLine Old (72 ∷ 9 ∷ 51 ∷ []) ≡ refused R10 (1 ∷ []))
     × (oneLine Old (72 ∷ 9 ∷ 49 ∷ 48 ∷ 48 ∷ 48 ∷ 48 ∷ 48 ∷ 48 ∷ 48 ∷ 10 ∷ []) ≡ refused R10 (1 ∷ []))
     × (oneLine Old (104 ∷ 9 ∷ 51 ∷ 10 ∷ []) ≡ refused R10 (1 ∷ []))
-unfolding oneLine whole lineOf onGood expect fieldsAt mostOfD mostOfH doseFrom onFrom numberAt digitsFrom isDigit textOf doseFields fieldsText decimal digitsOf glyph pick
+unfolding lineRules oneLine whole
 cases = (refl, refl, refl, refl, refl, refl, refl, refl, refl)
 
 -- D 10 2 498 1 7 and H 13 in the new form; D 10 2 498 1 without a product there, and with one in the old form; product 255, 256, 07 and one that is missing behind its tab
@@ -165,7 +170,7 @@ pub products :
     × (oneLine New (68 ∷ 9 ∷ 49 ∷ 9 ∷ 50 ∷ 9 ∷ 51 ∷ 9 ∷ 49 ∷ 9 ∷ 50 ∷ 53 ∷ 54 ∷ 10 ∷ []) ≡ refused R10 (1 ∷ []))
     × (oneLine New (68 ∷ 9 ∷ 49 ∷ 9 ∷ 50 ∷ 9 ∷ 51 ∷ 9 ∷ 49 ∷ 9 ∷ 48 ∷ 55 ∷ 10 ∷ []) ≡ refused R10 (1 ∷ []))
     × (oneLine New (68 ∷ 9 ∷ 49 ∷ 9 ∷ 50 ∷ 9 ∷ 51 ∷ 9 ∷ 49 ∷ 9 ∷ 10 ∷ []) ≡ refused R10 (1 ∷ []))
-unfolding oneLine isVersion versioned whole lineOf onGood expect fieldsAt mostOfD mostOfH doseFrom onFrom numberAt digitsFrom isDigit textOf doseFields fieldsText decimal digitsOf glyph pick
+unfolding lineRules oneLine isVersion versioned whole
 products = (refl, refl, refl, refl, refl, refl, refl, refl, refl)
 
 -- V 2 is a line of the new form and none of the old; V 3, V 02, V 2 without its LF, with a CR or with a byte behind it, V alone and v 2 are no line
@@ -200,5 +205,5 @@ pub greatest-values :
     × (writeOf New (On 13) 5 ≡ done (72 ∷ 9 ∷ 49 ∷ 51 ∷ 10 ∷ []))
     × (writeVersionOf 3 ≡ refused R8 [])
     × (writeVersionOf 4 ≡ done (86 ∷ 9 ∷ 50 ∷ 10 ∷ []))
-unfolding writeOf writeVersionOf versionText inRoom inRange productMost within mostOfD mostOfH textOf fieldsText decimal digitsOf glyph pick
+unfolding lineRules writeOf writeVersionOf versionText inRoom inRange productMost within
 greatest-values = (refl, refl, refl, refl, refl, refl, refl, refl, refl, refl, refl, refl, refl, refl, refl, refl)

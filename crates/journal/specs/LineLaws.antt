@@ -305,13 +305,13 @@ placed-good n k l (good m rest) e =
 placed-good n k l bad e = holds-none e
 
 -- from `at` on stands the line l, and `next` is the place after it
-pub record Stands (f : Form) (s : List ℕ) (at : ℕ) (l : Line) (next : ℕ) : Type 0 where
+pub record LineStands (f : Form) (s : List ℕ) (at : ℕ) (l : Line) (next : ℕ) : Type 0 where
   pub line : lineOf f (drop at s) ≡ good l (drop next s)
   pub is : lineAt f s at ≡ holds l next
   pub onward : at < next
   pub inside : next ≤ length s
 
-pub stands : (f : Form) (s : List ℕ) (at : ℕ) (l : Line) (rest : List ℕ) → lineOf f (drop at s) ≡ good l rest → Stands f s at l (length s - length rest)
+pub stands : (f : Form) (s : List ℕ) (at : ℕ) (l : Line) (rest : List ℕ) → lineOf f (drop at s) ≡ good l rest → LineStands f s at l (length s - length rest)
 unfolding lineAt placed
 stands f s at l rest e =
     let d = line-shorter f (drop at s) l rest e in
@@ -325,15 +325,15 @@ stands f s at l rest e =
     }
 
 -- what a reader that answered a line at a place has found
-pub line-at-only : (f : Form) (s : List ℕ) (at : ℕ) (l : Line) (next : ℕ) → holds l next ≡ lineAt f s at → Stands f s at l next
+pub line-at-only : (f : Form) (s : List ℕ) (at : ℕ) (l : Line) (next : ℕ) → holds l next ≡ lineAt f s at → LineStands f s at l next
 unfolding lineAt
 line-at-only f s at l next e =
     let x = placed-good (length s) next l (lineOf f (drop at s)) e in
-    subst (λ (k : ℕ). Stands f s at l k) (sym (x .2)) (stands f s at l (x .0) (x .1))
+    subst (λ (k : ℕ). LineStands f s at l k) (sym (x .2)) (stands f s at l (x .0) (x .1))
 
 -- what is read there and goes on at a place
-pub stands-at : (f : Form) (s : List ℕ) (at : ℕ) (l : Line) (next : ℕ) → lineOf f (drop at s) ≡ good l (drop next s) → next ≤ length s → Stands f s at l next
-stands-at f s at l next e h = subst (λ (k : ℕ). Stands f s at l k) (place-back s next h) (stands f s at l (drop next s) e)
+pub stands-at : (f : Form) (s : List ℕ) (at : ℕ) (l : Line) (next : ℕ) → lineOf f (drop at s) ≡ good l (drop next s) → next ≤ length s → LineStands f s at l next
+stands-at f s at l next e h = subst (λ (k : ℕ). LineStands f s at l k) (place-back s next h) (stands f s at l (drop next s) e)
 
 -- the writer's answers
 pub write-range : (f : Form) (l : Line) (room : ℕ) → inRange f l ≡ false → writeOf f l room ≡ refused R10 (0 ∷ [])

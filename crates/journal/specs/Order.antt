@@ -2,7 +2,7 @@
 use mathlib.Core.Path.{_≡_, refl, sym, _∙_, subst}
 use mathlib.Core.Bool.{Bool, true, false}
 use mathlib.Core.List.{List, [], _∷_}
-use Prim.Native.Nat.{ℕ, _+_, _-_, _≤_, _<_}
+use Prim.Native.Nat.{ℕ, _+_, _≤_, _<_}
 use native.Mathlib.Omega.{arith}
 use lib.Dec.{leb, ltb}
 use lib.ListN.{length, drop}
@@ -16,7 +16,7 @@ use Rattle.journal.specs.Journal.{hourIn, closes, outOfOrder, tooFar, no
 use Rattle.journal.specs.declared.Form.{Form}
 use Rattle.journal.specs.declared.Line.{Line}
 use Rattle.journal.specs.declared.Past.{Past}
-use Rattle.journal.specs.JournalLaws.{Keeps, Reads, none, more, Each, headBytes, journal-reads, reads-journal, text-form, text-body}
+use Rattle.journal.specs.JournalLaws.{Keeps, ReadsLines, none, more, Each, headBytes, journal-reads, reads-journal, text-form, text-body}
 
 -- Hours never go back, and after an H the next line's hour is greater
 pub record Follows (l m : Line) : Type 0 where
@@ -38,11 +38,11 @@ abbrev Goes : Past → List Line → Type 0
 Goes p [] = Unit
 Goes p (l ∷ ls) = Keeps p l × Goes (pastAfter p l) ls
 
-reads-goes : {f : Form} {p : Past} {s : List ℕ} {ls : List Line} → Reads f p s ls → Goes p ls
+reads-goes : {f : Form} {p : Past} {s : List ℕ} {ls : List Line} → ReadsLines f p s ls → Goes p ls
 reads-goes none = tt
 reads-goes (more e k r) = (k, reads-goes r)
 
-goes-reads : (f : Form) (p : Past) (ls : List Line) → Goes p ls → Each (λ l. inRange f l ≡ true) ls → Reads f p (linesText f ls) ls
+goes-reads : (f : Form) (p : Past) (ls : List Line) → Goes p ls → Each (λ l. inRange f l ≡ true) ls → ReadsLines f p (linesText f ls) ls
 unfolding linesText
 goes-reads f p [] g r = none
 goes-reads f p (l ∷ ls) g r = more (read-text f l (linesText f ls) (r .0)) (g .0) (goes-reads f (pastAfter p l) ls (g .1) (r .1))
@@ -110,8 +110,8 @@ journal-ordered s ls e = goes-ordered ls (reads-goes (journal-reads s ls e))
 pub ordered-journal : (f : Form) (ls : List Line) → Ordered ls → Each (λ l. inRange f l ≡ true) ls → length (journalText f ls) ≤ 65536 → journalOf (journalText f ls) ≡ done ls
 ordered-journal f ls o r h =
     reads-journal (journalText f ls) ls h
-    (subst (λ (g : Form). Reads g noPast (drop (headBytes g) (journalText f ls)) ls) (sym (text-form f ls))
-    (subst (λ (s : List ℕ). Reads f noPast s ls) (sym (text-body f ls)) (goes-reads f noPast ls (ordered-goes ls o) r)))
+    (subst (λ (g : Form). ReadsLines g noPast (drop (headBytes g) (journalText f ls)) ls) (sym (text-form f ls))
+    (subst (λ (s : List ℕ). ReadsLines f noPast s ls) (sym (text-body f ls)) (goes-reads f noPast ls (ordered-goes ls o) r)))
 
 last-least : (l : Line) (ls : List Line) → Steps (l ∷ ls) → hourIn l ≤ lastHour (l ∷ ls)
 unfolding lastHour

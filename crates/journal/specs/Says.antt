@@ -9,7 +9,6 @@ use Rattle.paper.specs.AnswerLaws.{refused-done}
 use Rattle.paper.specs.Numbers.{R10, R11, R12, R13}
 use Rattle.journal.specs.Line.{Single, version, dated, Place, holds, noLine}
 use Rattle.journal.specs.LineLaws.{holds-none}
-use Rattle.journal.specs.declared.Line.{Line}
 use Rattle.journal.specs.declared.One.{One}
 use Rattle.journal.specs.declared.One.the-variants as O
 use Rattle.journal.specs.declared.At.{At}

@@ -92,14 +92,14 @@ pub record Waits (i : Intake) (buffer : List ℕ) : Type 0 where
   pub few : length (pending i buffer) ≤ 4095
 
 -- so a buffer of 4,096 bytes has room for one more
-abbrev pub Stands : Intake → List ℕ → Intake → Next → Type 0
-Stands i buffer next (Line from to) = Behind i buffer from to next
-Stands i buffer next More = Waits next buffer
+abbrev pub NextStands : Intake → List ℕ → Intake → Next → Type 0
+NextStands i buffer next (Line from to) = Behind i buffer from to next
+NextStands i buffer next More = Waits next buffer
 
 -- what a step hands over and leaves, and that its places are good
 pub record Steps (i : Intake) (buffer : List ℕ) (t : Taken) : Type 0 where
   pub comes : (future : List ℕ) → comes i buffer future ≡ handed buffer (t .next) ++ comes (t .intake) buffer future
-  pub stands : Stands i buffer (t .intake) (t .next)
+  pub stands : NextStands i buffer (t .intake) (t .next)
 
 -- a line is too long by the bytes that have come, or was so already
 overlong-is : (i : Intake) (end : ℕ) (l : List ℕ) → length l ≡ end - i .at → overlong i end ≡ tooLong (begunOf (i .long) ++ l)

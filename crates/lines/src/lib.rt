@@ -27,15 +27,13 @@ pub struct Taken {
 // A line has at most so many bytes, its LF left out.
 const LONGEST: usize = 4095;
 
-const LF: u8 = 10;
-
 // The place of the first LF from `at` on, or that after the last byte, byte by byte.
 fn end_from(block: &[u8], at: usize) -> usize
     ensures { λ r. ⌜ r ≡ endOf (now (block .entry)) at ⌝ }
 {
     let mut i = at;
     while i < block.len() {
-        if block[i] == LF {
+        if block[i] == text::LF {
             return i;
         }
         i += 1;
@@ -43,18 +41,29 @@ fn end_from(block: &[u8], at: usize) -> usize
     i
 }
 
-// Whether an LF is among the 16 bytes from `at` on: all are looked at, which a compiler does at once.
-fn has_lf(block: &[u8], at: usize) -> bool
-    requires { ⌜ at + 16 ≤ length (now block) ⌝ }
-    ensures { λ r. ⌜ (r ≡ false → endOf (now (block .entry)) (at + 16) ≡ endOf (now (block .entry)) at) ⌝ }
+// Whether an LF is among the n bytes from `at` on: all are looked at, which a compiler does at once.
+fn has_lf(block: &[u8], at: usize, n: usize) -> bool
+    requires { ⌜ at + n ≤ length (now block) ⌝ }
+    ensures { λ r. ⌜ (r ≡ false → endOf (now (block .entry)) (at + n) ≡ endOf (now (block .entry)) at) ⌝ }
 {
     let mut found = false;
     let mut k: usize = 0;
-    while k < 16 {
-        found = found | (block[at + k] == LF);
+    while k < n {
+        found = found | (block[at + k] == text::LF);
         k += 1;
     }
     found
+}
+
+// The place of the first LF from `at` on, or that after the last byte: the first 8 bytes are looked at at once.
+fn end_near(block: &[u8], at: usize) -> usize
+    requires { ⌜ at + 8 ≤ length (now block) ⌝ }
+    ensures { λ r. ⌜ r ≡ endOf (now (block .entry)) at ⌝ }
+{
+    if has_lf(block, at, 8) {
+        return end_from(block, at);
+    }
+    end_from(block, at + 8)
 }
 
 // The place of the first LF from `at` on, or that after the last byte.
@@ -66,8 +75,8 @@ fn line_end(block: &[u8], at: usize) -> usize
         if block.len() - i < 16 {
             return end_from(block, i);
         }
-        if has_lf(block, i) {
-            return end_from(block, i);
+        if has_lf(block, i, 16) {
+            return end_near(block, i);
         }
         i += 16;
     }

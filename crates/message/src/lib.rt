@@ -4,7 +4,7 @@ ghost use Prim.Native.Nat.{_+_, _≤_};
 ghost use lib.ListN.{length, replicate};
 ghost use lib.Seq.{sets};
 ghost use Rattle.paper.specs.Answer.{Hands};
-ghost use Rattle.frame.specs.Puts.{Puts};
+ghost use Rattle.frame.specs.Puts.{PutsBytes};
 ghost use Rattle.message.specs.Message.{serialOf, addressBytes, proper, framableOf};
 ghost use Rattle.message.specs.Says.{saysBuilt, Splits, Builds};
 
@@ -79,10 +79,10 @@ pub fn split_body(body: &[u8]) -> Split
     })
 }
 
-// Puts the address bytes of a form, and answers the place after them.
+// PutsBytes the address bytes of a form, and answers the place after them.
 fn put_address(out: &mut [u8], form: Form) -> usize
     requires { ⌜ 4 ≤ length (now out) ⌝ }
-    ensures { λ r. ⌜ Puts (addressBytes form) (now (out .entry)) (now (out .exit)) 0 r ⌝ }
+    ensures { λ r. ⌜ PutsBytes (addressBytes form) (now (out .entry)) (now (out .exit)) 0 r ⌝ }
 {
     match form {
         Form::Address(a) => {
@@ -99,7 +99,7 @@ fn put_address(out: &mut [u8], form: Form) -> usize
     }
 }
 
-// Puts bytes from a place on.
+// PutsBytes bytes from a place on.
 fn put_all(out: &mut [u8], at: usize, values: &[u8])
     requires { ⌜ at + length (now values) ≤ length (now out) ⌝ }
     ensures { λ _. ⌜ now (out .exit) ≡ sets (now (out .entry)) at (now (values .entry)) ⌝ }

@@ -75,10 +75,16 @@ pub fn within(n: usize, buffer: &[u8]) -> usize
 }
 
 // Each byte A5, as before a call.
-pub fn blank(buffer: &mut [u8]) {
+fn blank(buffer: &mut [u8]) {
     for i in 0..buffer.len() {
         buffer[i] = 0xA5;
     }
+}
+
+// The buffer of so much room that a call is lent, at the start of `spare`: each byte A5.
+pub fn lend(spare: &mut [u8], room: usize) {
+    let n = within(room, spare);
+    blank(&mut spare[..n]);
 }
 
 // A minus, where there is one.
@@ -118,9 +124,9 @@ pub fn numbers(out: &mut [u8], at: usize, w: Words) -> usize {
     p
 }
 
-// The letter of an answer and its numbers, at the buffer's start.
-pub fn put_words(out: &mut [u8], w: Words) -> usize {
-    let after = text::put_byte(out, 0, w.letter);
+// The letter of an answer and its numbers.
+pub fn put_words(out: &mut [u8], at: usize, w: Words) -> usize {
+    let after = text::put_byte(out, at, w.letter);
     numbers(out, after, w)
 }
 
@@ -180,15 +186,24 @@ pub fn bytes(out: &mut [u8], at: usize, bytes: &[u8]) -> usize {
 }
 
 // A line of an answer's letter and its numbers.
-pub fn line(out: &mut [u8], w: Words) -> usize {
-    let after = put_words(out, w);
+pub fn line(out: &mut [u8], at: usize, w: Words) -> usize {
+    let after = put_words(out, at, w);
     end(out, after)
 }
 
 // A line of an answer's letter, its numbers and a buffer.
-pub fn shown(out: &mut [u8], w: Words, buffer: &[u8]) -> usize {
-    let after = put_words(out, w);
+pub fn shown(out: &mut [u8], at: usize, w: Words, buffer: &[u8]) -> usize {
+    let after = put_words(out, at, w);
     bytes(out, after, buffer)
+}
+
+// A line of an answer's letter, its first two numbers and a buffer.
+pub fn reply(out: &mut [u8], at: usize, w: Words, buffer: &[u8]) -> usize {
+    let numbers = w.numbers;
+    let after_letter = text::put_byte(out, at, w.letter);
+    let after_first = field(out, after_letter, false, numbers[0]);
+    let after_second = field(out, after_first, false, numbers[1]);
+    bytes(out, after_second, buffer)
 }
 
 // 1 or 0.

@@ -19,7 +19,7 @@ use Rattle.counters.specs.Counters.{counters}
 use Rattle.scale.specs.Scale.{filtered, none, stableOf, overCapacity, weightFrom, weightBy}
 use Rattle.single.specs.Single.{singleOf, bitsOf, wordsOf, registersOf}
 use Rattle.asking.specs.declared.Reply.the-variants as R
-use Rattle.readout.specs.Readout.{zeroable, mayZero, weightIn, replyFor, wordsFrom, wordsIn, valuesFor}
+use Rattle.readout.specs.Readout.{zeroable, mayZero, zeroTo, weightIn, replyFor, wordsFrom, wordsIn, valuesFor}
 
 -- an algorithm: C 10,000, D 100, M 100, p7 4, p8 8, p9 1, two places
 abbrev set : ℕ → Settings
@@ -48,6 +48,12 @@ pub zeroes :
     × (mayZero 0xC3 (set 2) (held 100) ≡ true)
 unfolding mayZero zeroable nearZero mean
 zeroes = (refl, refl, refl, refl, refl, refl, refl)
+
+-- C0 makes Z the F by p8, and no other request moves it
+pub zeroed :
+    (zeroTo 0xC0 (set 0) twelve (units (pos 7)) ≡ units (pos 50)) × (zeroTo 0xC3 (set 0) twelve (units (pos 7)) ≡ units (pos 7))
+unfolding zeroTo mean
+zeroed = (refl, refl)
 
 -- 50 by p8 for C3 and 100 by p7 for C2, minus Z; inputs; outputs 1, 3 and 4 are 13; C0 nothing
 pub replies :

@@ -17,7 +17,6 @@ use Rattle.counters.specs.declared.Counters.{Counters}
 use Rattle.scale.specs.Scale.{weightBy}
 use Rattle.single.specs.Single.{InRange, wordsOf}
 use Rattle.single.specs.Exact.{inside}
-use Rattle.registers.specs.declared.Values.{Values}
 use Rattle.asking.specs.Asking.{fieldBytes, replyBytes}
 use Rattle.asking.specs.declared.Reply.the-variants as R
 use Rattle.readout.specs.Readout.{weightIn, replyFor, wordsFrom, wordsIn, valuesFor}

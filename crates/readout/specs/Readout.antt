@@ -8,7 +8,7 @@ use Rattle.window.specs.Window.{samplesOf}
 use Rattle.window.specs.declared.Window.{Window}
 use Rattle.field.specs.Field.{writable, fieldOf}
 use Rattle.field.specs.declared.Weight.{Weight}
-use Rattle.dosing.specs.Rules.{nearZero}
+use Rattle.dosing.specs.Rules.{units, nearZero}
 use Rattle.dosing.specs.declared.Units.{Units}
 use Rattle.dosing.specs.declared.Gates.{Gates}
 use Rattle.channels.specs.Channels.{outputsOf}
@@ -31,6 +31,10 @@ zeroable set window = leb (set .algorithm) 1 && not (none (samplesOf window)) &&
 -- C0 asks it; no other request does
 unfoldable pub mayZero : ℕ → Settings → Window → Bool
 mayZero op set window = not (eqb op 0xC0) || zeroable set window
+
+-- C0 zeroes (Z becomes F, by p8)
+unfoldable pub zeroTo : ℕ → Settings → Window → Units → Units
+zeroTo op set window z = pick (eqb op 0xC0) (units (filtered window (set .p8))) z
 
 -- ---- a reply
 

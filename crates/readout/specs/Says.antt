@@ -1,5 +1,5 @@
 -- The contract of each call, and that two results that both meet it are equal. Assumes nothing.
-use mathlib.Core.Path.{_≡_}
+use mathlib.Core.Path.{_≡_, ap₂}
 use mathlib.Core.Bool.{Bool}
 use mathlib.Core.List.{List}
 use Prim.Native.Nat.{ℕ}
@@ -11,10 +11,12 @@ use Rattle.dosing.specs.declared.Gates.{Gates}
 use Rattle.counters.specs.declared.Counters.{Counters}
 use Rattle.registers.specs.Registers.{tableOf}
 use Rattle.asking.specs.declared.Reply.{Reply}
-use Rattle.readout.specs.Readout.{mayZero, replyFor, valuesFor}
+use Rattle.readout.specs.Readout.{mayZero, zeroTo, replyFor, valuesFor}
+use Rattle.readout.specs.declared.Zero.{Zero}
 
-abbrev pub Allows : ℕ → Settings → Window → Bool → Type 0
-Allows op set window r = r ≡ mayZero op set window
+pub record Zeroed (op : ℕ) (set : Settings) (window : Window) (old : Units) (r : Zero) : Type 0 where
+  pub may : r .may ≡ mayZero op set window
+  pub z : r .z ≡ zeroTo op set window old
 
 abbrev pub Replies : ℕ → Settings → Window → Units → ℕ → ℕ → Gates → Bool → Reply → Type 0
 Replies op set window z s inputs gates alarm r = r ≡ replyFor op set window z s inputs gates alarm
@@ -22,8 +24,9 @@ Replies op set window z s inputs gates alarm r = r ≡ replyFor op set window z 
 abbrev pub Lists : Settings → Window → Units → ℕ → ℕ → Gates → Bool → Counters → Bool → List ℕ → Type 0
 Lists set window z s inputs gates alarm n link r = r ≡ tableOf (valuesFor set window z s inputs gates alarm n link)
 
-pub zero-determined : (op : ℕ) (set : Settings) (window : Window) (a b : Bool) → Allows op set window a → Allows op set window b → a ≡ b
-zero-determined op set window a b p q = same p q
+pub zero-determined : (op : ℕ) (set : Settings) (window : Window) (old : Units) (a b : Zero) → Zeroed op set window old a → Zeroed op set window old b → a ≡ b
+zero-determined op set window old a b p q =
+    ap₂ {C = Zero} (λ (may : Bool) (z : Units). record { may = may; z = z }) (same (p .may) (q .may)) (same (p .z) (q .z))
 
 pub reply-determined : (op : ℕ) (set : Settings) (window : Window) (z : Units) (s inputs : ℕ) (gates : Gates) (alarm : Bool) (a b : Reply) → Replies op set window z s inputs gates alarm a → Replies op set window z s inputs gates alarm b → a ≡ b
 reply-determined op set window z s inputs gates alarm a b p q = same p q

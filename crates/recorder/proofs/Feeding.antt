@@ -1,7 +1,8 @@
 -- What is left of a buffer, from the place that its lines so far have reached, gives the whole. Assumes nothing.
-use mathlib.Core.Path.{_≡_, refl, sym, ap, _∙_, subst}
-use mathlib.Core.List.{List, []}
+use mathlib.Core.Path.{_≡_, refl, sym, ap, ap₂, _∙_, subst}
+use mathlib.Core.List.{List, [], _++_, append-assoc, append-nil}
 use Prim.Native.Nat.{ℕ, zero, suc, _+_, _-_, _≤_, _<_}
+use native.Mathlib.Nat.{add-zero, zero-add}
 use native.Mathlib.Omega.{arith}
 use lib.ListN.{length, drop, length-append}
 use lib.Seq.{sets, length-sets}
@@ -11,33 +12,70 @@ use Rattle.laws.specs.Pick.{pick-t, pick-f}
 use Rattle.laws.specs.Over.{over, sets-append, sets-over}
 use Rattle.lines.specs.declared.Intake.{Intake}
 use Rattle.lines.specs.declared.Taken.{Taken}
+use Rattle.lines.specs.declared.Next.{Next}
 use Rattle.lines.specs.declared.Next.the-variants.{Line, More}
 use Rattle.lines.specs.Places.{partOf}
-use Rattle.lines.specs.Intake.{Behind, Stands, Steps, next-steps}
+use Rattle.lines.specs.Intake.{Behind}
 use Rattle.lines.specs.Intake as lines
-use Rattle.recorder.specs.Recording.{noteOf, nextOf, Carries}
-use Rattle.recorder.specs.Noting.{Notes}
+use Rattle.controller.specs.declared.Controller.{Controller}
+use Rattle.clock.specs.declared.Clock.{Clock}
+use Rattle.clock.specs.declared.Marked.{Marked}
+use Rattle.clock.specs.Clock.{Note, note}
+use Rattle.clock.specs.Marking.{Writes}
+use Rattle.clock.specs.Part.{put-part, part-length}
+use Rattle.acts.specs.Script.{line-behind}
+use Rattle.recorder.specs.Recording.{with, noteOf, boxBy, nextOf, Carries}
 use Rattle.recorder.specs.Keeps.{note-carries}
 use Rattle.recorder.specs.Feed.{Gave, gave, ahead, onNext, feedFrom, feedOf, Feeds}
 use Rattle.recorder.specs.declared.Recorder.{Recorder}
-use Rattle.recorder.specs.declared.Noted.{Noted}
-use Rattle.clock.specs.Part.{put-part, part-length}
+
+-- ---- a line is noted
+
+-- the next recorder is the line's; what it adds stands behind `at` bytes, everything else is as it was, and the place after it is `len`
+pub record Notes (r : Recorder) (l old : List ℕ) (at : ℕ) (q : Recorder) (new : List ℕ) (len : ℕ) : Type 0 where
+  pub next : q ≡ nextOf r l
+  pub left : new ≡ sets old at (noteOf r l .text)
+  pub place : len ≡ at + length (noteOf r l .text)
+  pub fits : len ≤ length old
+
+-- a text that a lent buffer holds is no longer than it
+pub written : {n : Note} {old new : List ℕ} {m : Marked} → Writes n old new m → length new ≡ length old → m .len ≤ length old
+unfolding over
+written {n} {old} w same = omega (arith, w .len, ap length (w .left), length-append (n .text) (drop (length (n .text)) old))
+
+module _ {r : Recorder} {l old : List ℕ} {at : ℕ} {d : Controller} (room : at ≤ length old) (box : d ≡ boxBy (r .clock .stage) (r .controller) l) where
+  -- in the part of a buffer from a place on
+  pub notes-part : {sub : List ℕ} (m : Marked) → length sub ≡ length (midOf at (length old - at) old) → Writes (noteOf r l) (midOf at (length old - at) old) sub m
+      → Notes r l old at (with d (m .next)) (putMid at (length old - at) old sub) (at + m .len)
+  unfolding nextOf
+  notes-part {sub} m same w =
+      let fits : m .len ≤ length old - at = omega (arith, written w same, part-length old at) in
+      record {
+        next = ap₂ with box (w .next);
+        left = put-part old at (noteOf r l .text) sub room (omega (arith, w .len)) (w .left);
+        place = ap (λ (n : ℕ). at + n) (w .len);
+        fits = omega arith;
+      }
+
+  -- nothing is added
+  pub notes-none : {k : Clock} → noteOf r l ≡ note k [] → Notes r l old at (with d k) old at
+  unfolding nextOf
+  notes-none e = record {
+    next = ap₂ with box (sym (ap (λ (n : Note). n .next) e));
+    left = sym (ap (λ (n : Note). sets old at (n .text)) e);
+    place = sym (ap (λ (n : Note). at + length (n .text)) e ∙ add-zero at);
+    fits = room;
+  }
 
 -- ---- one step
 
-line-is : (n room : ℕ) (r : Recorder) (i : Intake) (input : List ℕ) (from to : ℕ) → 64 ≤ room → lines.nextOf i input .next ≡ Line from to
-    → feedFrom (suc n) room r i input
-    ≡ ahead (noteOf r (partOf from to input) .text) (feedFrom n (room - length (noteOf r (partOf from to input) .text)) (nextOf r (partOf from to input)) (lines.nextOf i input .intake) input)
-unfolding feedFrom onNext
-line-is n room r i input from to h e =
+step-is : (n room : ℕ) (r : Recorder) (i : Intake) (input : List ℕ) {t : Taken} {x : Next} → 64 ≤ room → t ≡ lines.nextOf i input → t .next ≡ x
+    → feedFrom (suc n) room r i input ≡ onNext (λ left next. feedFrom n left next (t .intake) input) room r input (t .intake) x
+unfolding feedFrom
+step-is n room r i input {t} h e f =
     pick-t _ _ _ (le-leb 64 room h)
-    ∙ ap (onNext (λ left next. feedFrom n left next (lines.nextOf i input .intake) input) room r input (lines.nextOf i input .intake)) e
-
-more-is : (n room : ℕ) (r : Recorder) (i : Intake) (input : List ℕ) → 64 ≤ room → lines.nextOf i input .next ≡ More → feedFrom (suc n) room r i input ≡ gave r (lines.nextOf i input .intake) []
-unfolding feedFrom onNext
-more-is n room r i input h e =
-    pick-t _ _ _ (le-leb 64 room h)
-    ∙ ap (onNext (λ left next. feedFrom n left next (lines.nextOf i input .intake) input) room r input (lines.nextOf i input .intake)) e
+    ∙ ap (λ (s : Taken). onNext (λ left next. feedFrom n left next (s .intake) input) room r input (s .intake) (s .next)) (sym e)
+    ∙ ap (onNext (λ left next. feedFrom n left next (t .intake) input) room r input (t .intake)) f
 
 full-is : (n room : ℕ) (r : Recorder) (i : Intake) (input : List ℕ) → room < 64 → feedFrom n room r i input ≡ gave r i []
 unfolding feedFrom
@@ -46,136 +84,90 @@ full-is (suc n) room r i input h = pick-f _ _ _ (lt-leb 64 room h)
 
 -- ---- the lines so far
 
+-- what they added stands at the buffer's start, and what is left of the buffer gives the rest of the whole
 pub record Feeding (r₀ : Recorder) (i₀ : Intake) (input old new : List ℕ) (r : Recorder) (i : Intake) (len : ℕ) : Type 0 where
   pub fuel : ℕ
-  pub some : 0 < fuel
-  pub enough : length input < i .at + fuel
-  pub next : feedFrom fuel (length old - len) r i input .next ≡ feedOf (length old) r₀ i₀ input .next
-  pub intake : feedFrom fuel (length old - len) r i input .intake ≡ feedOf (length old) r₀ i₀ input .intake
-  pub size : len + length (feedFrom fuel (length old - len) r i input .text) ≡ length (feedOf (length old) r₀ i₀ input .text)
-  pub left : sets new len (feedFrom fuel (length old - len) r i input .text) ≡ sets old 0 (feedOf (length old) r₀ i₀ input .text)
+  pub enough : length input ≤ i .at + fuel
+  pub text : List ℕ
+  pub whole : feedOf (length old) r₀ i₀ input ≡ ahead text (feedFrom (suc fuel) (length old - len) r i input)
+  pub size : len ≡ length text
+  pub left : new ≡ sets old 0 text
   pub long : length new ≡ length old
   pub room : len ≤ length old
   pub carries : Carries r
 
 pub feeding-none : {input old : List ℕ} (r : Recorder) (i : Intake) → Carries r → Feeding r i input old old r i 0
-unfolding feedOf
+unfolding feedOf ahead
 feeding-none {input} {old} r i k =
-    let all : length old - 0 ≡ length old = omega arith in
-    let g : ℕ → Gave = λ n. feedFrom (suc (length input)) n r i input in
+    let all : length old ≡ length old - 0 = omega arith in
     record {
-      fuel = suc (length input);
-      some = omega arith;
+      fuel = length input;
       enough = omega arith;
-      next = ap (λ (n : ℕ). g n .next) all;
-      intake = ap (λ (n : ℕ). g n .intake) all;
-      size = ap (λ (n : ℕ). 0 + length (g n .text)) all ∙ omega arith;
-      left = ap (λ (n : ℕ). sets old 0 (g n .text)) all;
+      text = [];
+      whole = ap (λ (n : ℕ). feedFrom (suc (length input)) n r i input) all;
+      size = refl;
+      left = refl;
       long = refl;
       room = omega arith;
       carries = k;
     }
 
--- a text that a lent buffer holds is no longer than it
-pub over-fits : (text old new : List ℕ) → new ≡ over text old → length new ≡ length old → length text ≤ length old
-unfolding over
-over-fits text old new e h = omega (arith, ap length e, length-append text (drop (length text) old))
-
 module _ {r₀ : Recorder} {i₀ : Intake} {input old new : List ℕ} {r : Recorder} {i : Intake} {len : ℕ} (w : Feeding r₀ i₀ input old new r i len) where
-  -- one line more is noted
-  feeding-line : (from to : ℕ) (sub : List ℕ) (n : Noted) → 64 ≤ length new - len → lines.nextOf i input .next ≡ Line from to → Behind i input from to (lines.nextOf i input .intake)
-      → Notes r (partOf from to input) (midOf len (length new - len) new) sub n → length sub ≡ length (midOf len (length new - len) new)
-      → Feeding r₀ i₀ input old (putMid len (length new - len) new sub) (n .next) (lines.nextOf i input .intake) (len + n .len)
-  unfolding ahead
-  feeding-line from to sub n h e b nt same = go (w .fuel) (w .enough) (w .next) (w .intake) (w .size) (w .left)
-    where
-      line : List ℕ
-      line = partOf from to input
-
-      t : List ℕ
-      t = noteOf r line .text
-
-      fits : length t ≤ length new - len
-      fits = omega (arith, over-fits t _ sub (nt .left) same, part-length new len)
-
-      put : putMid len (length new - len) new sub ≡ sets new len t
-      put = put-part new len t sub (omega (arith, w .room, w .long)) fits (nt .left)
-
-      go : (fuel : ℕ) → length input < i .at + fuel
-          → feedFrom fuel (length old - len) r i input .next ≡ feedOf (length old) r₀ i₀ input .next
-          → feedFrom fuel (length old - len) r i input .intake ≡ feedOf (length old) r₀ i₀ input .intake
-          → len + length (feedFrom fuel (length old - len) r i input .text) ≡ length (feedOf (length old) r₀ i₀ input .text)
-          → sets new len (feedFrom fuel (length old - len) r i input .text) ≡ sets old 0 (feedOf (length old) r₀ i₀ input .text)
-          → Feeding r₀ i₀ input old (putMid len (length new - len) new sub) (n .next) (lines.nextOf i input .intake) (len + n .len)
-      go zero en f1 f2 f3 f4 = absurd (omega (arith, b .inside, b .ahead))
-      go (suc m) en f1 f2 f3 f4 =
-          let more = feedFrom m (length old - len - length t) (nextOf r line) (lines.nextOf i input .intake) input in
-          let step = line-is m (length old - len) r i input from to (omega (arith, w .long)) e in
-          let left : length old - (len + n .len) ≡ length old - len - length t = omega (arith, nt .len) in
-          let rest : feedFrom m (length old - (len + n .len)) (n .next) (lines.nextOf i input .intake) input ≡ more =
-          ap (λ (s : Recorder). feedFrom m (length old - (len + n .len)) s (lines.nextOf i input .intake) input) (nt .next)
-          ∙ ap (λ (k : ℕ). feedFrom m k (nextOf r line) (lines.nextOf i input .intake) input) left in
-          let all : length (feedFrom (suc m) (length old - len) r i input .text) ≡ length t + length (more .text) = ap (λ (g : Gave). length (g .text)) step ∙ length-append t (more .text) in
-          record {
-            fuel = m;
-            some = omega (arith, b .inside, b .ahead);
-            enough = omega (arith, b .inside, b .ahead, b .place);
-            next = ap (λ (g : Gave). g .next) rest ∙ sym (ap (λ (g : Gave). g .next) step) ∙ f1;
-            intake = ap (λ (g : Gave). g .intake) rest ∙ sym (ap (λ (g : Gave). g .intake) step) ∙ f2;
-            size = omega (arith, ap (λ (g : Gave). length (g .text)) rest, all, f3, nt .len);
-            left =
-                ap (λ (g : Gave). sets (putMid len (length new - len) new sub) (len + n .len) (g .text)) rest
-                ∙ ap (λ (l : List ℕ). sets l (len + n .len) (more .text)) put
-                ∙ ap (λ (k : ℕ). sets (sets new len t) (len + k) (more .text)) (nt .len)
-                ∙ sym (sets-append new len t (more .text))
-                ∙ sym (ap (λ (g : Gave). sets new len (g .text)) step)
-                ∙ f4;
-            long = ap length put ∙ length-sets new len t ∙ w .long;
-            room = omega (arith, nt .len, fits, w .room, w .long);
-            carries = subst Carries (sym (nt .next)) (note-carries r line (w .carries));
-          }
-
   -- where nothing more is noted the text so far is all
-  ends : (j : Intake) → feedFrom (w .fuel) (length old - len) r i input ≡ gave r j [] → Feeds r₀ i₀ input old new (record { next = r; intake = j; len = len })
+  ends : (j : Intake) → feedFrom (suc (w .fuel)) (length old - len) r i input ≡ gave r j [] → Feeds r₀ i₀ input old new (record { next = r; intake = j; len = len })
+  unfolding ahead
   ends j e =
-      let whole = feedOf (length old) r₀ i₀ input .text in
-      let none : length (feedFrom (w .fuel) (length old - len) r i input .text) ≡ 0 = ap (λ (g : Gave). length (g .text)) e in
-      let size : len ≡ length whole = omega (arith, none, w .size) in
+      let whole = w .whole ∙ ap (ahead (w .text)) e in
+      let text : w .text ≡ feedOf (length old) r₀ i₀ input .text = sym (ap (λ (g : Gave). g .text) whole ∙ append-nil (w .text)) in
       record {
-        next = sym (ap (λ (g : Gave). g .next) e) ∙ w .next;
-        intake = sym (ap (λ (g : Gave). g .intake) e) ∙ w .intake;
-        len = size;
-        left = sym (ap (λ (g : Gave). sets new len (g .text)) e) ∙ w .left ∙ sets-over old whole (omega (arith, size, w .room));
+        next = sym (ap (λ (g : Gave). g .next) whole);
+        intake = sym (ap (λ (g : Gave). g .intake) whole);
+        len = w .size ∙ ap length text;
+        left = w .left ∙ sets-over old (w .text) (omega (arith, w .size, w .room)) ∙ ap (λ (t : List ℕ). over t old) text;
         within = w .room;
         carries = w .carries;
       }
 
   pub feeding-full : length new - len < 64 → Feeds r₀ i₀ input old new (record { next = r; intake = i; len = len })
-  feeding-full h = ends i (full-is (w .fuel) (length old - len) r i input (omega (arith, w .long)))
+  feeding-full h = ends i (full-is (suc (w .fuel)) (length old - len) r i input (omega (arith, w .long)))
 
-  feeding-more : 64 ≤ length new - len → lines.nextOf i input .next ≡ More → Feeds r₀ i₀ input old new (record { next = r; intake = lines.nextOf i input .intake; len = len })
-  feeding-more h e = ends (lines.nextOf i input .intake) (go (w .fuel) (w .some))
-    where
-      go : (fuel : ℕ) → 0 < fuel → feedFrom fuel (length old - len) r i input ≡ gave r (lines.nextOf i input .intake) []
-      go zero k = absurd (omega arith)
-      go (suc m) k = more-is m (length old - len) r i input (omega (arith, w .long)) e
+  module _ (t : Taken) (e : t ≡ lines.nextOf i input) (h : 64 ≤ length new - len) where
+    pub feeding-more : t .next ≡ More → Feeds r₀ i₀ input old new (record { next = r; intake = t .intake; len = len })
+    unfolding onNext
+    feeding-more m = ends (t .intake) (step-is (w .fuel) (length old - len) r i input (omega (arith, w .long)) e m)
 
--- ---- what an answer of the intake tells
+    -- one line more is noted
+    pub feeding-line : {from to : ℕ} {q : Recorder} {now : List ℕ} {at : ℕ} → t .next ≡ Line from to → Notes r (partOf from to input) new len q now at
+        → Feeding r₀ i₀ input old now q (t .intake) at
+    unfolding onNext ahead
+    feeding-line {from} {to} {q} {now} {at} m n = go (w .fuel) (w .enough) (w .whole)
+      where
+        l : List ℕ
+        l = partOf from to input
 
--- a line that is handed over lies in the buffer
-pub behind : (i : Intake) (input : List ℕ) (t : Taken) → t ≡ lines.nextOf i input → (from to : ℕ) → t .next ≡ Line from to → Behind i input from to (t .intake)
-behind i input t e from to k = subst (Stands i input (t .intake)) k (subst (Steps i input) (sym e) (next-steps i input) .stands)
+        more : List ℕ
+        more = noteOf r l .text
 
-module _ {r₀ : Recorder} {i₀ : Intake} {input old new : List ℕ} {r : Recorder} {i : Intake} {len : ℕ} (w : Feeding r₀ i₀ input old new r i len) (t : Taken) (e : t ≡ lines.nextOf i input) where
-  pub taken-line : (from to : ℕ) (sub : List ℕ) (n : Noted) → 64 ≤ length new - len → t .next ≡ Line from to
-      → Notes r (partOf from to input) (midOf len (length new - len) new) sub n → length sub ≡ length (midOf len (length new - len) new)
-      → Feeding r₀ i₀ input old (putMid len (length new - len) new sub) (n .next) (t .intake) (len + n .len)
-  taken-line from to sub n h k nt same =
-      let next = ap (λ (x : Taken). x .next) (sym e) ∙ k in
-      subst (λ (x : Taken). Feeding r₀ i₀ input old (putMid len (length new - len) new sub) (n .next) (x .intake) (len + n .len)) (sym e)
-      (feeding-line w from to sub n h next (behind i input (lines.nextOf i input) refl from to next) nt same)
+        left : now ≡ sets old 0 (w .text ++ more)
+        left = n .left ∙ ap₂ (λ (o : List ℕ) (k : ℕ). sets o k more) (w .left) (w .size ∙ sym (zero-add (length (w .text)))) ∙ sym (sets-append old 0 (w .text) more)
 
-  pub taken-more : 64 ≤ length new - len → t .next ≡ More → Feeds r₀ i₀ input old new (record { next = r; intake = t .intake; len = len })
-  taken-more h k =
-      subst (λ (x : Taken). Feeds r₀ i₀ input old new (record { next = r; intake = x .intake; len = len })) (sym e)
-      (feeding-more w h (ap (λ (x : Taken). x .next) (sym e) ∙ k))
+        go : (fuel : ℕ) → length input ≤ i .at + fuel → feedOf (length old) r₀ i₀ input ≡ ahead (w .text) (feedFrom (suc fuel) (length old - len) r i input) → Feeding r₀ i₀ input old now q (t .intake) at
+        go zero enough whole = let b = line-behind input i t e m in absurd (omega (arith, b .inside, b .ahead))
+        go (suc fuel) enough whole =
+            let b = line-behind input i t e m in
+            let step = step-is (suc fuel) (length old - len) r i input (omega (arith, w .long)) e m in
+            let room : length old - len - length more ≡ length old - at = omega (arith, n .place) in
+            record {
+              fuel = fuel;
+              enough = omega (arith, b .inside, b .ahead, b .place);
+              text = w .text ++ more;
+              whole =
+                  whole
+                  ∙ ap (ahead (w .text)) (step ∙ ap₂ (λ (k : ℕ) (s : Recorder). ahead more (feedFrom (suc fuel) k s (t .intake) input)) room (sym (n .next)))
+                  ∙ ap (gave _ _) (sym (append-assoc (w .text) more _));
+              size = omega (arith, n .place, w .size, length-append (w .text) more);
+              left = left;
+              long = ap length left ∙ length-sets old 0 (w .text ++ more);
+              room = omega (arith, n .fits, w .long);
+              carries = subst Carries (sym (n .next)) (note-carries r l (w .carries));
+            }

@@ -1,80 +1,127 @@
--- What a line was, from the contracts of the reader and of what acts. Assumes nothing.
-use mathlib.Core.Path.{_≡_, refl, sym, ap, ap₂, _∙_}
+-- What a line was, from the contracts of the reader and of what acts, and what it adds. Assumes nothing.
+use mathlib.Core.Path.{_≡_, refl, sym, ap, _∙_, subst}
+use mathlib.Core.Bool.{false}
 use mathlib.Core.List.{List, [], _∷_}
 use Prim.Native.Nat.{ℕ, _≤_}
 use types.Run.{OneOf, miss}
 use denote.Enum.Declared.{tagOf}
+use lib.IntN.{ℤ}
+use mir.Syntax.{w32}
+use mir.Val.{SFits, toZ, ofZ}
+use mir.Facts.{toZ-ofZ}
 use lib.ListN.{length}
-use Rattle.laws.specs.Over.{over}
 use Rattle.controller.specs.declared.Controller.{Controller}
+use Rattle.controller.specs.declared.Ticked.{Ticked}
 use Rattle.controller.specs.declared.Fault.{Fault}
 use Rattle.controller.specs.declared.Fault.the-variants as F
+use Rattle.controller.specs.Sound.{Sound}
+use Rattle.controller.specs.Says.{saysTick, Ticks}
 use Rattle.controller.specs.Tick.{saysFault}
 use Rattle.series.specs.Events.{run}
 use Rattle.calls.specs.Call.{callOf}
-use Rattle.calls.specs.Reads.{asCall, Reads, read-call}
+use Rattle.calls.specs.Reads.{asCall, ReadsCall, read-call}
 use Rattle.calls.specs.declared.Call as read
-use Rattle.acts.specs.Acts.{Ask, askBy, eventsIn, madeBy, saidTo, lent}
-use Rattle.acts.specs.Makes.{saysAct, Acts, lent-read}
+use Rattle.calls.specs.declared.Call.the-variants as C
+use Rattle.calls.proofs.Call.{the-type as call-type}
+use Rattle.acts.specs.Acts.{Ask, askOf, askBy, eventsIn, madeBy, saidAt, saidTo, lent, beside}
+use Rattle.acts.specs.Makes.{saysAct, Acts, unticked, others-whole, lent-read}
+use Rattle.acts.specs.Script.{made-tick, made-read}
 use Rattle.acts.specs.declared.Acted.{Acted}
 use Rattle.acts.specs.declared.Answer as acts
 use Rattle.acts.specs.declared.Answer.the-variants as A
 use Rattle.acts.proofs.Answer.{the-type as answer-type}
-use Rattle.clock.specs.Clock.{Note}
-use Rattle.recorder.specs.Recording.{heardTick, heardSaid, heardOf, noteBy, noteOf, boxBy, nextOf}
-use Rattle.clock.specs.Marking.{Writes}
-use Rattle.recorder.specs.Noting.{Hears, Notes}
+use Rattle.clock.specs.Clock.{note, heardBy, passedBy}
+use Rattle.clock.specs.Marking.{Writable, Writes, writes-as, Marks}
+use Rattle.clock.specs.Keeps.{fitted-is, does-writes, heard-passed}
 use Rattle.clock.specs.declared.Heard.{Heard}
-use Rattle.clock.specs.declared.Heard.the-variants.{Ticked, Other}
+use Rattle.clock.specs.declared.Heard.the-variants as H
 use Rattle.clock.specs.declared.Stage.{Stage}
+use Rattle.clock.specs.declared.Stage.the-variants.{First, Recording, Over}
 use Rattle.clock.specs.declared.Clock.{Clock}
 use Rattle.clock.specs.declared.Marked.{Marked}
-use Rattle.recorder.specs.declared.Recorder.{Recorder}
+use Rattle.clock.proofs.Stage.{the-type as stage-type}
+use Rattle.recorder.specs.Recording.{heardTick, heardSaid, heardOf, with, noteBy, noteOf, boxBy}
+use Rattle.recorder.specs.Noting.{Hears, Unheard, before, after}
+use Rattle.recorder.specs.Keeps.{heard-writable}
 
 -- a tick in a fault is counted
-pub fault-heard : (f : Fault) → heardTick (saysFault f) ≡ Ticked
+pub fault-heard : (f : Fault) → heardTick (saysFault f) ≡ H.Ticked
 unfolding heardTick saysFault
 fault-heard (F.F14 channel) = refl
 fault-heard F.F21 = refl
 
--- an answer that is neither a tick's nor a restart's, nor that the line is no call
+-- an answer that is neither a restart's nor that the line is no call
 abbrev others : List ℕ
-others = 1 ∷ 2 ∷ 3 ∷ 4 ∷ 6 ∷ 7 ∷ 8 ∷ 9 ∷ []
+others = 0 ∷ 1 ∷ 2 ∷ 3 ∷ 5 ∷ 6 ∷ 7 ∷ 8 ∷ []
 
-pub other-answer : (a : acts.Answer) → OneOf others (tagOf answer-type a) → Other ≡ heardSaid (saysAct a)
+pub other-answer : (a : acts.Answer) → OneOf others (tagOf answer-type a) → H.Other ≡ heardSaid (saysAct a)
 unfolding heardSaid saysAct
-other-answer (A.Tick a) h = absurd (miss others 0 tt h)
 other-answer A.Link h = refl
 other-answer (A.Set a) h = refl
 other-answer (A.Reset a) h = refl
 other-answer (A.Counters n) h = refl
-other-answer (A.Restart a) h = absurd (miss others 5 tt h)
+other-answer (A.Restart a) h = absurd (miss others 4 tt h)
 other-answer (A.Request a) h = refl
 other-answer (A.Modbus a) h = refl
 other-answer (A.Why a) h = refl
 other-answer A.Aside h = refl
-other-answer A.Unknown h = absurd (miss others 10 tt h)
+other-answer A.Unknown h = absurd (miss others 9 tt h)
 
--- a line is heard by what its call answers
-pub hears-call : {l old new reply left : List ℕ} {call : read.Call} {r : Acted} {h : Heard} (c : Controller) → Reads l old new call → 2048 ≤ length old → length l ≤ 4095
-    → 64 ≤ length reply → Acts c (lent (length reply) (askBy (asCall new call))) reply left r → h ≡ heardSaid (saysAct (r .answer)) → Hears c (callOf l) (record { next = r .next; heard = h })
-unfolding madeBy heardOf
-hears-call {new = new} {reply = reply} {call = call} c p room short enough a e =
-    let asks = lent-read (length reply) new call (p .within) enough ∙ ap askBy (read-call p room short) in
-    record { next = a .makes .next ∙ ap (λ (ask : Ask). run c (eventsIn ask)) asks; heard = e ∙ ap heardSaid (a .makes .says ∙ ap (saidTo c) asks) }
+-- ---- a line before or after recording
 
--- ---- a line, by the stage
+pub unheard : (s : Stage) → OneOf (0 ∷ 2 ∷ []) (tagOf stage-type s) → Unheard s
+unheard First h = before
+unheard Recording h = absurd (miss (0 ∷ 2 ∷ []) 1 tt h)
+unheard Over h = after
 
-pub notes-by : (s : Stage) (r : Recorder) (l : List ℕ) {c : Controller} {old new : List ℕ} {m : Marked} → r .clock .stage ≡ s → c ≡ boxBy s (r .controller) l → Writes (noteBy s r l) old new m
-    → Notes r l old new (record { next = record { controller = c; clock = m .next }; len = m .len })
-unfolding nextOf noteOf
-notes-by s r l {old = old} {m = m} e b w =
-    let same : noteBy s r l ≡ noteBy (r .clock .stage) r l = ap (λ (t : Stage). noteBy t r l) (sym e) in
-    record {
-      next =
-          ap₂ (λ (c : Controller) (k : Clock). record { controller = c; clock = k })
-          (b ∙ ap (λ (t : Stage). boxBy t (r .controller) l) (sym e))
-          (w .next ∙ ap (λ (n : Note). n .next) same);
-      left = w .left ∙ ap (λ (n : Note). over (n .text) old) same;
-      len = w .len ∙ ap (λ (n : Note). length (n .text)) same;
-    }
+-- that is not the first comes after
+pub not-first : {s : Stage} → Unheard s → OneOf (1 ∷ 2 ∷ []) (tagOf stage-type s) → s ≡ Over
+not-first before h = absurd (miss (1 ∷ 2 ∷ []) 0 tt h)
+not-first after h = refl
+
+-- leaves the box
+pub unheard-box : {s : Stage} (c : Controller) (l : List ℕ) → Unheard s → c ≡ boxBy s c l
+unfolding boxBy
+unheard-box c l before = refl
+unheard-box c l after = refl
+
+-- ---- a line that is heard
+
+-- what it makes of the box, and what it was
+pub record Heard-as (c : Controller) (l : List ℕ) (d : Controller) (h : Heard) : Type 0 where
+  pub box : d ≡ madeBy c (callOf l)
+  pub heard : h ≡ heardOf c (callOf l)
+
+module _ {l old new : List ℕ} {c : Controller} (room : 2048 ≤ length old) (short : length l ≤ 4095) where
+  -- a tick
+  pub tick-heard : {call : read.Call} {x : ℤ} {i : ℕ} {h : Heard} (r : Ticked) → ReadsCall l old new call → call ≡ C.Tick x i → SFits w32 x → Ticks c (toZ w32 (ofZ w32 x)) i r → h ≡ heardTick (saysTick (r .answer)) → Heard-as c l (r .next) h
+  unfolding heardOf heardSaid saidTo saidAt asCall askBy askOf
+  tick-heard {i = i} r read is fits told e =
+      let p = subst (ReadsCall l old new) is read in
+      let t = subst (λ (x : ℤ). Ticks c x i r) (toZ-ofZ fits) told in
+      record { box = made-read p room short (made-tick new r t) .next; heard = e ∙ ap heardTick (t .says) ∙ ap (heardOf c) (read-call p room short) }
+
+  -- any other call
+  pub other-heard : {reply left : List ℕ} {h : Heard} (call : read.Call) (r : Acted) → 64 ≤ length reply → OneOf unticked (tagOf call-type call) → ReadsCall l old new call
+      → Acts c (beside false (lent (length reply) (askBy (asCall new call)))) reply left r → Hears (r .answer) h → Heard-as c l (r .next) h
+  unfolding madeBy heardOf
+  other-heard {reply} call r enough k p a e =
+      let makes = others-whole new call k a .makes in
+      let asks = lent-read (length reply) new call (p .within) enough ∙ ap askBy (read-call p room short) in
+      record { box = makes .next ∙ ap (λ (ask : Ask). run c (eventsIn ask)) asks; heard = e .is ∙ ap heardSaid (makes .says ∙ ap (saidTo c) asks) }
+
+-- and what it adds while recording
+module _ {c d : Controller} {l : List ℕ} {h : Heard} (k : Clock) (s : k .stage ≡ Recording) (e : Heard-as c l d h) where
+  pub recorded-box : d ≡ boxBy (k .stage) c l
+  unfolding boxBy
+  recorded-box = e .box ∙ ap (λ (t : Stage). boxBy t c l) (sym s)
+
+  recorded-note : noteOf (with c k) l ≡ heardBy k h
+  unfolding noteOf noteBy
+  recorded-note = ap (λ (t : Stage). noteBy t (with c k) l) s ∙ ap (heardBy k) (sym (e .heard))
+
+  pub ticked-writes : {old new : List ℕ} {m : Marked} → Sound c → 64 ≤ length old → Marks k h old new m → Writes (noteOf (with c k) l) old new m
+  ticked-writes a room m = writes-as recorded-note (does-writes room (fitted-is k h (subst Writable (sym (e .heard)) (heard-writable c (callOf l) a))) m)
+
+  pub passed-note : {n : Clock} {a : acts.Answer} → Hears a h → n ≡ passedBy k h → noteOf (with c k) l ≡ note n []
+  passed-note a p = recorded-note ∙ heard-passed k (a .uncounted) ∙ ap (λ (x : Clock). note x []) (sym p)

@@ -16,8 +16,8 @@ use Rattle.series.specs.Kept.{event-sound}
 use Rattle.calls.specs.Call.{Call, callOf}
 use Rattle.acts.specs.Acts.{Ask, event, counters, why, nothing, unknown, askBy, eventsIn, madeBy, saidAt, saidTo}
 use Rattle.clock.specs.Clock.{Runs}
-use Rattle.clock.specs.Marking.{Writable}
-use Rattle.clock.specs.Keeps.{start-runs, first-runs, heard-runs}
+use Rattle.clock.specs.Marking.{fitsLine, Writable}
+use Rattle.clock.specs.Keeps.{recordable-writable, start-runs, first-runs, heard-runs, Uncounted, restarted, other}
 use Rattle.recorder.specs.Recording.{heardDoses, heardTick, heardRestart, heardSaid, heardOf, noteBy, noteOf, boxBy, nextOf, startOf, Carries}
 use Rattle.clock.specs.declared.Stage.{Stage}
 use Rattle.clock.specs.declared.Stage.the-variants.{First, Recording, Over}
@@ -47,39 +47,46 @@ box-sound Over c l s = s
 -- ---- doses
 
 doses-writable : (rs : List Record) → AllRecordable rs → Writable (heardDoses rs)
-unfolding heardDoses
-doses-writable [] h = tt
-doses-writable (r ∷ rs) h = h .0
+unfolding heardDoses fitsLine
+doses-writable [] h = refl
+doses-writable (r ∷ rs) h = recordable-writable r (h .0)
 
 tick-writable : (a : Answer Told) → ((t : Told) → a ≡ done t → AllRecordable (t .doses)) → Writable (heardTick a)
-unfolding heardTick
+unfolding heardTick fitsLine
 tick-writable (done t) h = doses-writable (t .doses) (h t refl)
-tick-writable (refused n vs) h = tt
-tick-writable (fault n vs) h = tt
+tick-writable (refused n vs) h = refl
+tick-writable (fault n vs) h = refl
 
 restart-writable : (a : Answer (Unit {0})) → Writable (heardRestart a)
+unfolding heardRestart fitsLine
+restart-writable (done x) = refl
+restart-writable (refused n vs) = refl
+restart-writable (fault n vs) = refl
+
+-- and a restart's answer is no counted tick
+pub restart-uncounted : (a : Answer (Unit {0})) → Uncounted (heardRestart a)
 unfolding heardRestart
-restart-writable (done x) = tt
-restart-writable (refused n vs) = tt
-restart-writable (fault n vs) = tt
+restart-uncounted (done x) = restarted
+restart-uncounted (refused n vs) = other
+restart-uncounted (fault n vs) = other
 
 event-writable : (c : Controller) (e : Event) → Sound c → Writable (heardSaid (saidAt c e))
-unfolding heardSaid saidAt
+unfolding heardSaid saidAt fitsLine
 event-writable c (tick x i) s = tick-writable (tickOf c x i .answer) (λ t e. tick-recordable c x i t s e)
-event-writable c (link on) s = tt
-event-writable c (request b reply) s = tt
-event-writable c (modbus b reply) s = tt
-event-writable c (settings set) s = tt
-event-writable c reset s = tt
+event-writable c (link on) s = refl
+event-writable c (request b reply) s = refl
+event-writable c (modbus b reply) s = refl
+event-writable c (settings set) s = refl
+event-writable c reset s = refl
 event-writable c (restart set count total) s = restart-writable _
 
 ask-writable : (c : Controller) (a : Ask) → Sound c → Writable (heardSaid (saidTo c a))
-unfolding heardSaid saidTo
+unfolding heardSaid saidTo fitsLine
 ask-writable c (event e) s = event-writable c e s
-ask-writable c counters s = tt
-ask-writable c (why k) s = tt
-ask-writable c nothing s = tt
-ask-writable c unknown s = tt
+ask-writable c counters s = refl
+ask-writable c (why k) s = refl
+ask-writable c nothing s = refl
+ask-writable c unknown s = refl
 
 -- the D line of a dose that is heard is never refused
 pub heard-writable : (c : Controller) (p : Parsed Call) → Sound c → Writable (heardOf c p)

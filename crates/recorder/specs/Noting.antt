@@ -2,18 +2,18 @@
 use mathlib.Core.Path.{_≡_}
 use mathlib.Core.List.{List}
 use Prim.Native.Nat.{ℕ}
-use lib.ListN.{length}
-use Rattle.laws.specs.Over.{over}
 use Rattle.paper.specs.Answer.{same}
-use Rattle.laws.specs.Decimal.{Parsed}
 use Rattle.controller.specs.declared.Controller.{Controller}
-use Rattle.calls.specs.Call.{Call, callOf}
-use Rattle.acts.specs.Acts.{madeBy}
-use Rattle.clock.specs.Clock.{heardBy}
+use Rattle.acts.specs.declared.Answer.{Answer}
+use Rattle.acts.specs.Makes.{saysAct}
+use Rattle.clock.specs.declared.Clock.{Clock}
+use Rattle.clock.specs.declared.Heard.{Heard}
+use Rattle.clock.specs.declared.Marked.{Marked}
+use Rattle.clock.specs.declared.Stage.{Stage}
+use Rattle.clock.specs.declared.Stage.the-variants.{First, Over}
 use Rattle.clock.specs.Marking.{Writes}
-use Rattle.recorder.specs.Recording.{heardOf, noteOf, nextOf, startOf, Carries}
-use Rattle.recorder.specs.declared.Hearing.{Hearing}
-use Rattle.recorder.specs.declared.Noted.{Noted}
+use Rattle.clock.specs.Keeps.{Uncounted}
+use Rattle.recorder.specs.Recording.{heardSaid, with, noteOf, startOf, Carries}
 use Rattle.recorder.specs.declared.Recorder.{Recorder}
 
 -- ---- before the first line
@@ -28,17 +28,16 @@ start-determined p q = same (p .is) (q .is)
 
 -- ---- a line
 
--- the call of a line is made and heard
-pub record Hears (c : Controller) (p : Parsed Call) (r : Hearing) : Type 0 where
-  pub next : r .next ≡ madeBy c p
-  pub heard : r .heard ≡ heardOf c p
+-- what a call other than a tick was: no counted tick
+pub record Hears (a : Answer) (h : Heard) : Type 0 where
+  pub is : h ≡ heardSaid (saysAct a)
+  pub uncounted : Uncounted h
 
--- the next recorder is the line's; what it adds stands at the buffer's start, the rest of which is as it was
-pub record Records (r : Recorder) (l old new : List ℕ) (n : Noted) : Type 0 where
-  pub box : n .next .controller ≡ madeBy (r .controller) (callOf l)
-  pub writes : Writes (heardBy (r .clock) (heardOf (r .controller) (callOf l))) old new (record { next = n .next .clock; len = n .len })
+-- no line is heard before and after recording
+pub data Unheard : Stage → Type 0 where
+  before : Unheard First
+  after : Unheard Over
 
-pub record Notes (r : Recorder) (l old new : List ℕ) (n : Noted) : Type 0 where
-  pub next : n .next ≡ nextOf r l
-  pub left : new ≡ over (noteOf r l .text) old
-  pub len : n .len ≡ length (noteOf r l .text)
+-- what it adds is the same whatever the box, and stands at the buffer's start
+abbrev pub Skips : Clock → List ℕ → List ℕ → List ℕ → Marked → Type 0
+Skips k l old new m = (c : Controller) → Writes (noteOf (with c k) l) old new m

@@ -20,7 +20,7 @@ use Rattle.journal.specs.declared.Past.{Past}
 use Rattle.journal.specs.Line.{versionText, versioned, textOf, inRange, lineOf}
 use Rattle.journal.specs.LineLaws.{read-text, text-only}
 use Rattle.journal.specs.Journal.{hourIn, closes, noPast, ordered, onLine, readFrom, formOf, bodyOf, journalOf, firstHour, linesText, headText, journalText}
-use Rattle.journal.specs.JournalLaws.{Reads, none, more, Each, each-map, linesFrom, lines-bad, lines-good, headLines, headBytes, journal-lines, journal-reads}
+use Rattle.journal.specs.JournalLaws.{ReadsLines, none, more, Each, each-map, linesFrom, lines-bad, lines-good, headLines, headBytes, journal-lines, journal-reads}
 use Rattle.journal.specs.Order.{Steps, ordered-journal}
 use Rattle.controller.specs.declared.Controller.{Controller}
 use Rattle.counters.specs.declared.Record.{Record}
@@ -28,11 +28,11 @@ use Rattle.controller.specs.Sound.{Sound}
 use Rattle.lines.specs.Lines.{linesOf}
 use Rattle.calls.specs.Call.{callOf}
 use Rattle.acts.specs.Acts.{madeBy}
-use Rattle.clock.specs.Clock.{ticksAnHour, greatestHour, Note, note, withStage, withHour, withTicks, withWhole, withKnown, refusalText, refuse, firstOf, doseIn, closing, nextHour, oneMore, counts, restartedBy, lostBy, heardBy, Runs}
-use Rattle.recorder.specs.Recording.{heardOf, noteBy, noteOf, boxBy, nextOf, startOf, notesOf, recordOf, Carries}
+use Rattle.clock.specs.Clock.{ticksAnHour, greatestHour, Note, note, withStage, withHour, withTicks, withWhole, withKnown, refusalText, refuse, firstOf, doseIn, closing, nextHour, oneMore, counts, restartedBy, lostBy, heardBy, passedBy, Runs}
+use Rattle.recorder.specs.Recording.{heardOf, with, noteBy, noteOf, boxBy, nextOf, startOf, notesOf, recordOf, Carries}
 use Rattle.clock.specs.Clock as clock
 use Rattle.clock.specs.Marking.{Writable}
-use Rattle.clock.specs.Keeps.{on-in-range, dose-in-range, ticks-runs, next-runs, restarted-runs, lost-runs}
+use Rattle.clock.specs.Keeps.{on-in-range, dose-in-range, ticks-runs, next-runs, passed-runs}
 use Rattle.recorder.specs.Keeps.{made-sound, heard-writable, start-carries, note-carries}
 use Rattle.clock.specs.declared.Heard.{Heard}
 use Rattle.clock.specs.declared.Heard.the-variants.{Ticked, Dosed, Restarted, Lost, Other}
@@ -111,10 +111,6 @@ before {k} l r e f w = record {
 
 -- ---- what a line adds
 
--- a recorder with this box
-abbrev with : Controller → Clock → Recorder
-with c k = record { controller = c; clock = k }
-
 over-nothing : (r : Recorder) (ls : List (List ℕ)) → r .clock .stage ≡ Over → notesOf r ls ≡ []
 unfolding notesOf nextOf noteOf noteBy boxBy
 over-nothing r [] e = refl
@@ -188,11 +184,11 @@ dose-of h d m k = (record { range = dose-in-range h d m k; hour = refl; unclosed
 
 heard-written : (c : Controller) (k : Clock) (h : Heard) (ls : List (List ℕ)) → k .stage ≡ Recording → Sound c → Runs k → Writable h → Following ls
     → Written (k .hour) (heardBy k h .text ++ notesOf (with c (heardBy k h .next)) ls)
-unfolding heardBy restartedBy lostBy withKnown withWhole
+unfolding heardBy passedBy restartedBy lostBy withKnown withWhole
 heard-written c k Ticked ls s a m w rest = counts-written c k [] ls s a m (λ h. tt) rest
 heard-written c k (Dosed d) ls s a m w rest = counts-written c k (doseIn (k .hour) d ∷ []) ls s a m (λ h. dose-of (k .hour) d h w) rest
-heard-written c k Restarted ls s a m w rest = rest _ s (record { sound = a; runs = restarted-runs k m })
-heard-written c k Lost ls s a m w rest = rest _ s (record { sound = a; runs = lost-runs k m })
+heard-written c k Restarted ls s a m w rest = rest _ s (record { sound = a; runs = passed-runs k Restarted m })
+heard-written c k Lost ls s a m w rest = rest _ s (record { sound = a; runs = passed-runs k Lost m })
 heard-written c k Other ls s a m w rest = rest _ s (record { sound = a; runs = m })
 
 recording-written : (ls : List (List ℕ)) → Following ls
@@ -248,7 +244,7 @@ readable-read {text} r e n h =
     ap journalOf is ∙ ordered-journal New (r .lines) (record { steps = r .steps; near = n }) (r .range) (omega (arith, ap length is))
 
 -- something that is no line of a journal after some that are
-after-lines : {p : Past} {s : List ℕ} {ls : List Line} (n : ℕ) (tail : List ℕ) → 0 < length tail → lineOf New tail ≡ bad → Reads New p s ls → linesFrom New p n (s ++ tail) ≡ refused R10 ((n + length ls) ∷ [])
+after-lines : {p : Past} {s : List ℕ} {ls : List Line} (n : ℕ) (tail : List ℕ) → 0 < length tail → lineOf New tail ≡ bad → ReadsLines New p s ls → linesFrom New p n (s ++ tail) ≡ refused R10 ((n + length ls) ∷ [])
 unfolding ordered told
 after-lines {p} n tail h e none = lines-bad New p n tail h e ∙ ap (λ (k : ℕ). refused R10 (k ∷ [])) (sym (add-zero n))
 after-lines {p} {s} n tail h e (more {rest = rest} {l = l} {ls = ls} q k r) =
@@ -270,7 +266,7 @@ behind-version : (s : List ℕ) → length (versionText ++ s) ≤ 65536 → jour
 unfolding versionText formOf versioned headLines headBytes pick
 behind-version s h = journal-lines (86 ∷ 9 ∷ 50 ∷ 10 ∷ s) h
 
-version-reads : (ls : List Line) → journalOf (journalText New ls) ≡ done ls → Reads New noPast (linesText New ls) ls
+version-reads : (ls : List Line) → journalOf (journalText New ls) ≡ done ls → ReadsLines New noPast (linesText New ls) ls
 unfolding journalText headText versionText formOf versioned headBytes pick
 version-reads ls e = journal-reads (86 ∷ 9 ∷ 50 ∷ 10 ∷ linesText New ls) ls e
 

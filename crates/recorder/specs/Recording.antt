@@ -16,6 +16,7 @@ use Rattle.clock.specs.Clock as clock
 use Rattle.clock.specs.declared.Heard.{Heard}
 use Rattle.clock.specs.declared.Heard.the-variants.{Ticked, Dosed, Restarted, Lost, Other}
 use Rattle.clock.specs.declared.Stage.{Stage}
+use Rattle.clock.specs.declared.Clock.{Clock}
 use Rattle.clock.specs.declared.Stage.the-variants.{First, Recording, Over}
 use Rattle.recorder.specs.declared.Recorder.{Recorder}
 
@@ -55,6 +56,10 @@ unfoldable pub heardOf : Controller → Parsed Call → Heard
 heardOf c p = heardSaid (saidTo c (askBy p))
 
 -- ---- a line of the script, its LF left out
+
+-- a box beside a clock
+abbrev pub with : Controller → Clock → Recorder
+with c k = record { controller = c; clock = k }
 
 -- what it adds
 unfoldable pub noteBy : Stage → Recorder → List ℕ → Note

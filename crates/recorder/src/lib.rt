@@ -1,7 +1,9 @@
 // From samples to a journal: what each line of a script adds to it.
 use acts::Answer;
+use calls::Call;
 use clock::Clock;
 use clock::Heard;
+use clock::Marked;
 use clock::Stage;
 use controller::Controller;
 use controller::RestartAnswer;
@@ -11,12 +13,10 @@ use lines::Next;
 ghost use mathlib.Core.Path.{_≡_};
 ghost use Prim.Native.Nat.{_-_, _≤_};
 ghost use lib.ListN.{length, replicate};
-ghost use Rattle.controller.specs.Sound.{Sound};
 ghost use Rattle.controller.specs.Says.{saysTick, saysRestart};
-ghost use Rattle.calls.specs.Call.{callOf};
-ghost use Rattle.acts.specs.Makes.{saysAct};
-ghost use Rattle.recorder.specs.Recording.{heardTick, heardRestart, heardSaid, Carries};
-ghost use Rattle.recorder.specs.Noting.{Starts, Hears, Records, Notes};
+ghost use Rattle.clock.specs.Clock.{Runs};
+ghost use Rattle.recorder.specs.Recording.{heardTick, heardRestart, Carries};
+ghost use Rattle.recorder.specs.Noting.{Starts, Hears, Unheard, Skips};
 ghost use Rattle.recorder.specs.Feed.{Feeds};
 
 // What is carried from line to line.
@@ -30,18 +30,6 @@ pub struct Fed {
     pub next: Recorder,
     pub intake: Intake,
     pub len: usize,
-}
-
-// The next controller, and what the line was.
-struct Hearing {
-    next: Controller,
-    heard: Heard,
-}
-
-// What is carried on, and how many bytes a line added to the journal.
-struct Noted {
-    next: Recorder,
-    len: usize,
 }
 
 // So many bytes hold all that a line adds.
@@ -70,71 +58,28 @@ fn heard_restart(answer: RestartAnswer) -> Heard
     }
 }
 
-// What a call was, by its answer.
+// What a call other than a tick was, by its answer.
 fn by_answer(answer: Answer) -> Heard
-    ensures { λ r. ⌜ r ≡ heardSaid (saysAct answer) ⌝ }
+    ensures { λ r. ⌜ Hears answer r ⌝ }
 {
     match answer {
-        Answer::Tick(tick) => heard_tick(tick),
         Answer::Restart(restart) => heard_restart(restart),
         Answer::Unknown => Heard::Lost,
         _ => Heard::Other,
     }
 }
 
-// The call of a line is made.
-fn hear(c: Controller, line: &[u8], bytes: &mut [u8], reply: &mut [u8]) -> Hearing
-    requires sound { ⌜ Sound c ⌝ }
-    requires line { ⌜ length (now line) ≤ 4095 ⌝ }
-    requires room { ⌜ (2048 ≤ length (now bytes)) × (64 ≤ length (now reply)) ⌝ }
-    ensures { λ r. ⌜ Hears c (callOf (now (line .entry))) r ⌝ }
+// A line before or after recording.
+fn unheard(k: Clock, line: &[u8], out: &mut [u8]) -> Marked
+    requires runs { ⌜ Runs k ⌝ }
+    requires unheard { ⌜ Unheard (k .stage) ⌝ }
+    requires room { ⌜ 64 ≤ length (now out) ⌝ }
+    ensures { λ m. ⌜ Skips k (now (line .entry)) (now (out .entry)) (now (out .exit)) m ⌝ }
 {
-    let call = calls::read(line, bytes);
-    let acted = acts::act(c, call, bytes, reply);
-    let next = acted.next;
-    let answer = acted.answer;
-    let heard = by_answer(answer);
-    Hearing { next, heard }
-}
-
-// A line of the script: its call is made, and what it was is noted.
-fn recorded(r: Recorder, line: &[u8], bytes: &mut [u8], reply: &mut [u8], out: &mut [u8]) -> Noted
-    requires carries { ⌜ Carries r ⌝ }
-    requires line { ⌜ length (now line) ≤ 4095 ⌝ }
-    requires room { ⌜ (2048 ≤ length (now bytes)) × (64 ≤ length (now reply)) × (64 ≤ length (now out)) ⌝ }
-    ensures { λ n. ⌜ Records r (now (line .entry)) (now (out .entry)) (now (out .exit)) n ⌝ }
-{
-    let hearing = hear(r.controller, line, bytes, reply);
-    let controller = hearing.next;
-    let heard = hearing.heard;
-    let marked = r.clock.heard(heard, out);
-    let clock = marked.next;
-    Noted {
-        next: Recorder { controller, clock },
-        len: marked.len,
-    }
-}
-
-// What a line adds, its LF left out.
-fn note(r: Recorder, line: &[u8], bytes: &mut [u8], reply: &mut [u8], out: &mut [u8]) -> Noted
-    requires carries { ⌜ Carries r ⌝ }
-    requires line { ⌜ length (now line) ≤ 4095 ⌝ }
-    requires room { ⌜ (2048 ≤ length (now bytes)) × (64 ≤ length (now reply)) × (64 ≤ length (now out)) ⌝ }
-    ensures { λ n. ⌜ Notes r (now (line .entry)) (now (out .entry)) (now (out .exit)) n ⌝ }
-{
-    let clock = r.clock;
-    let stage = clock.stage;
+    let stage = k.stage;
     match stage {
-        Stage::First => {
-            let marked = clock.first(line, out);
-            let next = marked.next;
-            Noted {
-                next: Recorder { clock: next, ..r },
-                len: marked.len,
-            }
-        }
-        Stage::Recording => recorded(r, line, bytes, reply, out),
-        Stage::Over => Noted { next: r, len: 0 },
+        Stage::First => k.first(line, out),
+        _ => Marked { next: k, len: 0 },
     }
 }
 
@@ -151,7 +96,8 @@ fn feed_with(
     requires room { ⌜ (2048 ≤ length (now bytes)) × (64 ≤ length (now reply)) ⌝ }
     ensures { λ f. ⌜ Feeds r intake (now (input .entry)) (now (out .entry)) (now (out .exit)) f ⌝ }
 {
-    let mut state = r;
+    let mut c = r.controller;
+    let mut k = r.clock;
     let mut at = intake;
     let mut len: usize = 0;
     while ENOUGH <= out.len() - len {
@@ -160,17 +106,41 @@ fn feed_with(
         let next = taken.next;
         let Next::Line { from, to } = next else {
             return Fed {
-                next: state,
+                next: Recorder {
+                    controller: c,
+                    clock: k,
+                },
                 intake: at,
                 len,
             };
         };
-        let noted = note(state, &input[from..to], bytes, reply, &mut out[len..]);
-        state = noted.next;
-        len += noted.len;
+        let stage = k.stage;
+        let Stage::Recording = stage else {
+            let marked = unheard(k, &input[from..to], &mut out[len..]);
+            k = marked.next;
+            len += marked.len;
+            continue;
+        };
+        let call = calls::read(&input[from..to], bytes);
+        if let Call::Tick(sample, inputs) = call {
+            let ticked = c.tick(sample, inputs);
+            c = ticked.next;
+            let answer = ticked.answer;
+            let marked = k.heard(heard_tick(answer), &mut out[len..]);
+            k = marked.next;
+            len += marked.len;
+            continue;
+        }
+        let acted = acts::other(c, call, bytes, reply);
+        c = acted.next;
+        let answer = acted.answer;
+        k = k.passed(by_answer(answer));
     }
     Fed {
-        next: state,
+        next: Recorder {
+            controller: c,
+            clock: k,
+        },
         intake: at,
         len,
     }

@@ -1,52 +1,16 @@
 // Every call of the box from standard input, one answer to a line.
-use acts::Acted;
-use calls::Call;
 use controller::Controller;
-use libc::STDOUT_FILENO;
 use lines::Intake;
-use lines::Next;
+use runs::Stop;
 ghost use Prim.Native.Nat.{_≤_};
 ghost use lib.ListN.{length};
 ghost use Rattle.controller.specs.Sound.{Sound};
-ghost use Rattle.calls.specs.Reads.{asCall, Within};
-ghost use Rattle.acts.specs.Script.{Made};
 ghost use Rattle.replay.specs.Answers.{Carries};
 
 // What is carried on behind the whole lines of a buffer.
 struct Carried {
     controller: Controller,
     intake: Intake,
-}
-
-// So many bytes hold every answer.
-const ENOUGH: usize = 4096;
-
-// What a call makes of the controller, and the box's answer.
-fn made(c: Controller, call: Call, bytes: &[u8], spare: &mut [u8]) -> Acted
-    requires sound { ⌜ Sound c ⌝ }
-    requires room { ⌜ Within call × (64 ≤ length (now spare)) ⌝ }
-    ensures { λ r. ⌜ Made c (asCall (now (bytes .entry)) call) (r .next) ⌝ }
-{
-    answers::lend(call, spare);
-    acts::act(c, call, bytes, spare)
-}
-
-// Writes the answers out.
-fn write_out(out: &[u8], len: usize) {
-    let n = pieces::within(len, out);
-    io::write_all(STDOUT_FILENO, &out[..n]);
-}
-
-// Writes the answers out where there is no room for one more, and answers how many bytes still stand there.
-fn with_room(out: &[u8], len: usize) -> usize
-    requires { ⌜ len ≤ length (now out) ⌝ }
-    ensures { λ r. ⌜ r ≤ length (now (out .entry)) ⌝ }
-{
-    if out.len() - len < ENOUGH {
-        write_out(out, len);
-        return 0;
-    }
-    len
 }
 
 // Answers the whole lines of what is held.
@@ -66,22 +30,22 @@ fn answer_lines(
     let mut held = intake;
     let mut len: usize = 0;
     loop {
-        let taken = held.next_line(input);
-        let next = taken.next;
-        held = taken.intake;
-        let Next::Line { from, to } = next else {
-            write_out(out, len);
+        let run = runs::answer(c, held, input, bytes, spare, out, len);
+        c = run.controller;
+        held = run.intake;
+        let stop = run.stop;
+        let Stop::Call(call) = stop else {
+            runs::write_out(out, run.len);
             return Carried {
                 controller: c,
                 intake: held,
             };
         };
-        len = with_room(out, len);
-        let call = calls::read(&input[from..to], bytes);
-        let acted = made(c, call, bytes, spare);
+        answers::lend(call, spare);
+        let acted = acts::rest(c, call, bytes, spare);
         let said = acted.answer;
         c = acted.next;
-        len += answers::say(&mut out[len..], call, said, bytes, spare);
+        len = answers::say(out, run.len, call, said, bytes, spare);
     }
 }
 

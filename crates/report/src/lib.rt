@@ -61,22 +61,6 @@ fn shown_from(t: Tally) -> Shown
     }
 }
 
-// How many bytes a row has.
-fn row_len(hour: u64, row: Shown) -> usize
-    ensures { λ r. ⌜ r ≡ length (rowText hour (saysShown row)) ⌝ }
-{
-    let n = text::decimal_len(hour);
-    match row {
-        Shown::Measured {
-            doses,
-            sum,
-            bits: _,
-        } => n + 22 + text::decimal_len(doses as u64) + text::decimal_len(sum),
-        Shown::Idle => n + 3,
-        Shown::Missing => n + 3,
-    }
-}
-
 // M and the figures of a measured hour, behind the hour and its tab.
 fn put_measured(out: &mut [u8], at: usize, doses: u64, sum: u64, bits: u64) -> usize
     requires { ⌜ at + length (tailText (rowM doses sum bits)) ≤ length (now out) ⌝ }
@@ -123,6 +107,21 @@ fn put_row(out: &mut [u8], at: usize, hour: u64, row: Shown) -> usize
     put_tail(out, q, row)
 }
 
+// How many bytes an hour's row has: the mean takes 16, whatever it is, and is not divided for it.
+fn row_len(hour: u64, t: Tally) -> usize
+    requires { ⌜ Summed t ⌝ }
+    ensures { λ r. ⌜ r ≡ length (rowText hour (shownOf t)) ⌝ }
+{
+    let n = text::decimal_len(hour);
+    if t.holed {
+        return n + 3;
+    }
+    if !t.on | (t.doses == 0) {
+        return n + 3;
+    }
+    n + 22 + text::decimal_len(t.doses as u64) + text::decimal_len(t.sum as u64)
+}
+
 // How many bytes the rows of the first hours of a table have.
 fn text_len(table: [Tally; journal::SPAN], first: u32, hours: usize) -> usize
     requires { ⌜ Printable table first hours ⌝ }
@@ -132,7 +131,7 @@ fn text_len(table: [Tally; journal::SPAN], first: u32, hours: usize) -> usize
     let mut k: usize = 0;
     while k < hours {
         let tally = table[k];
-        n += row_len(first as u64 + k as u64, shown_from(tally));
+        n += row_len(first as u64 + k as u64, tally);
         k += 1;
     }
     n

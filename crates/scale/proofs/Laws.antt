@@ -1,31 +1,31 @@
 -- Laws that the proofs of the code cite: numbers in a machine's integers. Assumes nothing.
-use mathlib.Core.Path.{_≡_, refl, sym, _∙_}
+use mathlib.Core.Path.{_≡_, refl, sym}
 use mathlib.Core.Bool.{Bool, true, false, not, cond, _&&_, _||_, and-false}
 use mathlib.Core.List.{[]}
 use Prim.Native.Nat.{ℕ, suc, _+_, _-_, _^_, _≤_, _<_}
 use native.Mathlib.Omega.{arith}
 use lib.Dec.{leb, ltb}
 use lib.IntN.{ℤ, pos, negsuc, natAbs, _+ℤ_, _-ℤ_}
-use lib.ListN.{length}
 use lib.Signed.{mag, ltZ, leZ}
 use mir.Syntax.{w32, w64}
 use mir.Val.{toZ, ofZ, SFits}
 use mir.Facts.{toZ-ofZ, toZ-pos}
-use borrow.Author.Tests.{ltb-true, ltb-false, lt-leb, le-leb, eq-eqb, ne-eqb}
+use borrow.Author.Tests.{ltb-true, ltb-false, lt-leb, le-leb}
 use Rattle.laws.specs.Pick.{pick, pick-t, pick-f}
 use Rattle.laws.specs.Bools.{or-left, or-right}
 use Rattle.laws.specs.Whole.{abs-sub, fits32, fits64, false-true}
 use Rattle.paper.specs.Answer.{done, refused}
 use Rattle.paper.specs.Numbers.{R16}
 use Rattle.settings.specs.declared.Settings.{Settings}
+use Rattle.window.specs.Window.{samplesOf}
 use Rattle.window.specs.declared.Window.{Window}
 use Rattle.field.specs.Field.{writable}
 use Rattle.field.specs.RoundTrip.{small-writable}
 use Rattle.field.specs.declared.Weight.{Weight}
 use Rattle.dosing.specs.Rules.{units}
 use Rattle.dosing.specs.declared.Units.{Units}
-use Rattle.scale.specs.Scale.{overCapacity, equalZ, outside, filtered, stableOf, netOf, weightFrom, weightBy, showable}
-use Rattle.scale.specs.Laws.{none-held, written-shows}
+use Rattle.scale.specs.Scale.{overCapacity, equalZ, outside, filtered, none, stableOf, netOf, weightFrom, weightBy, showable}
+use Rattle.scale.specs.Laws.{written-shows}
 
 -- S begins again at the first sample and where F is another
 pub calm-again : (first same : Bool) (n : ℕ) → pick first 0 (pick same n 0) ≡ pick (first || not same) 0 n
@@ -145,13 +145,13 @@ module _ (v : Weight) where
 
 -- ---- a weighing
 
-module _ (set : Settings) (window : Window) (z : Units) (s n : ℕ) (l : length (window .samples) ≡ 128) where
-  pub unweighed : window .held ≡ 0 → _≡_ {A = Weight} (record { value = pos 0; stable = false; over = false; point = set .point }) (weightBy set window z s n)
+module _ (set : Settings) (window : Window) (z : Units) (s n : ℕ) where
+  pub unweighed : none (samplesOf window) ≡ true → _≡_ {A = Weight} (record { value = pos 0; stable = false; over = false; point = set .point }) (weightBy set window z s n)
   unfolding weightBy weightFrom
-  unweighed h = rw (none-held window l, eq-eqb (window .held) 0 h)
+  unweighed h = rw h
 
-  pub weighed : {f : Units} {w : ℤ} {stable over : Bool} → (window .held ≡ 0 → ⊥)
+  pub weighed : {f : Units} {w : ℤ} {stable over : Bool} → none (samplesOf window) ≡ false
       → f ≡ units (filtered window n) → w ≡ f .v -ℤ z .v → stable ≡ stableOf set s → over ≡ overCapacity set (f .v -ℤ z .v)
       → _≡_ {A = Weight} (record { value = w; stable = stable; over = over; point = set .point }) (weightBy set window z s n)
   unfolding weightBy weightFrom
-  weighed h m e a b = rw (a, b, e, m, none-held window l, ne-eqb (window .held) 0 h)
+  weighed h m e a b = rw (a, b, e, m, h)

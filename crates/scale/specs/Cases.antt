@@ -4,7 +4,7 @@ use mathlib.Core.Bool.{true, false, xor}
 use mathlib.Core.List.{[], _∷_, _++_}
 use Prim.Native.Nat.{ℕ}
 use lib.IntN.{pos, negsuc}
-use lib.ListN.{replicate}
+use lib.ListN.{length, replicate}
 use Rattle.laws.specs.Pick.{pick}
 use Rattle.paper.specs.Answer.{done, refused}
 use Rattle.paper.specs.Numbers.{R16}
@@ -15,7 +15,7 @@ use Rattle.window.specs.Mean.{meanOf, averagedOf, leftOf, without, alike, large
 use Rattle.window.specs.Window.{samplesOf}
 use Rattle.field.specs.Field.{weight, writable}
 use Rattle.dosing.specs.Rules.{units, gates, shut}
-use Rattle.scale.specs.Scale.{outside, filtered, filterOf, equalZ, none, calmRun, stableOf, changed, calmAfter, overCapacity, netOf, seenBy, weightFrom, weightBy, showable}
+use Rattle.scale.specs.Scale.{outside, asWindow, filtered, filterOf, equalZ, none, calmRun, stableOf, changed, calmAfter, overCapacity, netOf, seenBy, weightFrom, weightBy, showable}
 
 -- C 10,000, p7 4, p8 8, and a settle time p9 and a decimal point
 abbrev set : ℕ → ℕ → Settings
@@ -37,6 +37,15 @@ pub limits :
     (outside (pos 900000) ≡ false) × (outside (pos 900001) ≡ true) × (outside (negsuc 899999) ≡ false) × (outside (negsuc 900000) ≡ true)
 unfolding outside
 limits = (refl, refl, refl, refl)
+
+-- samples that are lent: none of no places, so many as are held, and 128 at most
+pub lends :
+    (none (samplesOf (asWindow [] 5)) ≡ true)
+    × (none (samplesOf (asWindow (pos 5 ∷ []) 0)) ≡ true)
+    × (none (samplesOf (asWindow (pos 5 ∷ []) 1)) ≡ false)
+    × (length (samplesOf (asWindow (replicate 130 (pos 5)) 130)) ≡ 128)
+unfolding none samplesOf
+lends = (refl, refl, refl, refl)
 
 -- p7 while output 1 is open, else p8; the mean of so many, or of those held, one 100 and one 0 left out
 pub filters :

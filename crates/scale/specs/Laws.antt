@@ -1,12 +1,13 @@
 -- Sizes: samples and F within 900,000, Z within 24,998, weights within 924,998, S within 4,032; and such a weight can always be shown. Assumes nothing.
-use mathlib.Core.Path.{_≡_, refl, sym, ap}
-use mathlib.Core.Bool.{Bool, true, false}
+use mathlib.Core.Path.{_≡_, refl, sym, ap, _∙_}
+use mathlib.Core.Bool.{Bool, true, false, _||_, or-true}
 use mathlib.Core.List.{List, [], _∷_}
-use Prim.Native.Nat.{ℕ, zero, suc, _+_, _≤_, _<_}
+use Prim.Native.Nat.{ℕ, zero, suc, _≤_, _<_}
 use native.Mathlib.Omega.{arith}
 use lib.Dec.{leb, ltb, eqb}
 use lib.IntN.{ℤ, pos, negsuc, natAbs, _-ℤ_}
 use lib.ListN.{length, getD, take}
+use lib.Seq.{take-all}
 use lib.Signed.{ltZ}
 use borrow.Author.Tests.{ltb-true, ltb-false, le-leb, ne-eqb}
 use Rattle.laws.specs.Pick.{pick-t, pick-all, pick-if}
@@ -15,10 +16,9 @@ use Rattle.laws.specs.Bools.{or-left, or-right}
 use Rattle.paper.specs.Answer.{done}
 use Rattle.settings.specs.declared.Settings.{Settings}
 use Rattle.window.specs.declared.Window.{Window}
-use Rattle.window.specs.Mean.{meanOf}
-use Rattle.window.specs.Window.{samplesOf, emptyWindow, pushOf}
+use Rattle.window.specs.Window.{places, samplesOf, heldOf, emptyWindow, pushOf}
 use Rattle.window.specs.Range.{Within}
-use Rattle.window.specs.Laws.{held-of, samples-push, samples-empty, within-nil, within-cons, within-take}
+use Rattle.window.specs.Laws.{samples-push, samples-empty, within-nil, within-cons, within-take}
 use Rattle.window.specs.MeanLaws.{mean-within}
 use Rattle.field.specs.Field.{writable}
 use Rattle.field.specs.RoundTrip.{small-writable}
@@ -26,8 +26,7 @@ use Rattle.field.specs.declared.Weight.{Weight}
 use Rattle.dosing.specs.Rules.{units}
 use Rattle.dosing.specs.declared.Units.{Units}
 use Rattle.dosing.specs.declared.Gates.{Gates}
-use Rattle.dosing.specs.declared.Seen.{Seen}
-use Rattle.scale.specs.Scale.{outside, filtered, none, calmRun, stableOf, calmAfter, netOf, seenBy, weightFrom, weightBy, showable, filteredLent}
+use Rattle.scale.specs.Scale.{outside, asWindow, filtered, filteredLent, none, calmRun, stableOf, calmAfter, netOf, seenBy, weightFrom, weightBy, showable}
 
 -- ---- samples
 
@@ -63,10 +62,18 @@ pub push-held : (w : Window) (x : ℤ) → pushOf w x .held ≤ 128
 unfolding pushOf
 push-held w x = pick-if (λ (n : ℕ). n ≤ 128) (ltb (w .held) 128) (λ a. omega (arith, ltb-true (w .held) 128 a)) (λ a. omega arith)
 
+-- samples that are lent are filtered as the window that they stand for
+pub as-filtered : (samples : List ℤ) (held n : ℕ) → filteredLent samples held n ≡ filtered (asWindow samples held) n
+unfolding filteredLent filtered heldOf samplesOf
+as-filtered samples held n = refl
+
+-- a window's samples stand for that window
+pub lent-window : (w : Window) → length (w .samples) ≡ 128 → asWindow (w .samples) (w .held) ≡ w
+lent-window w e = ap (λ (l : List ℤ). record { samples = l; held = w .held }) (take-all places (w .samples) (omega arith))
+
 -- a window that lends its samples is filtered as it stands
 pub lent-filtered : (w : Window) (n : ℕ) → length (w .samples) ≡ 128 → filteredLent (w .samples) (w .held) n ≡ filtered w n
-unfolding filteredLent filtered
-lent-filtered w n e = ap (λ (l : List ℤ). meanOf (take n l)) (held-of w e)
+lent-filtered w n e = as-filtered (w .samples) (w .held) n ∙ ap (λ (v : Window). filtered v n) (lent-window w e)
 
 -- no sample is held
 none-taken : (n : ℕ) (xs : List ℤ) → 0 < length xs → none (take n xs) ≡ eqb n 0
@@ -78,6 +85,13 @@ none-taken (suc n) [] h = absurd (omega arith)
 pub none-held : (w : Window) → length (w .samples) ≡ 128 → none (samplesOf w) ≡ eqb (w .held) 0
 unfolding samplesOf
 none-held w e = none-taken (w .held) (w .samples) (omega arith)
+
+-- none is held of those lent
+pub none-lent : (samples : List ℤ) (held : ℕ) → none (samplesOf (asWindow samples held)) ≡ (eqb held 0 || eqb (length samples) 0)
+unfolding none samplesOf
+none-lent samples zero = refl
+none-lent [] (suc n) = sym (or-true (eqb (suc n) 0))
+none-lent (x ∷ xs) (suc n) = rw (ne-eqb (suc n) 0 (λ e. omega arith), ne-eqb (length (x ∷ xs)) 0 (λ e. omega arith))
 
 -- ---- F, S and weights
 

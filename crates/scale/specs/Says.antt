@@ -7,13 +7,14 @@ use lib.IntN.{ℤ, _-ℤ_}
 use Rattle.paper.specs.Answer.{Answer, done, refused, same}
 use Rattle.paper.specs.Numbers.{R16}
 use Rattle.settings.specs.declared.Settings.{Settings}
+use Rattle.window.specs.Window.{samplesOf}
 use Rattle.window.specs.declared.Window.{Window}
 use Rattle.field.specs.declared.Weight.{Weight}
 use Rattle.dosing.specs.Rules.{units}
 use Rattle.dosing.specs.declared.Units.{Units}
 use Rattle.dosing.specs.declared.Gates.{Gates}
 use Rattle.dosing.specs.declared.Seen.{Seen}
-use Rattle.scale.specs.Scale.{outside, filtered, filterOf, calmRun, calmAfter, stableOf, overCapacity, seenBy, weightBy, showable, filteredLent}
+use Rattle.scale.specs.Scale.{outside, none, asWindow, filteredLent, filterOf, calmRun, calmAfter, stableOf, overCapacity, seenBy, weightBy, showable}
 use Rattle.scale.specs.declared.Weighed.{Weighed}
 use Rattle.scale.specs.declared.Weighed.the-variants as W
 
@@ -26,11 +27,11 @@ saysWeighed W.R16 = refused R16 []
 abbrev pub Excludes : Units → Bool → Type 0
 Excludes x r = r ≡ outside (x .v)
 
+abbrev pub Lacks : List ℤ → ℕ → Bool → Type 0
+Lacks samples held r = r ≡ none (samplesOf (asWindow samples held))
+
 abbrev pub MeansLent : List ℤ → ℕ → ℕ → Units → Type 0
 MeansLent samples held n r = r ≡ units (filteredLent samples held n)
-
-abbrev pub Means : Window → ℕ → Units → Type 0
-Means window n r = r ≡ units (filtered window n)
 
 abbrev pub Filters : Settings → Gates → ℕ → Type 0
 Filters set g r = r ≡ filterOf set g
@@ -65,11 +66,11 @@ weighed-one W.R16 W.R16 e = refl
 pub outside-determined : (x : Units) (a b : Bool) → Excludes x a → Excludes x b → a ≡ b
 outside-determined x a b p q = same p q
 
+pub none-determined : (samples : List ℤ) (held : ℕ) (a b : Bool) → Lacks samples held a → Lacks samples held b → a ≡ b
+none-determined samples held a b p q = same p q
+
 pub lent-determined : (samples : List ℤ) (held n : ℕ) (a b : Units) → MeansLent samples held n a → MeansLent samples held n b → a ≡ b
 lent-determined samples held n a b p q = same p q
-
-pub mean-determined : (window : Window) (n : ℕ) (a b : Units) → Means window n a → Means window n b → a ≡ b
-mean-determined window n a b p q = same p q
 
 pub filter-determined : (set : Settings) (g : Gates) (a b : ℕ) → Filters set g a → Filters set g b → a ≡ b
 filter-determined set g a b p q = same p q

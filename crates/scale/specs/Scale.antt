@@ -11,7 +11,7 @@ use Rattle.paper.specs.Answer.{Answer, done, refused}
 use Rattle.paper.specs.Numbers.{R16}
 use Rattle.settings.specs.declared.Settings.{Settings}
 use Rattle.window.specs.Mean.{meanOf}
-use Rattle.window.specs.Window.{samplesOf, heldOf}
+use Rattle.window.specs.Window.{places, samplesOf, heldOf}
 use Rattle.window.specs.declared.Window.{Window}
 use Rattle.field.specs.Field.{writable}
 use Rattle.field.specs.declared.Weight.{Weight}
@@ -25,6 +25,10 @@ use Rattle.dosing.specs.declared.Seen.{Seen}
 -- Sample outside -900,000..900,000
 unfoldable pub outside : ℤ → Bool
 outside x = ltZ x (negsuc 899999) || ltZ (pos 900000) x
+
+-- the window that samples which are lent stand for, so many of them held
+abbrev pub asWindow : List ℤ → ℕ → Window
+asWindow samples held = record { samples = take places samples; held = held }
 
 -- F by a filter: the mean of the last n samples (of those held, if fewer)
 unfoldable pub filtered : Window → ℕ → ℤ

@@ -4,13 +4,11 @@ use dosing::Seen;
 use dosing::Units;
 use field::Weight;
 use settings::Settings;
-use window::Window;
 ghost use mathlib.Core.Path.{_≡_};
-ghost use mathlib.Core.Bool.{Bool};
 ghost use lib.IntN.{_-ℤ_};
 ghost use Rattle.dosing.specs.Rules.{units};
-ghost use Rattle.scale.specs.Scale.{netOf, showable};
-ghost use Rattle.scale.specs.Says.{Excludes, Means, Filters, Calms, Calmer, Steadies, Overs, Sees, Weighs, saysWeighed, MeansLent};
+ghost use Rattle.scale.specs.Scale.{asWindow, netOf, showable};
+ghost use Rattle.scale.specs.Says.{Excludes, Lacks, MeansLent, Filters, Calms, Calmer, Steadies, Overs, Sees, Weighs, saysWeighed};
 
 // A weight that a reply can show, or R16 for one that is beyond six digits or has a point above 7.
 pub enum Weighed {
@@ -47,20 +45,19 @@ pub fn is_outside(x: Units) -> bool
     (v < 0 - SAMPLE_MOST) | (SAMPLE_MOST < v)
 }
 
+// No sample is held of those lent.
+pub fn holds_none(samples: &[i32], held: usize) -> bool
+    ensures { λ r. ⌜ Lacks (now (samples .entry)) held r ⌝ }
+{
+    (held == 0) | (samples.len() == 0)
+}
+
 // F of the samples lent, of which so many are held: the mean of the last n.
 pub fn mean_lent(samples: &[i32], held: usize, n: u32) -> Units
     ensures { λ r. ⌜ MeansLent (now (samples .entry)) held n r ⌝ }
 {
     let v = window::mean_of(samples, held, n as usize);
     Units { v }
-}
-
-// F: the mean of the last n samples.
-pub fn mean_of(window: Window, n: u32) -> Units
-    ensures { λ r. ⌜ Means window n r ⌝ }
-{
-    let held = window.held;
-    mean_lent(&window.samples, held, n)
 }
 
 // n: p7 if output 1 was open before the tick, else p8.
@@ -166,14 +163,14 @@ fn shown(w: Wide, stable: bool, over: bool, point: u32) -> Weighed
 }
 
 // The weight and its flags, filtered by n samples; with no sample held all but the decimal point is 0.
-pub fn weigh(set: Settings, window: Window, z: Units, s: u32, n: u32) -> Weighed
-    ensures { λ r. ⌜ Weighs set window z s n r ⌝ }
+pub fn weigh(set: Settings, samples: &[i32], held: usize, z: Units, s: u32, n: u32) -> Weighed
+    ensures { λ r. ⌜ Weighs set (asWindow (now (samples .entry)) held) z s n r ⌝ }
 {
     let point = set.point;
-    if window.held == 0 {
+    if holds_none(samples, held) {
         return shown(Wide { v: 0 }, false, false, point);
     }
-    let f = mean_of(window, n);
+    let f = mean_lent(samples, held, n);
     let w = net(f, z);
     let stable = stable_of(set, s);
     let over = over_capacity(set, f, z);

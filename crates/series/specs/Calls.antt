@@ -14,8 +14,8 @@ use Rattle.counters.specs.declared.Counters.{Counters}
 use Rattle.controller.specs.declared.Ticked.{Ticked}
 use Rattle.controller.specs.declared.Requested.{Requested}
 use Rattle.controller.specs.declared.Polled.{Polled}
-use Rattle.controller.specs.declared.SetTo.{SetTo}
-use Rattle.controller.specs.declared.ResetTo.{ResetTo}
+use Rattle.controller.specs.declared.Configured.{Configured}
+use Rattle.controller.specs.declared.Cleared.{Cleared}
 use Rattle.controller.specs.declared.Restarted.{Restarted}
 use Rattle.controller.specs.Calls.{restartOf, controllerIn, freshOf, linkOf, restartedFrom}
 use Rattle.controller.specs.Says.{saysRestart, Ticks, Sets, Resets, Restarts, Replies, Polls}
@@ -57,11 +57,11 @@ pub modbus-stays : (c : Controller) (s old : List ℕ) → (eventOf c (modbus s 
 unfolding eventOf
 modbus-stays c s old = ⊎-elim (λ e. inl e) (λ w. inr (w .on, w .sets)) (modbus-only c s (length old))
 
-pub settings-is : (c : Controller) (set : Settings) (r : SetTo) → Sets c set r → r .next ≡ eventOf c (settings set)
+pub settings-is : (c : Controller) (set : Settings) (r : Configured) → Sets c set r → r .next ≡ eventOf c (settings set)
 unfolding eventOf
 settings-is c set r h = h .next
 
-pub reset-is : (c : Controller) (r : ResetTo) → Resets c r → r .next ≡ eventOf c reset
+pub reset-is : (c : Controller) (r : Cleared) → Resets c r → r .next ≡ eventOf c reset
 unfolding eventOf
 reset-is c r h = h .next
 

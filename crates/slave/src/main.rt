@@ -1,4 +1,5 @@
 // One box on a MODBUS line: lines of a script bring it where it shall be, and after an empty line each read is a frame.
+use calls::Call;
 use controller::Controller;
 use controller::PollAnswer;
 use libc::STDIN_FILENO;
@@ -37,7 +38,11 @@ fn made(c: Controller, line: &[u8], bytes: &mut [u8], spare: &mut [u8]) -> Contr
     ensures { λ r. ⌜ Made c (callOf (now (line .entry))) r ⌝ }
 {
     let call = calls::read(line, bytes);
-    let acted = acts::act(c, call, bytes, spare);
+    if let Call::Tick(sample, inputs) = call {
+        let ticked = c.tick(sample, inputs);
+        return ticked.next;
+    }
+    let acted = acts::other(c, call, bytes, spare);
     acted.next
 }
 

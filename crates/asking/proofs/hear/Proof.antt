@@ -1,9 +1,8 @@
 -- A body that the reader found stands in its array and splits.
 use mathlib.Core.Path.{sym, ap, _∙_}
 use borrow.Author.Needs.{needs}
-use lib.Seq.{length-take-le}
-use Rattle.asking.specs.Says.{saysHeard}
-use Rattle.asking.proofs.Laws.{Finds, found-body, not-unsplit, heard-parts, heard-unread}
+use Rattle.frame.specs.Says.{saysFound}
+use Rattle.asking.proofs.Laws.{Finds, found-body, heard-checked, heard-unread}
 use Rattle.asking.proofs.hear.Statement.{statement}
 use Rattle.asking.proofs.hear.Tie as tie
 
@@ -16,40 +15,27 @@ read-frame-requires c κs = search needs
 enum-known-found : tie.Need-enum-known-found
 enum-known-found c = search needs
 
-unread-requires : tie.Need-unread-requires
-unread-requires c κs = search needs
+parts-of-requires : tie.Need-parts-of-requires
+parts-of-requires c κs = found (c .before .before .before .before) .fits
 
--- R9, R6
+enum-known-found-2 : tie.Need-enum-known-found-2
+enum-known-found-2 c = search needs
+
+enum-known-found-3 : tie.Need-enum-known-found-3
+enum-known-found-3 c = search needs
+
 returns : tie.Need-returns
-returns c =
-    let r = c .before .before .read-frame in
-    ap saysHeard (c .unread .ensures) ∙ heard-unread _ (r .result .found) (c .before .match .keys2) (r .ensures .says)
+returns c = heard-checked (found (c .before .before .before .before .before)) (c .parts-of .result) (c .parts-of .ensures)
 
-array-share-prefix-body : tie.Need-array-share-prefix-body
-array-share-prefix-body c = found (c .before .before) .fits
-
-slice-aggregate-split-body : tie.Need-slice-aggregate-split-body
-slice-aggregate-split-body c = sym (length-take-le _ _ (found (c .before .before .before) .fits))
-
-split-body-requires : tie.Need-split-body-requires
-split-body-requires c κs = search needs
-
-enum-known-parts : tie.Need-enum-known-parts
-enum-known-parts c = search needs
-
-enum-told : tie.Need-enum-told
-enum-told c = search needs
-
--- a body that the reader found is never too short
+-- R9
 returns-2 : tie.Need-returns-2
 returns-2 c =
-    let b = c .before .before in
-    not-unsplit (found (b .before .before .before .before)) (b .split-body .ensures) (c .enum-told .given .1)
+    heard-unread _ (sym (ap saysFound (c .before .found2 .given .1)) ∙ c .before .before .before .read-frame .ensures .says)
 
+-- R6
 returns-3 : tie.Need-returns-3
 returns-3 c =
-    let b = c .before .before .before in
-    heard-parts (found (b .before .before .before .before)) (b .split-body .ensures) (c .before .parts .given .1)
+    heard-unread _ (sym (ap saysFound (c .before .found3 .given .1)) ∙ c .before .before .before .read-frame .ensures .says)
 
 pub hear-spec : {M : Type 1} → statement M
 hear-spec =
@@ -57,12 +43,9 @@ hear-spec =
     (tie.spec
     read-frame-requires
     enum-known-found
-    unread-requires
+    parts-of-requires
+    enum-known-found-2
+    enum-known-found-3
     returns
-    array-share-prefix-body
-    slice-aggregate-split-body
-    split-body-requires
-    enum-known-parts
-    enum-told
     returns-2
     returns-3)

@@ -1,13 +1,13 @@
-use mathlib.Core.Path.{sym, ap, _∙_}
+use mathlib.Core.Path.{refl, sym, ap, _∙_}
 use Prim.Native.Nat.{ℕ}
 use native.Mathlib.Omega.{arith}
 use denote.Ref.{now}
 use lib.ListN.{take}
 use lib.Seq.{sets}
 use Rattle.laws.specs.Pick.{pick}
-use Rattle.calls.specs.Call.{callBy}
+use Rattle.calls.specs.Call.{tickAt, callBy}
 use Rattle.calls.specs.Reads.{known}
-use Rattle.calls.specs.Reading.{carried}
+use Rattle.operands.specs.Bytes.{carried}
 use Rattle.calls.proofs.Steps.{unread-room, unread-long, stored, by-key}
 use borrow.Author.Needs.{needs}
 use Rattle.calls.proofs.read.Statement.{statement}
@@ -18,7 +18,7 @@ unfolding callBy pick
 returns-3 c =
     let a = c .before .before .before .before .before .before .before .args in
     let t = c .tick .ensures in
-    stored (by-key {k = 84} (c .before .before .byte-at .ensures) (c .before .if3 .taken) (t .0)) (c .before .before .before .before .if1 .left) (c .before .before .before .if2 .left) (sym (ap (λ (n : ℕ). sets (now (a .bytes)) 0 (take n (carried (now (a .line))))) (t .1)))
+    stored (by-key 84 (λ n. tickAt) (c .before .before .byte-at .ensures) (c .before .if3 .taken) refl (t .0)) (c .before .before .before .before .if1 .left) (c .before .before .before .if2 .left) (sym (ap (λ (n : ℕ). sets (now (a .bytes)) 0 (take n (carried (now (a .line))))) (t .1)))
 
 store-requires : tie.Need-store-requires
 store-requires c κs =

@@ -1,5 +1,6 @@
 use mathlib.Core.Path.{_≡_, refl, sym, ap}
-use mathlib.Core.List.{[], _∷_}
+use mathlib.Core.List.{List, [], _∷_}
+use Prim.Native.Nat.{ℕ}
 use types.Run.{OneOf, miss}
 use denote.Enum.Declared.{tagOf}
 use Rattle.calls.proofs.Call.{the-type as call-type}
@@ -10,16 +11,19 @@ use borrow.Author.Needs.{needs}
 use Rattle.calls.proofs.size_of.Statement.{statement}
 use Rattle.calls.proofs.size_of.Tie as tie
 
--- a call of no bytes
-none : (r : declared.Call) → OneOf (0 ∷ 1 ∷ 2 ∷ 3 ∷ 4 ∷ 5 ∷ 8 ∷ 11 ∷ 12 ∷ 13 ∷ 17 ∷ []) (tagOf call-type r) → 0 ≡ sizeOf r
+-- the calls of no bytes, by their tags
+abbrev others : List ℕ
+others = 0 ∷ 1 ∷ 2 ∷ 3 ∷ 4 ∷ 5 ∷ 8 ∷ 11 ∷ 12 ∷ 13 ∷ 17 ∷ []
+
+none : (r : declared.Call) → OneOf others (tagOf call-type r) → 0 ≡ sizeOf r
 unfolding sizeOf
-none (C.Request n room) h = absurd (miss (0 ∷ 1 ∷ 2 ∷ 3 ∷ 4 ∷ 5 ∷ 8 ∷ 11 ∷ 12 ∷ 13 ∷ 17 ∷ []) 6 tt h)
-none (C.Modbus n room) h = absurd (miss (0 ∷ 1 ∷ 2 ∷ 3 ∷ 4 ∷ 5 ∷ 8 ∷ 11 ∷ 12 ∷ 13 ∷ 17 ∷ []) 7 tt h)
-none (C.WriteFrame n room) h = absurd (miss (0 ∷ 1 ∷ 2 ∷ 3 ∷ 4 ∷ 5 ∷ 8 ∷ 11 ∷ 12 ∷ 13 ∷ 17 ∷ []) 9 tt h)
-none (C.ReadFrame n) h = absurd (miss (0 ∷ 1 ∷ 2 ∷ 3 ∷ 4 ∷ 5 ∷ 8 ∷ 11 ∷ 12 ∷ 13 ∷ 17 ∷ []) 10 tt h)
-none (C.ReadLine f n) h = absurd (miss (0 ∷ 1 ∷ 2 ∷ 3 ∷ 4 ∷ 5 ∷ 8 ∷ 11 ∷ 12 ∷ 13 ∷ 17 ∷ []) 14 tt h)
-none (C.Hour n k) h = absurd (miss (0 ∷ 1 ∷ 2 ∷ 3 ∷ 4 ∷ 5 ∷ 8 ∷ 11 ∷ 12 ∷ 13 ∷ 17 ∷ []) 15 tt h)
-none (C.Hours n room) h = absurd (miss (0 ∷ 1 ∷ 2 ∷ 3 ∷ 4 ∷ 5 ∷ 8 ∷ 11 ∷ 12 ∷ 13 ∷ 17 ∷ []) 16 tt h)
+none (C.Request n room) h = absurd (miss others 6 tt h)
+none (C.Modbus n room) h = absurd (miss others 7 tt h)
+none (C.WriteFrame n room) h = absurd (miss others 9 tt h)
+none (C.ReadFrame n) h = absurd (miss others 10 tt h)
+none (C.ReadLine f n) h = absurd (miss others 14 tt h)
+none (C.Hour n k) h = absurd (miss others 15 tt h)
+none (C.Hours n room) h = absurd (miss others 16 tt h)
 none (C.Tick x i) h = refl
 none (C.Link on) h = refl
 none (C.Settings set) h = refl
@@ -38,8 +42,9 @@ size-of-spec =
     tie.close
     (tie.spec
     (λ c. search needs) (λ c. search needs) (λ c. search needs) (λ c. search needs) (λ c. search needs)
-    (λ c. search needs) (λ c. search needs) (λ c. sym (ap sizeOf (c .before .call .given .1)))
-    (λ c. sym (ap sizeOf (c .before .call2 .given .1))) (λ c. sym (ap sizeOf (c .before .call3 .given .1)))
-    (λ c. sym (ap sizeOf (c .before .call4 .given .1))) (λ c. sym (ap sizeOf (c .before .call5 .given .1)))
-    (λ c. sym (ap sizeOf (c .before .call6 .given .1))) (λ c. sym (ap sizeOf (c .before .call7 .given .1)))
-    (λ c. none (c .before .args .call) (c .match .keys8)))
+    (λ c. search needs) (λ c. search needs) (λ c. search needs) (λ c. search needs) (λ c. search needs)
+    (λ c. search needs) (λ c. search needs) (λ c. search needs) (λ c. search needs)
+    (λ c. sym (ap sizeOf (c .before .call .given .1))) (λ c. sym (ap sizeOf (c .before .call2 .given .1)))
+    (λ c. sym (ap sizeOf (c .before .call3 .given .1))) (λ c. sym (ap sizeOf (c .before .call4 .given .1)))
+    (λ c. sym (ap sizeOf (c .before .call5 .given .1))) (λ c. sym (ap sizeOf (c .before .call6 .given .1)))
+    (λ c. sym (ap sizeOf (c .before .call7 .given .1))) (λ c. none (c .before .args .call) (c .match .keys8)))

@@ -1,7 +1,9 @@
 use mathlib.Core.Path.{sym, ap, _∙_, subst}
 use mathlib.Core.List.{[]}
-use Rattle.clock.specs.Clock.{note, withWhole, withKnown, lostBy, heardBy}
+use Rattle.clock.specs.Clock.{note, heardBy}
 use Rattle.clock.specs.Marking.{Writable, writes-as, writes-none}
+use Rattle.clock.specs.Keeps.{heard-passed}
+use Rattle.clock.proofs.Writing.{uncounted}
 use Rattle.clock.specs.declared.Clock.{Clock}
 use borrow.Author.Needs.{needs}
 use Rattle.clock.proofs.by_heard.Statement.{statement}
@@ -19,21 +21,13 @@ unfolding heardBy
 returns-2 c = writes-as (ap (heardBy (c .before .before .before .before .before .before .before .before .args .k)) (c .before .before .before .before .before .heard .given .1)) (c .before .before .dosed .ensures)
 
 returns-3 : tie.Need-returns-3
-unfolding heardBy
-returns-3 c = writes-none (ap (λ (k : Clock). note k []) (c .restarted .ensures) ∙ sym (ap (heardBy (c .before .before .before .before .args .k)) (c .before .enum-told2 .given .1)))
-
-returns-4 : tie.Need-returns-4
-unfolding heardBy lostBy withKnown withWhole
-returns-4 c = writes-none (sym (ap (heardBy (c .before .before .before .args .k)) (c .enum-told3 .given .1)))
-
-returns-5 : tie.Need-returns-5
-unfolding heardBy
-returns-5 c = writes-none (sym (ap (heardBy (c .before .before .before .args .k)) (c .enum-told4 .given .1)))
+returns-3 c =
+    let a = c .before .before .before .args in
+    writes-none (ap (λ (k : Clock). note k []) (c .passed .ensures .next) ∙ sym (heard-passed (a .k) (uncounted (a .heard) (c .before .match .keys3))))
 
 pub by-heard-spec : {M : Type 1} → statement M
 by-heard-spec =
     tie.close
     (tie.spec
-    (λ c. search needs) (λ c κs. search needs) (λ c. search needs) dosed-requires (λ c. search needs)
-    (λ c κs. search needs) (λ c. search needs) (λ c. search needs) (λ c. search needs) returns (λ c. search needs)
-    returns-2 returns-3 returns-4 returns-5)
+    (λ c. search needs) (λ c κs. search needs) (λ c. search needs) dosed-requires (λ c κs. search needs)
+    (λ c. search needs) returns (λ c. search needs) returns-2 returns-3)

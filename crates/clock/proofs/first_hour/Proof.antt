@@ -1,6 +1,7 @@
-use mathlib.Core.Path.{_≡_, sym, ap, _∙_}
+use mathlib.Core.Path.{_≡_, refl, ap, _∙_}
 use mathlib.Core.List.{List}
 use Prim.Native.Nat.{ℕ, _≤_, _<_}
+use native.Mathlib.Omega.{arith}
 use denote.Ref.{now}
 use lib.ListN.{length, drop, drop-of-length-le}
 use lib.Seq.{drop-cons}
@@ -8,8 +9,7 @@ use Rattle.laws.specs.Decimal.{good}
 use Rattle.text.specs.Scan.{leads}
 use Rattle.journal.specs.Line.{versionText}
 use Rattle.clock.specs.Clock.{note, withStage, withHour, refuse, firstOf}
-use Rattle.clock.specs.Marking.{writes-as}
-use Rattle.clock.proofs.Writing.{version-writes}
+use Rattle.clock.specs.Marking.{writes-as, prints-writes}
 use Rattle.clock.specs.declared.Clock.{Clock}
 use Rattle.clock.specs.declared.Stage.the-variants.{Recording}
 use borrow.Author.Needs.{needs}
@@ -42,9 +42,8 @@ unfolding withStage withHour
 returns-3 c =
     let a = c .before .before .before .before .before .before .before .before .before .before .before .args in
     let h = c .before .before .before .before .before .before .hour in
-    version-writes (c .before .before .before .before .before .before .before .before .before .before .before .pre)
-    (sym (ap (firstOf (a .k)) (c .before .before .before .before .before .before .before .before .number-at .ensures .reads ∙ ap (leads (now (a .line))) (h .given .1)) ∙ alone (a .k) (h .given .0 .0) (now (a .line)) (h .given .0 .1 .0) (c .before .before .before .before .if1 .left)))
-    (c .before .before .put-version .ensures)
+    writes-as (ap (firstOf (a .k)) (c .before .before .before .before .before .before .before .before .number-at .ensures .reads ∙ ap (leads (now (a .line))) (h .given .1)) ∙ alone (a .k) (h .given .0 .0) (now (a .line)) (h .given .0 .1 .0) (c .before .before .before .before .if1 .left))
+    (prints-writes (omega (arith, c .before .before .before .before .before .before .before .before .before .before .before .pre)) refl (c .before .before .put-version .ensures))
 
 pub first-hour-spec : {M : Type 1} → statement M
 first-hour-spec =

@@ -1,13 +1,14 @@
 use mathlib.Core.Path.{refl}
+use native.Mathlib.Omega.{arith}
 use Rattle.clock.specs.Clock.{withStage, refuse}
-use Rattle.clock.proofs.Writing.{refuse-writes}
+use Rattle.clock.specs.Marking.{prints-writes}
 use borrow.Author.Needs.{needs}
 use Rattle.clock.proofs.refuse.Statement.{statement}
 use Rattle.clock.proofs.refuse.Tie as tie
 
 returns : tie.Need-returns
 unfolding refuse withStage
-returns c = refuse-writes (c .before .before .before .before .before .args .k) _ (c .before .before .before .before .before .pre .1) refl (c .before .before .put-refusal .ensures)
+returns c = prints-writes (omega (arith, c .before .before .before .before .before .pre .1)) refl (c .before .before .put-refusal .ensures)
 
 pub refuse-spec : {M : Type 1} → statement M
 refuse-spec =

@@ -1,4 +1,4 @@
-use mathlib.Core.Path.{_≡_, sym, ap}
+use mathlib.Core.Path.{sym, ap}
 use lib.ListN.{length}
 use Rattle.laws.specs.Pick.{so}
 use Rattle.conversion.proofs.Pieces.{new-ends, new-goes}

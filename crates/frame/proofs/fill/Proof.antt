@@ -1,13 +1,12 @@
 -- Reading on with the body that has grown by k bytes is reading on with the old one.
-use mathlib.Core.Path.{_≡_, refl, sym, ap, _∙_}
+use mathlib.Core.Path.{_≡_, sym, _∙_}
 use mathlib.Core.List.{List, [], _∷_, _++_}
 use Prim.Native.Nat.{ℕ, _+_, _-_, _<_, _≤_}
 use native.Mathlib.Omega.{arith}
 use native.Mathlib.Numerals.{add-one}
 use native.Mathlib.Nat.{add-zero}
-use lib.ListN.{length, take, drop, set, getD, length-set}
+use lib.ListN.{length, take, set, getD, length-set}
 use lib.Seq.{length-take-le, take-suc-set}
-use Rattle.frame.specs.Read.{body, run}
 use Rattle.frame.specs.Stands.{Takes}
 use Rattle.frame.proofs.Laws.{body-step}
 use Rattle.frame.proofs.fill.Statement.{statement}

@@ -11,7 +11,7 @@ use Rattle.laws.specs.Decimal.{bad}
 use Rattle.paper.specs.Answer.{refused}
 use Rattle.paper.specs.Numbers.{R10, R11, R12}
 use Rattle.journal.specs.Line.{lineOf}
-use Rattle.journal.specs.LineLaws.{Stands}
+use Rattle.journal.specs.LineLaws.{LineStands}
 use Rattle.journal.specs.Fields.{mostOf, fieldsAfter}
 use Rattle.journal.specs.Journal.{hourIn, outOfOrder, tooFar, formOf, journalOf}
 use Rattle.journal.specs.JournalLaws.{headLines, head-few, journal-long}
@@ -85,9 +85,9 @@ broken c e = numbered (top c) R10 (malformed (top c .lines .inv) (omega (arith, 
 abbrev next : tie.After-line-from Inv-fields μ-fields Inv-lines μ-lines → ℕ
 next c = fields-of c .fields .p + 1
 
-here : (c : tie.After-line-from Inv-fields μ-fields Inv-lines μ-lines) → Stands (formOf (S (top-of c))) (S (top-of c)) (top-of c .lines .at) (c .line-from .result) (next c)
+here : (c : tie.After-line-from Inv-fields μ-fields Inv-lines μ-lines) → LineStands (formOf (S (top-of c))) (S (top-of c)) (top-of c .lines .at) (c .line-from .result) (next c)
 here c =
-    subst (λ (l : Line). Stands (formOf (S (top-of c))) (S (top-of c)) (top-of c .lines .at) l (next c)) (sym (c .line-from .ensures))
+    subst (λ (l : Line). LineStands (formOf (S (top-of c))) (S (top-of c)) (top-of c .lines .at) l (next c)) (sym (c .line-from .ensures))
     (fielded-line (fields-of c .fields .inv) _ (asked (letter (fields-of c))) (c .before .before .before .fields-test .left) (sym (c .before .before .byte-at .ensures) ∙ c .before .if4 .left))
 
 -- the tests of its order

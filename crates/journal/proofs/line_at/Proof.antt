@@ -7,9 +7,8 @@ use denote.Ref.{now}
 use lib.ListN.{length, drop, getD}
 use borrow.Author.Needs.{needs}
 use Rattle.laws.specs.Decimal.{bad}
-use Rattle.text.specs.Scan.{LF}
 use Rattle.journal.specs.Line.{holds, noLine, placed, lineOf, lineAt}
-use Rattle.journal.specs.LineLaws.{Stands}
+use Rattle.journal.specs.LineLaws.{LineStands}
 use Rattle.journal.specs.Fields.{mostOf, fieldsAfter, lineFrom}
 use Rattle.journal.specs.FieldLaws.{Fielded, letter-none, letter-inside, fielded-none, fielded-more, fielded-bad, fielded-torn, fielded-line}
 use Rattle.journal.specs.declared.Form.{Form}
@@ -96,7 +95,7 @@ line-from-requires : tie.Need-line-from-requires Inv-loop μ-loop
 line-from-requires c κs = search needs
 
 -- the fields make the line, and its LF stands behind them
-made : (c : tie.After-line-from Inv-loop μ-loop) → Stands (c .before .before .before .before .before .before .before .before .before .args .form) (now (c .before .before .before .before .before .before .before .before .before .args .bytes)) (c .before .before .before .before .before .before .before .before .before .args .at) (lineFrom (c .before .before .before .before .before .before .fields-after .result) (c .before .before .before .before .loop .got)) (c .before .before .before .before .loop .p + 1)
+made : (c : tie.After-line-from Inv-loop μ-loop) → LineStands (c .before .before .before .before .before .before .before .before .before .args .form) (now (c .before .before .before .before .before .before .before .before .before .args .bytes)) (c .before .before .before .before .before .before .before .before .before .args .at) (lineFrom (c .before .before .before .before .before .before .fields-after .result) (c .before .before .before .before .loop .got)) (c .before .before .before .before .loop .p + 1)
 made c = fielded-line (c .before .before .before .before .loop .inv) _ (asked (c .before .before .before .before .before .before)) (c .before .before .before .loop-test .left) (sym (c .before .before .byte-at2 .ensures) ∙ c .before .if2 .left)
 
 add-t23 : tie.Need-add-t23 Inv-loop μ-loop

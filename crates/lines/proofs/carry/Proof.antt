@@ -83,18 +83,11 @@ slice-write-buffer c = let m = c .before .before .loop .inv in omega (arith, m .
 add-n : tie.Need-add-n Inv-loop μ-loop
 add-n c = let m = c .before .before .loop .inv in omega (arith, m .place, c .before .loop-test .taken)
 
-loop-again : tie.Need-loop-again Inv-loop μ-loop
-loop-again c = moved-more (c .before .before .loop .inv) (c .before .loop-test .taken)
-
-same-length : tie.Need-same-length Inv-loop μ-loop
-same-length c = moved-length (c .before .loop .inv)
-
-returns : tie.Need-returns Inv-loop μ-loop
-returns c = moved-all (c .before .loop .inv) (c .before .before .least .ensures) (c .loop-test .left)
-
 pub carry-spec : {M : Type 1} → statement M
 carry-spec =
     tie.close
     (tie.spec
-    Inv-loop μ-loop (λ c κs. search needs) loop-holds slice-read-buffer slice-write-buffer add-n (λ c. search needs)
-    (λ c. search needs) loop-again same-length returns)
+    Inv-loop μ-loop (λ c κs. search needs) loop-holds slice-read-buffer slice-write-buffer add-n (λ c. search needs) (λ c. search needs)
+    (λ c. moved-more (c .before .before .loop .inv) (c .before .loop-test .taken))
+    (λ c. moved-length (c .before .loop .inv))
+    (λ c. moved-all (c .before .loop .inv) (c .before .before .least .ensures) (c .loop-test .left)))

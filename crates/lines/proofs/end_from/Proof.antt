@@ -13,20 +13,8 @@ Inv-loop block at i₀ i = endOf block i ≡ endOf block at
 abbrev μ-loop : tie.MeasureT-loop
 μ-loop block at i₀ i = length block - i
 
-loop-holds : tie.Need-loop-holds Inv-loop μ-loop
-loop-holds c = refl
-
-shared-slice-read-if1 : tie.Need-shared-slice-read-if1 Inv-loop μ-loop
-shared-slice-read-if1 c = search needs
-
 returns : tie.Need-returns Inv-loop μ-loop
 returns c = end-here _ _ (c .before .before .loop-test .taken) (c .if1 .taken) ∙ c .before .before .before .loop .inv
-
-add-i : tie.Need-add-i Inv-loop μ-loop
-add-i c = search needs
-
-loop-less : tie.Need-loop-less Inv-loop μ-loop
-loop-less c = search needs
 
 loop-again : tie.Need-loop-again Inv-loop μ-loop
 loop-again c = end-on _ _ (c .before .before .loop-test .taken) (c .if1 .left) ∙ c .before .before .before .loop .inv
@@ -38,12 +26,4 @@ pub end-from-spec : {M : Type 1} → statement M
 end-from-spec =
     tie.close
     (tie.spec
-    Inv-loop
-    μ-loop
-    loop-holds
-    shared-slice-read-if1
-    returns
-    add-i
-    loop-less
-    loop-again
-    returns-2)
+    Inv-loop μ-loop (λ c. refl) (λ c. search needs) returns (λ c. search needs) (λ c. search needs) loop-again returns-2)

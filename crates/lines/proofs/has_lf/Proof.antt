@@ -16,10 +16,10 @@ use Rattle.lines.proofs.has_lf.Statement.{statement}
 use Rattle.lines.proofs.has_lf.Tie as tie
 
 abbrev Inv-loop : tie.InvT-loop
-Inv-loop block at found₀ k₀ found k = (k ≤ 16) × (found ≡ false → endOf block (at + k) ≡ endOf block at)
+Inv-loop block at n found₀ k₀ found k = (k ≤ n) × (found ≡ false → endOf block (at + k) ≡ endOf block at)
 
 abbrev μ-loop : tie.MeasureT-loop
-μ-loop block at found₀ k₀ found k = 16 - k
+μ-loop block at n found₀ k₀ found k = n - k
 
 -- one byte more that is no LF
 on : (block : List ℕ) (at k : ℕ) (found : Bool) → at + k < length block → (found ≡ false → endOf block (at + k) ≡ endOf block at)
@@ -29,29 +29,18 @@ on block at k found h inv e =
     let place : at + (k + 1) ≡ at + k + 1 = omega arith in
     ap (endOf block) place ∙ end-on block (at + k) h (eqb-false _ _ (or-right found here e)) ∙ inv (or-left found here e)
 
-loop-holds : tie.Need-loop-holds Inv-loop μ-loop
-loop-holds c = (omega arith, λ e. ap (endOf _) (add-zero _))
-
-add-found : tie.Need-add-found Inv-loop μ-loop
-add-found c = omega arith
-
-shared-slice-read-found : tie.Need-shared-slice-read-found Inv-loop μ-loop
-shared-slice-read-found c = omega arith
-
-add-k : tie.Need-add-k Inv-loop μ-loop
-add-k c = omega arith
-
-loop-less : tie.Need-loop-less Inv-loop μ-loop
-loop-less c = omega arith
-
 loop-again : tie.Need-loop-again Inv-loop μ-loop
 loop-again c = (omega arith, on _ _ _ _ (omega arith) (c .before .before .loop .inv .1))
 
-all : (block : List ℕ) (at k : ℕ) → k ≡ 16 → endOf block (at + k) ≡ endOf block at → endOf block (at + 16) ≡ endOf block at
-all block at k e inv = rw e at inv
+all : (block : List ℕ) (at k n : ℕ) → k ≡ n → endOf block (at + k) ≡ endOf block at → endOf block (at + n) ≡ endOf block at
+all block at k n e inv = rw e at inv
 
 returns : tie.Need-returns Inv-loop μ-loop
-returns c = λ e. all _ _ _ (omega arith) (c .before .loop .inv .1 e)
+returns c = λ e. all _ _ _ _ (omega arith) (c .before .loop .inv .1 e)
 
 pub has-lf-spec : {M : Type 1} → statement M
-has-lf-spec = tie.close (tie.spec Inv-loop μ-loop loop-holds add-found shared-slice-read-found add-k loop-less loop-again returns)
+has-lf-spec =
+    tie.close
+    (tie.spec
+    Inv-loop μ-loop (λ c. (omega arith, λ e. ap (endOf _) (add-zero _)))
+    (λ c. omega arith) (λ c. omega arith) (λ c. omega arith) (λ c. omega arith) loop-again returns)

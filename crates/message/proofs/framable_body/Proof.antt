@@ -14,7 +14,7 @@ use Rattle.laws.specs.Over.{over, sets-append, sets-over}
 use Rattle.frame.specs.Frame.{framable}
 use Rattle.frame.specs.FrameLaws.{framable-long}
 use Rattle.paper.specs.AnswerLaws.{hands-refused, hands-done}
-use Rattle.frame.specs.Puts.{Puts}
+use Rattle.frame.specs.Puts.{PutsBytes}
 use Rattle.message.specs.Message.{addressBytes, bodyOf, framableOf}
 use Rattle.message.specs.BuildSplit.{address-most, body-length}
 use Rattle.message.specs.declared.Form.{Form}
@@ -35,7 +35,7 @@ record Stored (body array : List ℕ) (n : ℕ) : Type 0 where
   front : take n array ≡ body
 
 module _ (form : Form) (operation head : ℕ) (values first : List ℕ)
-    (put : Puts (addressBytes form) (replicate 254 0) first 0 head) where
+    (put : PutsBytes (addressBytes form) (replicate 254 0) first 0 head) where
   too-long : 253 - head < length values → framable (bodyOf form operation values) ≡ false
   too-long h = framable-long _ (omega (arith, body-length form operation values, put .after, address-most form))
 

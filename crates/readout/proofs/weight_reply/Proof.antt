@@ -7,7 +7,7 @@ use Rattle.paper.specs.AnswerLaws.{refused-done}
 use Rattle.field.specs.Field.{writable, fieldOf, writeOf}
 use Rattle.field.specs.Says.{saysWritten}
 use Rattle.field.specs.declared.Weight.{Weight}
-use Rattle.scale.specs.Scale.{weightBy}
+use Rattle.scale.specs.Scale.{asWindow, weightBy}
 use Rattle.scale.specs.Says.{saysWeighed}
 use Rattle.readout.specs.Laws.{weight-in}
 use Rattle.readout.proofs.Laws.{is-writable, no-weight, written}
@@ -16,7 +16,7 @@ use Rattle.readout.proofs.weight_reply.Tie as tie
 
 -- the weight of the rule
 abbrev rule : tie.Start → Weight
-rule c = let a = c .args in weightBy (a .set) (a .window) (a .z) (a .s) (a .n)
+rule c = let a = c .args in weightBy (a .set) (asWindow (a .samples .now) (a .held)) (a .z) (a .s) (a .n)
 
 weigh-requires : tie.Need-weigh-requires
 weigh-requires c κs = tt

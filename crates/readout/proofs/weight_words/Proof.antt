@@ -9,8 +9,7 @@ use Rattle.laws.specs.Pick.{pick-t}
 use Rattle.field.specs.Field.{writable}
 use Rattle.field.specs.declared.Weight.{Weight}
 use Rattle.single.specs.Single.{registersOf}
-use Rattle.single.specs.declared.Words.{Words}
-use Rattle.scale.specs.Scale.{weightBy}
+use Rattle.scale.specs.Scale.{asWindow, weightBy}
 use Rattle.scale.specs.Says.{saysWeighed}
 use Rattle.readout.specs.Readout.{wordsFrom, wordsIn}
 use Rattle.readout.proofs.Laws.{is-writable, no-words}
@@ -19,7 +18,7 @@ use Rattle.readout.proofs.weight_words.Tie as tie
 
 -- the weight of the rule
 abbrev rule : tie.Start → Weight
-rule c = let a = c .args in weightBy (a .set) (a .window) (a .z) (a .s) (a .n)
+rule c = let a = c .args in weightBy (a .set) (asWindow (a .samples .now) (a .held)) (a .z) (a .s) (a .n)
 
 weigh-requires : tie.Need-weigh-requires
 weigh-requires c κs = tt

@@ -1,67 +1,120 @@
-use mathlib.Core.Path.{_≡_, refl}
-use Prim.Native.Nat.{_-_, _≤_}
+use mathlib.Core.Path.{_≡_, refl, _∙_}
+use Prim.Native.Nat.{ℕ, _-_, _≤_}
 use native.Mathlib.Omega.{arith}
+use mir.Syntax.{w32}
+use mir.Val.{SFits}
 use denote.Ref.{now}
-use lib.ListN.{length, drop, length-drop}
-use lib.Seq.{length-take-le}
+use lib.ListN.{length}
 use Rattle.lines.specs.Intake.{Behind}
 use Rattle.lines.specs.Places.{partOf}
 use Rattle.clock.specs.Part.{part-length}
+use Rattle.acts.specs.Script.{line-behind, line-short}
+use Rattle.recorder.specs.Recording.{with}
 use borrow.Author.Needs.{needs}
-use Rattle.recorder.proofs.Feeding.{Feeding, feeding-none, feeding-full, over-fits, behind, taken-line, taken-more}
+use Rattle.recorder.proofs.Listening.{unheard, unheard-box, tick-heard, other-heard, recorded-box, ticked-writes, passed-note}
+use Rattle.recorder.proofs.Feeding.{written, notes-part, notes-none, Feeding, feeding-none, feeding-full, feeding-more, feeding-line}
 use Rattle.recorder.proofs.feed_with.Statement.{statement}
 use Rattle.recorder.proofs.feed_with.Tie as tie
 
 abbrev Inv-loop : tie.InvT-loop
-Inv-loop input bytes₀ reply₀ out₀ state₀ at₀ len₀ bytes reply out state at len = Feeding state₀ at₀ input out₀ out state at len × (length bytes ≡ length bytes₀) × (length reply ≡ length reply₀)
+Inv-loop input bytes₀ reply₀ out₀ c₀ k₀ at₀ len₀ bytes reply out c k at len =
+    Feeding (with c₀ k₀) at₀ input out₀ out (with c k) at len × (length bytes ≡ length bytes₀) × (length reply ≡ length reply₀)
 
 abbrev μ-loop : tie.MeasureT-loop
-μ-loop input bytes₀ reply₀ out₀ state₀ at₀ len₀ bytes reply out state at len = length input - at .at
+μ-loop input bytes₀ reply₀ out₀ c₀ k₀ at₀ len₀ bytes reply out c k at len = length input - at .at
 
 -- the line lies in the buffer
-lies : (c : tie.After-next Inv-loop μ-loop) → Behind (c .before .before .before .before .before .loop .at) (now (c .before .before .before .before .before .before .before .before .before .before .args .input)) (c .next .given .0 .0) (c .next .given .0 .1 .0) (c .before .before .before .next-line .result .intake)
-lies c = behind _ _ (c .before .before .before .next-line .result) (c .before .before .before .next-line .ensures) _ _ (c .next .given .1)
-
--- what is added for it has room
-added : (c : tie.After-note Inv-loop μ-loop) → c .note .result .len ≤ length (c .before .before .before .before .before .before .before .before .before .before .before .loop .out) - c .before .before .before .before .before .before .before .before .before .before .before .loop .len
-added c =
-    let l = c .before .before .before .before .before .before .before .before .before .before .before .loop in
-    omega (arith, c .note .ensures .len, over-fits _ _ _ (c .note .ensures .left) (c .note .kept .1 .1 .1 .1 .0), part-length (l .out) (l .len))
+lies : (c : tie.After-next Inv-loop μ-loop) → Behind (c .before .before .before .before .before .loop .at) (now (c .before .before .before .before .before .before .before .before .before .before .before .before .args .input)) (c .next .given .0 .0) (c .next .given .0 .1 .0) (c .before .before .before .next-line .result .intake)
+lies c = line-behind _ _ (c .before .before .before .next-line .result) (c .before .before .before .next-line .ensures) (c .next .given .1)
 
 loop-holds : tie.Need-loop-holds Inv-loop μ-loop
-loop-holds c = let a = c .before .before .before .before .args in (feeding-none (a .r) (a .intake) (c .before .before .before .before .pre .0), refl, refl)
+loop-holds c = let start = c .before .before .before .before .before .before in (feeding-none (start .args .r) (start .args .intake) (start .pre .0), refl, refl)
 
 returns : tie.Need-returns Inv-loop μ-loop
-returns c = let l = c .before .before .before .before .before .loop in taken-more (l .inv .0) (c .before .before .before .next-line .result) (c .before .before .before .next-line .ensures) (c .before .before .before .before .loop-test .taken) (c .enum-told .given .1)
+returns c = feeding-more (c .before .before .before .before .before .loop .inv .0) (c .before .before .before .next-line .result) (c .before .before .before .next-line .ensures) (c .before .before .before .before .loop-test .taken) (c .enum-told .given .1)
 
-sub-note : tie.Need-sub-note Inv-loop μ-loop
-sub-note c = lies (c .before) .order
-
-part-note-start : tie.Need-part-note-start Inv-loop μ-loop
-part-note-start c = lies (c .before) .order
-
-part-note-end : tie.Need-part-note-end Inv-loop μ-loop
-part-note-end c = let b = lies (c .before) in omega (arith, b .inside)
-
-note-requires : tie.Need-note-requires Inv-loop μ-loop
-note-requires c κs =
-    let l = c .before .before .before .before .before .before .before .before .before .before .loop in
-    let b = lies (c .before .before .before .before .before) in
-    (l .inv .0 .carries, (omega (arith, b .short, b .inside, b .order, length-take-le (c .before .before .before .before .before .next .given .0 .1 .0 - c .before .before .before .before .before .next .given .0 .0) (drop (c .before .before .before .before .before .next .given .0 .0) (now (c .before .before .before .before .before .before .before .before .before .before .before .before .before .before .before .args .input))) (omega (arith, b .inside, length-drop (c .before .before .before .before .before .next .given .0 .0) (now (c .before .before .before .before .before .before .before .before .before .before .before .before .before .before .before .args .input))))), (omega (arith, l .inv .1, c .before .before .before .before .before .before .before .before .before .before .before .before .before .before .before .pre .1 .0), omega (arith, l .inv .2, c .before .before .before .before .before .before .before .before .before .before .before .before .before .before .before .pre .1 .1), omega (arith, part-length (l .out) (l .len), c .before .before .before .before .before .before .before .before .before .loop-test .taken))))
+unheard-requires : tie.Need-unheard-requires Inv-loop μ-loop
+unheard-requires c κs =
+    let l = c .before .before .before .before .before .before .before .before .before .loop in
+    (l .inv .0 .carries .runs, (unheard _ (c .before .before .match2 .keys2), omega (arith, part-length (l .out) (l .len), c .before .before .before .before .before .before .before .before .loop-test .taken)))
 
 add-len : tie.Need-add-len Inv-loop μ-loop
-add-len c = let w = c .before .before .before .before .before .before .before .before .before .before .before .before .before .before .before .before .before .before .before .loop .inv .0 in let n = c .before .before .before .before .before .before .before .before .note in omega (arith, added (c .before .before .before .before .before .before .before .before), w .room, w .long, c .before .before .before .before .before .before .before .before .before .before .before .before .before .before .before .before .before .before .before .before .before .before .before .before .good)
-
-loop-less : tie.Need-loop-less Inv-loop μ-loop
-loop-less c = let b = lies (c .before .before .before .before .before .before .before .before .before .before .before .before .before .before) in omega (arith, b .inside, b .place, b .ahead)
+add-len c =
+    let l = c .before .before .before .before .before .before .before .before .before .before .before .before .before .before .loop in
+    let w = l .inv .0 in
+    let m = c .before .before .before .before .unheard in
+    omega (arith, written (m .ensures (l .c)) (m .kept .1 .1 .0), part-length (l .out) (l .len), w .room, w .long, c .before .before .before .before .before .before .before .before .before .before .before .before .before .before .before .before .before .before .before .before .before .good)
 
 loop-again : tie.Need-loop-again Inv-loop μ-loop
 unfolding partOf
 loop-again c =
-    let l = c .before .before .before .before .before .before .before .before .before .before .before .before .before .before .before .before .before .before .before .loop in
-    let n = c .before .before .before .before .before .before .before .before .note in
-    let t = c .before .before .before .before .before .before .before .before .before .before .before .before .before .before .before .before .before .next-line in
-    (taken-line (l .inv .0) (t .result) (t .ensures) _ _ _ (n .result) (c .before .before .before .before .before .before .before .before .before .before .before .before .before .before .before .before .before .before .loop-test .taken) (c .before .before .before .before .before .before .before .before .before .before .before .before .before .before .next .given .1) (n .ensures) (n .kept .1 .1 .1 .1 .0), omega (arith, l .inv .1, n .kept .1 .1 .0), omega (arith, l .inv .2, n .kept .1 .1 .1 .0))
+    let l = c .before .before .before .before .before .before .before .before .before .before .before .before .before .before .loop in
+    let w = l .inv .0 in
+    let t = c .before .before .before .before .before .before .before .before .before .before .before .before .next-line in
+    let m = c .before .before .before .before .unheard in (
+      feeding-line w (t .result) (t .ensures) (c .before .before .before .before .before .before .before .before .before .before .before .before .before .loop-test .taken) (c .before .before .before .before .before .before .before .before .before .next .given .1)
+          (notes-part (omega (arith, w .room, w .long)) (unheard-box (l .c) _ (unheard _ (c .before .before .before .before .before .before .before .match2 .keys2))) (m .result) (m .kept .1 .1 .0) (m .ensures (l .c))),
+      l .inv .1,
+      l .inv .2,
+    )
+
+tick-requires : tie.Need-tick-requires Inv-loop μ-loop
+tick-requires c κs = c .before .before .before .before .before .before .before .before .before .before .before .before .before .before .before .before .loop .inv .0 .carries .sound
+
+heard-requires : tie.Need-heard-requires Inv-loop μ-loop
+heard-requires c κs = c .before .before .before .before .before .before .before .before .before .before .before .before .before .before .before .before .before .before .before .before .loop .inv .0 .carries .runs
+
+add-len-2 : tie.Need-add-len-2 Inv-loop μ-loop
+add-len-2 c =
+    let l = c .before .before .before .before .before .before .before .before .before .before .before .before .before .before .before .before .before .before .before .before .before .before .before .before .before .loop in
+    let w = l .inv .0 in
+    let m = c .before .before .before .before .heard in
+    omega (arith, written (m .ensures .writes) (m .kept .1 .1 .0), part-length (l .out) (l .len), w .room, w .long, c .before .before .before .before .before .before .before .before .before .before .before .before .before .before .before .before .before .before .before .before .before .before .before .before .before .before .before .before .before .before .before .before .good)
+
+sample-fits : (c : tie.After-known-told2 Inv-loop μ-loop) → SFits w32 (c .before .call .given .0 .0)
+sample-fits c = record { sfits = c .known-told2 .given .0 .1 }
+
+loop-again-2 : tie.Need-loop-again-2 Inv-loop μ-loop
+unfolding partOf
+loop-again-2 c =
+    let start = c .before .before .before .before .before .before .before .before .before .before .before .before .before .before .before .before .before .before .before .before .before .before .before .before .before .before .before .before .before .before .before .before in
+    let l = c .before .before .before .before .before .before .before .before .before .before .before .before .before .before .before .before .before .before .before .before .before .before .before .before .before .loop in
+    let w = l .inv .0 in
+    let t = c .before .before .before .before .before .before .before .before .before .before .before .before .before .before .before .before .before .before .before .before .before .before .before .next-line in
+    let room = c .before .before .before .before .before .before .before .before .before .before .before .before .before .before .before .before .before .before .before .before .before .before .before .before .loop-test .taken in
+    let line = c .before .before .before .before .before .before .before .before .before .before .before .before .before .before .before .before .before .before .before .before .next .given .1 in
+    let stage = c .before .before .before .before .before .before .before .before .before .before .before .before .before .before .before .before .before .enum-told2 .given .1 in
+    let read = c .before .before .before .before .before .before .before .before .before .before .before .before .before .before .read in
+    let m = c .before .before .before .before .heard in
+    let heard = tick-heard (omega (arith, l .inv .1, start .pre .1 .0)) (line-short _ _ (t .result) (t .ensures) line) (c .before .before .before .before .before .before .before .before .tick .result) (read .ensures) (c .before .before .before .before .before .before .before .before .before .before .call .given .1) (sample-fits (c .before .before .before .before .before .before .before .before .before)) (c .before .before .before .before .before .before .before .before .tick .ensures) (c .before .before .before .before .before .before .heard-tick .ensures) in (
+      feeding-line w (t .result) (t .ensures) room line
+          (notes-part (omega (arith, w .room, w .long)) (recorded-box (l .k) stage heard) (m .result) (m .kept .1 .1 .0)
+          (ticked-writes (l .k) stage heard (w .carries .sound) (omega (arith, part-length (l .out) (l .len), room)) (m .ensures))),
+      omega (arith, l .inv .1, read .kept .1 .0),
+      l .inv .2,
+    )
+
+other-requires : tie.Need-other-requires Inv-loop μ-loop
+other-requires c κs = c .before .before .before .before .before .before .before .before .before .before .before .before .before .before .before .before .loop .inv .0 .carries .sound
+
+loop-again-3 : tie.Need-loop-again-3 Inv-loop μ-loop
+unfolding partOf
+loop-again-3 c =
+    let start = c .before .before .before .before .before .before .before .before .before .before .before .before .before .before .before .before .before .before .before .before .before .before .before .before .before .before .before .before .before in
+    let l = c .before .before .before .before .before .before .before .before .before .before .before .before .before .before .before .before .before .before .before .before .before .before .loop in
+    let w = l .inv .0 in
+    let t = c .before .before .before .before .before .before .before .before .before .before .before .before .before .before .before .before .before .before .before .before .next-line in
+    let line = c .before .before .before .before .before .before .before .before .before .before .before .before .before .before .before .before .before .next .given .1 in
+    let stage = c .before .before .before .before .before .before .before .before .before .before .before .before .before .before .enum-told2 .given .1 in
+    let read = c .before .before .before .before .before .before .before .before .before .before .before .read in
+    let made = c .before .before .before .before .before .other in
+    let answer = c .before .by-answer .ensures in
+    let heard = other-heard (omega (arith, l .inv .1, start .pre .1 .0)) (line-short _ _ (t .result) (t .ensures) line) (read .result) (made .result) (omega (arith, l .inv .2, start .pre .1 .1)) (c .before .before .before .before .before .before .before .before .match3 .keys2) (read .ensures) (made .ensures) answer in (
+      feeding-line w (t .result) (t .ensures) (c .before .before .before .before .before .before .before .before .before .before .before .before .before .before .before .before .before .before .before .before .before .loop-test .taken) line
+          (notes-none (omega (arith, w .room, w .long)) (recorded-box (l .k) stage heard) (passed-note (l .k) stage heard answer (c .passed .ensures .next))),
+      omega (arith, l .inv .1, read .kept .1 .0),
+      omega (arith, l .inv .2, made .kept .1 .1 .1 .0),
+    )
 
 returns-2 : tie.Need-returns-2 Inv-loop μ-loop
 returns-2 c = feeding-full (c .before .loop .inv .0) (c .loop-test .left)
@@ -71,6 +124,17 @@ feed-with-spec =
     tie.close
     (tie.spec
     Inv-loop μ-loop loop-holds (λ c. search needs) (λ c κs. search needs) (λ c. search needs) (λ c. search needs)
-    (λ c. search needs) (λ c. search needs) (λ c. search needs) returns sub-note part-note-start part-note-end
-    (λ c. search needs) (λ c. search needs) (λ c. search needs) note-requires add-len loop-less loop-again
+    (λ c. search needs) (λ c. search needs) (λ c. search needs) returns (λ c. search needs)
+    (λ c. lies (c .before .before) .order) (λ c. lies (c .before .before) .order) (λ c. let b = lies (c .before .before) in omega (arith, b .inside))
+    (λ c. search needs) (λ c. search needs) (λ c. search needs) unheard-requires add-len
+    (λ c. let b = lies (c .before .before .before .before .before .before .before .before .before) in omega (arith, b .inside, b .place, b .ahead))
+    loop-again
+    (λ c. lies (c .before .before .before) .order) (λ c. lies (c .before .before .before) .order) (λ c. let b = lies (c .before .before .before) in omega (arith, b .inside))
+    (λ c κs. search needs) (λ c. search needs) tick-requires (λ c κs. search needs)
+    (λ c. let w = c .before .before .before .before .before .before .before .before .before .before .before .before .before .before .before .before .before .before .before .loop .inv .0 in omega (arith, w .room, w .long)) (λ c. let w = c .before .before .before .before .before .before .before .before .before .before .before .before .before .before .before .before .before .before .before .loop .inv .0 in omega (arith, w .room, w .long)) (λ c. search needs) heard-requires add-len-2
+    (λ c. let b = lies (c .before .before .before .before .before .before .before .before .before .before .before .before .before .before .before .before .before .before .before .before) in omega (arith, b .inside, b .place, b .ahead))
+    loop-again-2
+    other-requires (λ c κs. search needs) (λ c κs. search needs)
+    (λ c. let b = lies (c .before .before .before .before .before .before .before .before .before .before .before .before .before .before .before .before .before) in omega (arith, b .inside, b .place, b .ahead))
+    loop-again-3
     (λ c. search needs) (λ c. search needs) (λ c. search needs) returns-2)

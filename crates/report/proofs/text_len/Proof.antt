@@ -1,9 +1,8 @@
-use mathlib.Core.Path.{_≡_, ap}
+use mathlib.Core.Path.{_≡_, refl, ap}
 use Prim.Native.Nat.{_+_, _-_, _≤_}
 use native.Mathlib.Omega.{arith}
-use borrow.Author.Needs.{needs}
 use lib.ListN.{length}
-use Rattle.report.specs.Table.{saysShown, textBy}
+use Rattle.report.specs.Table.{textBy}
 use Rattle.report.proofs.Printing.{restBy, rest-whole, rest-length, rest-none}
 use Rattle.report.proofs.text_len.Statement.{statement}
 use Rattle.report.proofs.text_len.Tie as tie
@@ -26,30 +25,27 @@ array-copy-out-tally c = omega (arith, c .before .before .pre .few)
 add-row-len : tie.Need-add-row-len Inv-loop μ-loop
 add-row-len c = omega (arith, c .before .before .before .pre .few)
 
-shown-from-requires : tie.Need-shown-from-requires Inv-loop μ-loop
-shown-from-requires c κs = c .before .before .before .pre .summed (c .before .before .loop .k) (c .before .loop-test .taken)
-
 row-len-requires : tie.Need-row-len-requires Inv-loop μ-loop
-row-len-requires c κs = search needs
+row-len-requires c κs = c .before .before .before .pre .summed (c .before .before .loop .k) (c .before .loop-test .taken)
 
 add-n : tie.Need-add-n Inv-loop μ-loop
 add-n c =
-    let a = c .before .before .before .before .before .args in
-    let l = c .before .before .before .before .loop in
-    let e = rest-length (a .t1) (a .first) (a .hours) (l .k) (saysShown (c .before .shown-from .result)) (c .before .before .before .before .before .pre) (c .before .before .before .loop-test .taken) (c .before .shown-from .ensures) in
-    omega (arith, c .row-len .ensures, l .inv .1, c .before .before .before .before .before .pre .short)
+    let a = c .before .before .before .before .args in
+    let l = c .before .before .before .loop in
+    let e = rest-length (a .t1) (a .first) (a .hours) (l .k) _ (c .before .before .before .before .pre) (c .before .before .loop-test .taken) refl in
+    omega (arith, c .row-len .ensures, l .inv .1, c .before .before .before .before .pre .short)
 
 add-k : tie.Need-add-k Inv-loop μ-loop
-add-k c = omega (arith, c .before .before .before .before .before .pre .few, c .before .before .before .loop-test .taken)
+add-k c = omega (arith, c .before .before .before .before .pre .few, c .before .before .loop-test .taken)
 
 loop-less : tie.Need-loop-less Inv-loop μ-loop
 loop-less c = omega arith
 
 loop-again : tie.Need-loop-again Inv-loop μ-loop
 loop-again c =
-    let a = c .before .before .before .before .before .args in
-    let l = c .before .before .before .before .loop in
-    let e = rest-length (a .t1) (a .first) (a .hours) (l .k) (saysShown (c .before .shown-from .result)) (c .before .before .before .before .before .pre) (c .before .before .before .loop-test .taken) (c .before .shown-from .ensures) in
+    let a = c .before .before .before .before .args in
+    let l = c .before .before .before .loop in
+    let e = rest-length (a .t1) (a .first) (a .hours) (l .k) _ (c .before .before .before .before .pre) (c .before .before .loop-test .taken) refl in
     (omega arith, omega (arith, c .row-len .ensures, l .inv .1))
 
 returns : tie.Need-returns Inv-loop μ-loop
@@ -68,7 +64,6 @@ text-len-spec =
     mul-tally
     array-copy-out-tally
     add-row-len
-    shown-from-requires
     row-len-requires
     add-n
     add-k

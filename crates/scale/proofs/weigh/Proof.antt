@@ -1,25 +1,32 @@
-use mathlib.Core.Path.{_≡_, ap, _∙_}
-use lib.ListN.{length}
+use mathlib.Core.Path.{ap, _∙_}
 use borrow.Author.Needs.{needs}
-use Rattle.scale.specs.Scale.{showable}
+use Rattle.laws.specs.Pick.{so}
+use Rattle.window.specs.declared.Window.{Window}
+use Rattle.dosing.specs.Rules.{units}
+use Rattle.scale.specs.Scale.{asWindow, showable}
+use Rattle.scale.specs.Laws.{as-filtered}
 use Rattle.scale.proofs.Laws.{unweighed, weighed}
 use Rattle.scale.proofs.weigh.Statement.{statement}
 use Rattle.scale.proofs.weigh.Tie as tie
 
-places : (c : tie.Start) → length (c .args .window .samples) ≡ 128
-places c = search needs
+-- the window that the samples stand for
+abbrev window : tie.Start → Window
+window c = asWindow (c .args .samples .now) (c .args .held)
+
+holds-none-requires : tie.Need-holds-none-requires
+holds-none-requires c κs = search needs
 
 shown-requires : tie.Need-shown-requires
 shown-requires c κs = search needs
 
 returns : tie.Need-returns
 returns c =
-    let p = c .before .before .before in
-    let a = p .args in
-    c .shown .ensures ∙ ap showable (unweighed (a .set) (a .window) (a .z) (a .s) (a .n) (places p) (c .before .if1 .taken))
+    let e = c .before .before in
+    let a = e .before .args in
+    c .shown .ensures ∙ ap showable (unweighed (a .set) (window (e .before)) (a .z) (a .s) (a .n) (so (e .holds-none .ensures) (c .before .if1 .taken)))
 
-mean-of-requires : tie.Need-mean-of-requires
-mean-of-requires c κs = search needs
+mean-lent-requires : tie.Need-mean-lent-requires
+mean-lent-requires c κs = search needs
 
 net-requires : tie.Need-net-requires
 net-requires c κs = search needs
@@ -38,18 +45,20 @@ returns-2 c =
     let o = c .before in
     let w = o .before .before in
     let m = w .before in
-    let p = m .before .before .before in
-    let a = p .args in
+    let e = m .before .before in
+    let a = e .before .args in
+    let mean = m .mean-lent .ensures ∙ ap units (as-filtered _ _ _) in
     c .shown2 .ensures
-    ∙ ap showable (weighed (a .set) (a .window) (a .z) (a .s) (a .n) (places p) (m .before .if1 .left) (m .mean-of .ensures) (w .net .ensures) (o .before .stable-of .ensures) (o .over-capacity .ensures))
+    ∙ ap showable (weighed (a .set) (window (e .before)) (a .z) (a .s) (a .n) (so (e .holds-none .ensures) (m .before .if1 .left)) mean (w .net .ensures) (o .before .stable-of .ensures) (o .over-capacity .ensures))
 
 pub weigh-spec : {M : Type 1} → statement M
 weigh-spec =
     tie.close
     (tie.spec
+    holds-none-requires
     shown-requires
     returns
-    mean-of-requires
+    mean-lent-requires
     net-requires
     stable-of-requires
     over-capacity-requires

@@ -1,10 +1,10 @@
-use mathlib.Core.Path.{refl, sym, ap, _∙_}
+use mathlib.Core.Path.{sym, ap, _∙_}
 use native.Mathlib.Omega.{arith}
 use denote.Ref.{now}
+use Rattle.operands.specs.Parsing.{on-good, on-bad, good-as}
 use Rattle.calls.specs.Call.{bytesCall}
 use Rattle.calls.specs.Reading.{aloneCall}
-use Rattle.calls.proofs.Steps.{on-bad, good-as, unasked, asked}
-use Rattle.calls.proofs.Hex.{carried-half, whole, as-carried, no-bytes, alone-guard}
+use Rattle.calls.proofs.Steps.{unasked, asked, some-bytes, no-bytes, whole, few}
 use borrow.Author.Needs.{needs}
 use Rattle.calls.proofs.asks.alone.Statement.{statement}
 use Rattle.calls.proofs.asks.alone.Tie as tie
@@ -14,8 +14,12 @@ unfolding bytesCall
 returns-2 c =
     let n = c .before .before .count .ensures in
     let e = c .before .room-call .ensures in
-    as-carried _ (alone-guard _) (sym (c .before .before .before .before .byte-at .ensures) ∙ c .before .before .before .if1 .left) n
-    (asked (c .ended .ensures) refl (good-as (ap (aloneCall (c .before .before .before .before .before .before .args .letter)) (whole n)) ∙ e .reads _) (omega (arith, e .size, n)) (e .within))
+    let a = c .before .before .before .before .before .before .args in
+    asked (c .ended .ensures)
+    (on-good _ (some-bytes (now (a .line)) (sym (c .before .before .before .before .byte-at .ensures) ∙ c .before .before .before .if1 .left) n))
+    (good-as (ap (aloneCall (a .letter)) (whole n)) ∙ e .reads _)
+    (omega (arith, e .size, n))
+    (e .within)
 
 pub alone-spec : {M : Type 1} → statement M
 unfolding bytesCall
@@ -24,8 +28,8 @@ alone-spec =
     (tie.spec
     (λ c κs. search needs)
     (λ c. unasked (on-bad _ (no-bytes (now (c .before .before .before .args .line)) (λ e. c .if1 .taken (c .before .byte-at .ensures ∙ e)))))
-    (λ c κs. c .before .before .before .pre)
-    (λ c. omega (arith, c .count .ensures, carried-half (now (c .before .before .before .before .args .line)), c .before .before .before .before .pre))
-    (λ c. omega (arith, c .count .ensures, carried-half (now (c .before .before .before .before .args .line)), c .before .before .before .before .pre))
-    (λ c κs. (omega (arith, c .count .ensures, carried-half (now (c .before .before .before .before .args .line)), c .before .before .before .before .pre), omega arith))
+    (λ c κs. search needs)
+    (λ c. omega (arith, few _ (c .count .ensures) (c .before .before .before .before .pre))) (λ c. omega (arith, few _ (c .count .ensures) (c .before .before .before .before .pre)))
+    (λ c. omega (arith, few _ (c .count .ensures) (c .before .before .before .before .pre)))
+    (λ c κs. (omega (arith, few _ (c .count .ensures) (c .before .before .before .before .pre)), omega arith))
     (λ c κs. search needs) returns-2)

@@ -1,12 +1,9 @@
-use mathlib.Core.Path.{ap, _∙_}
+use mathlib.Core.Path.{refl, _∙_}
 use native.Mathlib.Omega.{arith}
-use borrow.Author.Tests.{not-true, not-false}
-use Rattle.laws.specs.Pick.{pick-t, pick-f}
-use Rattle.journal.specs.declared.Line.{Line}
-use Rattle.calls.specs.Call.{writeLine, doseAt}
+use Rattle.calls.specs.Call.{doseAt}
 use Rattle.calls.specs.Reads.{asCall, sizeOf, Within}
-use Rattle.calls.proofs.Steps.{on-good, on-bad, num, field-most, good-as, unasked, asked}
-use Rattle.calls.proofs.Figures.{dose-of}
+use Rattle.operands.specs.Parsing.{on-good, on-bad, num, field-most}
+use Rattle.calls.proofs.Steps.{row, no-row, unasked, asked}
 use borrow.Author.Needs.{needs}
 use Rattle.calls.proofs.asks.dose.Statement.{statement}
 use Rattle.calls.proofs.asks.dose.Tie as tie
@@ -16,10 +13,10 @@ unfolding doseAt asCall sizeOf Within
 returns-3 c =
     let room = num (c .before .before .before .before .before .field-at .ensures) (c .before .before .before .room .given .1) in
     asked (c .ended .ensures)
-    (on-good _ (c .before .before .before .before .before .before .before .before .numbers-at .ensures .reads ∙ pick-t _ _ _ (not-false _ (c .before .before .before .before .before .before .if1 .left))) ∙ on-good _ room)
-    (good-as (ap (λ (l : Line). writeLine l (c .before .before .before .room .given .0 .0)) (dose-of (c .before .before .before .before .before .before .before .before .numbers-at .result .values))))
+    (on-good _ (row (c .before .before .before .before .before .before .before .before .numbers-at .ensures) (c .before .before .before .before .before .before .if1 .left)) ∙ on-good _ room)
+    refl
     (omega arith)
-    (field-most 64 _ room)
+    (omega (arith, field-most _ _ room))
 
 pub dose-spec : {M : Type 1} → statement M
 unfolding doseAt
@@ -27,8 +24,8 @@ dose-spec =
     tie.close
     (tie.spec
     (λ c κs. search needs)
-    (λ c. unasked (on-bad _ (c .before .before .numbers-at .ensures .reads ∙ pick-f _ _ _ (not-true _ (c .if1 .taken)))))
+    (λ c. unasked (on-bad _ (no-row (c .before .before .numbers-at .ensures) (c .if1 .taken))))
     (λ c κs. search needs) (λ c. search needs) (λ c. search needs)
-    (λ c. unasked (on-good _ (c .before .before .before .before .before .numbers-at .ensures .reads ∙ pick-t _ _ _ (not-false _ (c .before .before .before .if1 .left))) ∙ on-bad _ (num (c .before .before .field-at .ensures) (c .enum-told .given .1))))
+    (λ c. unasked (on-good _ (row (c .before .before .before .before .before .numbers-at .ensures) (c .before .before .before .if1 .left)) ∙ on-bad _ (num (c .before .before .field-at .ensures) (c .enum-told .given .1))))
     (λ c. search needs) (λ c. search needs) (λ c. search needs) (λ c. search needs) (λ c. search needs)
-    (λ c. search needs) (λ c κs. search needs) returns-3)
+    (λ c κs. search needs) returns-3)

@@ -2,7 +2,8 @@ use mathlib.Core.Path.{refl}
 use native.Mathlib.Omega.{arith}
 use Rattle.calls.specs.Call.{flagField, linkAt}
 use Rattle.calls.specs.Reads.{asCall, sizeOf, Within}
-use Rattle.calls.proofs.Steps.{on-good, on-bad, num, unasked, asked}
+use Rattle.operands.specs.Parsing.{on-good, on-bad, num}
+use Rattle.calls.proofs.Steps.{unasked, asked}
 use borrow.Author.Needs.{needs}
 use Rattle.calls.proofs.asks.link.Statement.{statement}
 use Rattle.calls.proofs.asks.link.Tie as tie

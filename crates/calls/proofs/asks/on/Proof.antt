@@ -2,7 +2,8 @@ use mathlib.Core.Path.{refl, _∙_}
 use native.Mathlib.Omega.{arith}
 use Rattle.calls.specs.Call.{onAt}
 use Rattle.calls.specs.Reads.{asCall, sizeOf, Within}
-use Rattle.calls.proofs.Steps.{on-good, on-bad, num, field-most, unasked, asked}
+use Rattle.operands.specs.Parsing.{on-good, on-bad, num, field-most}
+use Rattle.calls.proofs.Steps.{unasked, asked}
 use borrow.Author.Needs.{needs}
 use Rattle.calls.proofs.asks.on.Statement.{statement}
 use Rattle.calls.proofs.asks.on.Tie as tie
@@ -11,7 +12,7 @@ returns-3 : tie.Need-returns-3
 unfolding onAt asCall sizeOf Within
 returns-3 c =
     let room = num (c .before .before .before .before .field-at2 .ensures) (c .before .before .room .given .1) in
-    asked (c .ended .ensures) (on-good _ (num (c .before .before .before .before .before .before .before .before .field-at .ensures) (c .before .before .before .before .before .before .hour .given .1)) ∙ on-good _ room) refl (omega arith) (field-most 64 _ room)
+    asked (c .ended .ensures) (on-good _ (num (c .before .before .before .before .before .before .before .before .field-at .ensures) (c .before .before .before .before .before .before .hour .given .1)) ∙ on-good _ room) refl (omega arith) (omega (arith, field-most _ _ room))
 
 pub on-spec : {M : Type 1} → statement M
 unfolding onAt
@@ -22,4 +23,4 @@ on-spec =
     (λ c. unasked (on-bad _ (num (c .before .before .field-at .ensures) (c .enum-told .given .1))))
     (λ c κs. search needs) (λ c. search needs) (λ c. search needs)
     (λ c. unasked (on-good _ (num (c .before .before .before .before .before .before .field-at .ensures) (c .before .before .before .before .hour .given .1)) ∙ on-bad _ (num (c .before .before .field-at2 .ensures) (c .enum-told2 .given .1))))
-    (λ c. search needs) (λ c κs. search needs) returns-3)
+    (λ c κs. search needs) returns-3)

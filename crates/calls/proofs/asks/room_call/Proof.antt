@@ -1,10 +1,9 @@
-use mathlib.Core.Path.{_≡_, refl, sym, _∙_, subst}
+use mathlib.Core.Path.{_≡_, refl, sym, subst}
 use Prim.Native.Nat.{ℕ, _≤_}
-use borrow.Author.Tests.{ne-eqb}
-use Rattle.laws.specs.Pick.{pick, pick-f}
+use Rattle.laws.specs.Pick.{pick, picks}
 use Rattle.calls.specs.Reads.{asCall, sizeOf, Within}
 use Rattle.calls.specs.Reading.{roomCall, roomMost, Carries}
-use Rattle.calls.proofs.Steps.{good-as}
+use Rattle.operands.specs.Parsing.{good-as}
 use Rattle.calls.specs.declared.Call as declared
 use Rattle.calls.proofs.asks.room_call.Statement.{statement}
 use Rattle.calls.proofs.asks.room_call.Tie as tie
@@ -15,20 +14,7 @@ by-key {letter} {k} {n} {number} {r} e h f = subst (λ (m : ℕ). Carries (roomC
 
 returns-8 : tie.Need-returns-8
 unfolding roomCall asCall sizeOf Within
-returns-8 c =
-    let n = c .match .rest in
-    record {
-      reads = λ bytes. good-as (
-          pick-f _ _ _ (ne-eqb _ _ (n .0 .0 .0 .0 .0 .0 .1))
-          ∙ pick-f _ _ _ (ne-eqb _ _ (n .0 .0 .0 .0 .0 .1))
-          ∙ pick-f _ _ _ (ne-eqb _ _ (n .0 .0 .0 .0 .1))
-          ∙ pick-f _ _ _ (ne-eqb _ _ (n .0 .0 .0 .1))
-          ∙ pick-f _ _ _ (ne-eqb _ _ (n .0 .0 .1))
-          ∙ pick-f _ _ _ (ne-eqb _ _ (n .0 .1))
-          ∙ pick-f _ _ _ (ne-eqb _ _ (n .1)));
-      size = refl;
-      within = c .before .pre .0;
-    }
+returns-8 c = record { reads = λ bytes. good-as (search picks); size = refl; within = c .before .pre .0 }
 
 pub room-call-spec : {M : Type 1} → statement M
 unfolding roomCall roomMost pick asCall sizeOf Within

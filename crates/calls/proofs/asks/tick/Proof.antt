@@ -10,7 +10,8 @@ use Rattle.laws.specs.Decimal.{good}
 use Rattle.calls.specs.declared.Call as declared
 use Rattle.calls.specs.Call.{tick, tickAt}
 use Rattle.calls.specs.Reads.{asCall, sizeOf, Within}
-use Rattle.calls.proofs.Steps.{on-good, on-bad, step, num, field-most, unasked, asked}
+use Rattle.operands.specs.Parsing.{on-good, on-bad, num, field-most}
+use Rattle.calls.proofs.Steps.{step, unasked, asked}
 use borrow.Author.Needs.{needs}
 use Rattle.calls.proofs.asks.tick.Statement.{statement}
 use Rattle.calls.proofs.asks.tick.Tie as tie
@@ -38,5 +39,5 @@ tick-spec =
     (λ c. (unasked (on-bad _ (step (c .before .before .signed-at .ensures) (c .enum-told .given .1))), refl))
     (λ c κs. search needs) (λ c. search needs) (λ c. search needs)
     (λ c. (unasked (on-good _ (step (c .before .before .before .before .before .before .signed-at .ensures) (c .before .before .before .before .sample .given .1)) ∙ on-bad _ (num (c .before .before .field-at .ensures) (c .enum-told2 .given .1))), refl))
-    (λ c. omega (arith, field-most 255 _ (num (c .before .before .before .field-at .ensures) (c .before .inputs .given .1))))
+    (λ c. omega (arith, field-most _ _ (num (c .before .before .before .field-at .ensures) (c .before .inputs .given .1))))
     (λ c κs. search needs) returns-3)

@@ -10,7 +10,8 @@ use Rattle.laws.specs.Decimal.{good}
 use Rattle.field.specs.Field.{weight}
 use Rattle.calls.specs.Call.{writeField, flagField, writeFieldAt}
 use Rattle.calls.specs.Reads.{asCall, sizeOf, Within}
-use Rattle.calls.proofs.Steps.{on-good, on-bad, step, num, field-most, unasked, asked}
+use Rattle.operands.specs.Parsing.{on-good, on-bad, num, field-most}
+use Rattle.calls.proofs.Steps.{step, unasked, asked}
 use borrow.Author.Needs.{needs}
 use Rattle.calls.proofs.asks.weight.Statement.{statement}
 use Rattle.calls.proofs.asks.weight.Tie as tie
@@ -40,5 +41,5 @@ weight-spec =
     (λ c. unasked (on-good _ (step (c .before .before .before .before .before .before .before .before .before .before .signed-at .ensures) (c .before .before .before .before .before .before .before .before .value .given .1)) ∙ on-good _ (on-good _ (num (c .before .before .before .before .before .before .field-at .ensures) (c .before .before .before .before .stable .given .1))) ∙ on-bad _ (on-bad _ (num (c .before .before .field-at2 .ensures) (c .enum-told3 .given .1)))))
     (λ c κs. search needs) (λ c. search needs) (λ c. search needs)
     (λ c. unasked (on-good _ (step (c .before .before .before .before .before .before .before .before .before .before .before .before .before .before .signed-at .ensures) (c .before .before .before .before .before .before .before .before .before .before .before .before .value .given .1)) ∙ on-good _ (on-good _ (num (c .before .before .before .before .before .before .before .before .before .before .field-at .ensures) (c .before .before .before .before .before .before .before .before .stable .given .1))) ∙ on-good _ (on-good _ (num (c .before .before .before .before .before .before .field-at2 .ensures) (c .before .before .before .before .over .given .1))) ∙ on-bad _ (num (c .before .before .field-at3 .ensures) (c .enum-told4 .given .1))))
-    (λ c. omega (arith, field-most 255 _ (num (c .before .before .before .field-at3 .ensures) (c .before .point .given .1))))
+    (λ c. omega (arith, field-most _ _ (num (c .before .before .before .field-at3 .ensures) (c .before .point .given .1))))
     (λ c κs. search needs) returns-5)

@@ -1,27 +1,31 @@
-use mathlib.Core.Path.{_≡_, sym}
-use mathlib.Core.Bool.{true, false}
+use mathlib.Core.Path.{_≡_}
+use mathlib.Core.Bool.{Bool, true}
+use Prim.Native.Nat.{ℕ, _+_, _*_, _/_, _%_, _≤_, _<_}
 use native.Mathlib.Omega.{arith}
-use Rattle.laws.specs.Pick.{pick-t, pick-f, so}
+use lib.Dec.{T, leb, eqb, leb→le, eqb→eq}
+use Rattle.laws.specs.Tests.{both, both-left, both-right, below, below-at}
+use Rattle.laws.specs.Pick.{pick, pick-t}
 use Rattle.laws.specs.Decimal.{isDigit}
-use Rattle.laws.specs.DecimalLaws.{digit-range}
-use Rattle.calls.specs.Call.{hexValue}
-use Rattle.calls.proofs.Hex.{hex-range}
+use Rattle.operands.specs.Bytes.{isHex, hexValue}
 use borrow.Author.Needs.{needs}
 use Rattle.calls.proofs.fields.hex_value.Statement.{statement}
 use Rattle.calls.proofs.fields.hex_value.Tie as tie
 
-digit : (c : tie.Then1) → isDigit (c .before .before .args .b) ≡ true
-digit c = so (c .before .is-digit .ensures) (c .if1 .taken)
+-- a digit's value by its bits, computed at each of the 256 bytes
+bits : ℕ → Bool
+bits b = pick (isHex b) (both (eqb (b % 16 + 9 * (b / 64)) (hexValue b)) (leb (hexValue b) 15)) true
 
-letter : (c : tie.Else1) → isDigit (c .before .before .args .b) ≡ false
-letter c = so (c .before .is-digit .ensures) (c .if1 .left)
+bits-all : T (below bits 256)
+unfolding below both bits isHex hexValue isDigit pick
+bits-all = tt
+
+bits-value : (b : ℕ) → b < 256 → isHex b ≡ true → (b % 16 + 9 * (b / 64) ≡ hexValue b) × (b % 16 + 9 * (b / 64) ≤ 15)
+unfolding bits
+bits-value b h e =
+    let t = rw (pick-t _ _ _ e) at (below-at bits 256 bits-all b h) in
+    let v = eqb→eq (b % 16 + 9 * (b / 64)) (hexValue b) (both-left _ _ t) in
+    (v, omega (arith, v, leb→le (hexValue b) 15 (both-right _ _ t)))
 
 pub hex-value-spec : {M : Type 1} → statement M
-unfolding hexValue
 hex-value-spec =
-    tie.close
-    (tie.spec
-    (λ c κs. search needs) (λ c. omega (arith, digit-range _ (digit c)))
-    (λ c. omega (arith, hex-range _ (c .before .before .pre) (letter c)))
-    (λ c. (sym (pick-t _ _ _ (digit c)), omega (arith, digit-range _ (digit c))))
-    (λ c. (sym (pick-f _ _ _ (letter c)), omega (arith, hex-range _ (c .before .before .pre) (letter c)))))
+    tie.close (tie.spec (λ c. omega arith) (λ c. omega arith) (λ c. bits-value (c .args .b) (search needs) (c .pre)))

@@ -1,15 +1,26 @@
-use mathlib.Core.Path.{_≡_, refl, ap, _∙_}
-use mathlib.Core.List.{List}
-use Prim.Native.Nat.{ℕ, _-_, _≤_}
+use mathlib.Core.Path.{_≡_, refl, sym, ap, _∙_}
+use mathlib.Core.List.{List, [], _∷_}
+use Prim.Native.Nat.{ℕ, _+_, _-_, _≤_, _<_}
 use native.Mathlib.Omega.{arith}
+use native.Mathlib.Numerals.{add-one}
 use denote.Ref.{now}
 use lib.ListN.{length, getD, take, set, length-set}
-use lib.Seq.{sets}
-use Rattle.calls.specs.Reading.{carried}
-use Rattle.calls.proofs.Hex.{store-more}
+use lib.Seq.{sets, take-suc, length-take-le}
+use Rattle.laws.specs.Over.{sets-append}
+use Rattle.operands.specs.Bytes.{carried}
 use borrow.Author.Needs.{needs}
 use Rattle.calls.proofs.fields.store.Statement.{statement}
 use Rattle.calls.proofs.fields.store.Tie as tie
+
+-- one byte more is stored
+store-more : (old bytes : List ℕ) (k : ℕ) → k < length bytes → set (sets old 0 (take k bytes)) k (getD bytes k 0) ≡ sets old 0 (take (k + 1) bytes)
+store-more old bytes k h =
+    let z : 0 + length (take k bytes) ≡ k = omega (arith, length-take-le k bytes (omega arith)) in
+    sym
+    (ap (λ (i : ℕ). sets old 0 (take i bytes)) (add-one k)
+    ∙ ap (sets old 0) (take-suc bytes k 0 h)
+    ∙ sets-append old 0 (take k bytes) (getD bytes k 0 ∷ [])
+    ∙ ap (λ (i : ℕ). set (sets old 0 (take k bytes)) i (getD bytes k 0)) z)
 
 abbrev Inv-loop : tie.InvT-loop
 Inv-loop s n out₀ k₀ out k = (k ≤ n) × (length out ≡ length out₀) × (out ≡ sets out₀ 0 (take k (carried s)))

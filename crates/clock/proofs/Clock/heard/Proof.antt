@@ -1,29 +1,31 @@
-use mathlib.Core.Path.{sym, _∙_}
+use mathlib.Core.Path.{refl, sym, _∙_}
 use borrow.Author.Tests.{not-true, not-false}
-use Rattle.clock.specs.Keeps.{fits-writable}
-use Rattle.clock.proofs.Writing.{marks-none, marks-unfit, marks-heard}
+use Rattle.laws.specs.Pick.{pick-f}
+use Rattle.clock.specs.Marking.{fitted, writes-none}
+use Rattle.clock.specs.Keeps.{heard-runs, fitted-is}
+use Rattle.clock.proofs.Writing.{does-none, does}
 use borrow.Author.Needs.{needs}
 use Rattle.clock.proofs.Clock.heard.Statement.{statement}
 use Rattle.clock.proofs.Clock.heard.Tie as tie
 
 returns : tie.Need-returns
-returns c = let a = c .before .before .args in marks-none (a .self) (c .before .before .pre) (a .heard) (c .if1 .taken)
+returns c = does-none (c .before .before .args .self) (c .before .before .pre) (c .if1 .taken)
 
 returns-2 : tie.Need-returns-2
+unfolding fitted
 returns-2 c =
-    let a = c .before .before .before .before .args in
-    marks-unfit (a .self) (c .before .before .before .before .pre) (a .heard) (c .before .before .if1 .left) (sym (c .before .fits2 .ensures) ∙ not-true _ (c .if2 .taken))
+    let start = c .before .before .before .before in
+    does (start .args .self) (c .before .before .if1 .left) (pick-f _ _ _ (sym (c .before .fits2 .ensures) ∙ not-true _ (c .if2 .taken))) (start .pre) (writes-none refl)
 
 by-heard-requires : tie.Need-by-heard-requires
-by-heard-requires c κs =
-    let a = c .before .before .before .before .before .args in
-    (c .before .before .before .before .before .pre, fits-writable (a .heard) (sym (c .before .before .fits2 .ensures) ∙ not-false _ (c .before .if2 .left)), c .before .before .before .if1 .left)
+by-heard-requires c κs = (c .before .before .before .before .before .pre, sym (c .before .before .fits2 .ensures) ∙ not-false _ (c .before .if2 .left), c .before .before .before .if1 .left)
 
 returns-3 : tie.Need-returns-3
 returns-3 c =
-    let a = c .before .before .before .before .before .before .before .before .args in
+    let start = c .before .before .before .before .before .before .before .before in
+    let a = start .args in
     let fits = sym (c .before .before .before .before .before .fits2 .ensures) ∙ not-false _ (c .before .before .before .before .if2 .left) in
-    marks-heard (a .self) (c .before .before .before .before .before .before .before .before .pre) (a .heard) (c .before .before .before .before .before .before .if1 .left) (fits-writable (a .heard) fits) (c .before .before .by-heard .ensures)
+    does (a .self) (c .before .before .before .before .before .before .if1 .left) (fitted-is (a .self) (a .heard) fits) (heard-runs (a .self) (a .heard) (start .pre)) (c .before .before .by-heard .ensures)
 
 pub heard-spec : {M : Type 1} → statement M
 heard-spec =

@@ -6,6 +6,15 @@ use Rattle.controller.proofs.Panels.{silent, registers-so, too-short, r
 use Rattle.controller.proofs.Controller.modbus.Statement.{statement}
 use Rattle.controller.proofs.Controller.modbus.Tie as tie
 
+abbrev start : tie.After-hear → tie.Start
+start c = c .before .before .before .before
+
+abbrev linked : tie.After-table → tie.After-link-after
+linked c = c .before .before .before .before .before
+
+abbrev asked : tie.After-table → tie.After-asked
+asked c = linked c .before .before
+
 -- an address is a byte
 cast-address : tie.Need-cast-address
 cast-address c =
@@ -29,7 +38,7 @@ polled-requires c κs = tt
 returns : tie.Need-returns
 returns c =
     let h = c .before .before .before in
-    silent _ _ _ (h .before .before .before .before .pre) (h .hear .result) (h .hear .ensures) (c .before .enum-told .given .1) (c .polled .ensures .0) (c .polled .ensures .1)
+    silent _ _ _ (start h .pre) (h .hear .result) (h .hear .ensures) (c .before .enum-told .given .1) (c .polled .ensures .0) (c .polled .ensures .1)
 
 link-after-requires : tie.Need-link-after-requires
 link-after-requires c κs = tt
@@ -57,10 +66,10 @@ returns-2 : tie.Need-returns-2
 returns-2 c =
     let w = c .before .before .before .before .before in
     let t = w .before .before in
-    let a = t .before .before .before in
+    let a = asked t in
     let h = a .before .before in
-    too-short _ _ _ (h .before .before .before .before .pre) (h .hear .result) (h .hear .ensures) (a .asked .given .0 .0) (a .asked .given .1)
-    (registers-so _ (h .before .before .before .before .pre) (t .table .ensures)) (w .serve .result) (w .serve .ensures)
+    too-short _ _ _ (start h .pre) (h .hear .result) (h .hear .ensures) (a .asked .given .0 .0) (a .asked .given .1)
+    (registers-so _ (start h .pre) (t .table .ensures)) (w .serve .result) (w .serve .ensures)
     (c .before .enum-told2 .given .1) (c .polled2 .ensures .0) (c .polled2 .ensures .1)
 
 polled-requires-3 : tie.Need-polled-requires-3
@@ -73,12 +82,11 @@ returns-3 : tie.Need-returns-3
 returns-3 c =
     let w = c .before .before .before .before .before .before in
     let t = w .before .before in
-    let l = t .before in
-    let a = l .before .before in
+    let a = asked t in
     let h = a .before .before in
-    replied-to _ _ _ (h .before .before .before .before .pre) (h .hear .result) (h .hear .ensures) (a .asked .given .0 .0) (a .asked .given .1)
-    (registers-so _ (h .before .before .before .before .pre) (t .table .ensures)) (w .serve .result) (w .serve .ensures)
-    (c .before .before .len .given .1) (l .link-after .ensures) (c .polled3 .ensures .0) (c .polled3 .ensures .1)
+    replied-to _ _ _ (start h .pre) (h .hear .result) (h .hear .ensures) (a .asked .given .0 .0) (a .asked .given .1)
+    (registers-so _ (start h .pre) (t .table .ensures)) (w .serve .result) (w .serve .ensures)
+    (c .before .before .len .given .1) (linked t .link-after .ensures) (c .polled3 .ensures .0) (c .polled3 .ensures .1)
 
 pub modbus-spec : {M : Type 1} → statement M
 modbus-spec =

@@ -1,19 +1,25 @@
-use mathlib.Core.Path.{sym, ap, _∙_}
+use mathlib.Core.Path.{refl, sym, ap, _∙_}
 use borrow.Author.Needs.{needs}
-use Rattle.controller.specs.Calls.{isReady, after}
+use borrow.Author.Tests.{not-true, not-false}
+use Rattle.laws.specs.Pick.{pick-t, pick-f, so}
+use Rattle.settings.specs.Says.{says}
+use Rattle.controller.specs.Calls.{isReady, settingsAnswer, after}
 use Rattle.controller.specs.Says.{saysSet}
-use Rattle.controller.proofs.Contracts.{sets, set-answers, not-taken}
+use Rattle.controller.proofs.Contracts.{sets}
 use Rattle.controller.proofs.Controller.settings.Statement.{statement}
 use Rattle.controller.proofs.Controller.settings.Tie as tie
 
 is-ready-requires : tie.Need-is-ready-requires
 is-ready-requires c κs = tt
 
+-- R3
+returns : tie.Need-returns
+unfolding isReady settingsAnswer after
+returns c =
+    sets _ _ (c .before .before .pre) (pick-f _ _ _ (so (c .before .is-ready .ensures) (not-true _ (c .if1 .taken)))) refl refl
+
 check-requires : tie.Need-check-requires
 check-requires c κs = tt
-
-set-answer-requires : tie.Need-set-answer-requires
-set-answer-requires c κs = tt
 
 enum-told : tie.Need-enum-told
 enum-told c = search needs
@@ -21,32 +27,33 @@ enum-told c = search needs
 taken-requires : tie.Need-taken-requires
 taken-requires c κs = tt
 
-returns : tie.Need-returns
-unfolding isReady after
-returns c =
-    let k = c .before .before .before in
-    let p = k .before .before .before in
-    sets (p .args .self) (p .args .set) (p .pre)
-    (ap saysSet (c .taken .ensures .1 ∙ sym (c .before .enum-told .given .1)) ∙ k .set-answer .ensures ∙ set-answers (p .args .self) (p .args .set) (k .before .before .is-ready .ensures) (k .before .check .ensures))
-    (rw (c .taken .ensures .1) (c .taken .ensures .0))
+enum-known-row : tie.Need-enum-known-row
+enum-known-row c = search needs
 
 returns-2 : tie.Need-returns-2
-unfolding isReady
+unfolding isReady settingsAnswer after
 returns-2 c =
-    let k = c .before in
-    let p = k .before .before .before in
-    sets (p .args .self) (p .args .set) (p .pre)
-    (k .set-answer .ensures ∙ set-answers (p .args .self) (p .args .set) (k .before .before .is-ready .ensures) (k .before .check .ensures))
-    (not-taken (k .set-answer .result) _ _ (c .match .keys2))
+    let k = c .before .before .before in
+    let i = k .before .before in
+    sets _ _ (i .before .pre) (pick-t _ _ _ (so (i .is-ready .ensures) (not-false _ (k .before .if1 .left))) ∙ sym (k .check .ensures) ∙ ap says (c .before .enum-told .given .1)) (c .taken .ensures .0) (ap saysSet (c .taken .ensures .1))
+
+-- R2
+returns-3 : tie.Need-returns-3
+unfolding isReady settingsAnswer after
+returns-3 c =
+    let k = c .before .before .before in
+    let i = k .before .before in
+    sets _ _ (i .before .pre) (pick-t _ _ _ (so (i .is-ready .ensures) (not-false _ (k .before .if1 .left))) ∙ sym (k .check .ensures) ∙ ap says (c .before .row .given .1)) refl refl
 
 pub settings-spec : {M : Type 1} → statement M
 settings-spec =
     tie.close
     (tie.spec
     is-ready-requires
+    returns
     check-requires
-    set-answer-requires
     enum-told
     taken-requires
-    returns
-    returns-2)
+    enum-known-row
+    returns-2
+    returns-3)

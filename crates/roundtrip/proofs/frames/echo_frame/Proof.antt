@@ -17,7 +17,7 @@ use Rattle.frame.specs.Frame.{frame, framable, writeOf}
 use Rattle.frame.specs.FrameLaws.{frame-most, framable-is}
 use Rattle.frame.specs.Read.{readOf}
 use Rattle.frame.specs.RoundTrip.{round-trip-first}
-use Rattle.frame.specs.Says.{saysWrote, wrote-one, found-one, Reads}
+use Rattle.frame.specs.Says.{saysWrote, wrote-one, found-one, ReadsFrame}
 use Rattle.frame.specs.declared.Wrote.{Wrote}
 use Rattle.frame.specs.declared.Wrote.the-variants as W
 use Rattle.frame.specs.declared.Found.the-variants as F
@@ -75,7 +75,7 @@ record Back (b body : List ℕ) (n : ℕ) : Type 0 where
   holds : set body (n - 1) 0 ≡ b ++ replicate (255 - length b) 0
 
 -- what was read back
-module _ (b : List ℕ) (r : Read) (f : framable b ≡ true) (reads : Reads (frame b) r) where
+module _ (b : List ℕ) (r : Read) (f : framable b ≡ true) (reads : ReadsFrame (frame b) r) where
   back : readOf (frame b) ≡ done (record { place = length (frame b) - 1; bytes = b ++ check b ∷ [] })
   back = rw append-nil at (round-trip-first b [] f)
 

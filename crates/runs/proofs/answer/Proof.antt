@@ -1,0 +1,133 @@
+use mathlib.Core.Path.{_≡_, refl, sym, _∙_, subst}
+use mathlib.Core.List.{List, _++_}
+use Prim.Native.Nat.{ℕ, _-_, _≤_}
+use native.Mathlib.Omega.{arith}
+use denote.Ref.{now}
+use lib.ListN.{length, take, drop, length-append, length-drop}
+use lib.Seq.{length-take-le}
+use mir.Syntax.{w32}
+use mir.Val.{SFits}
+use mir.Facts.{toZ-ofZ}
+use Rattle.controller.specs.declared.Controller.{Controller}
+use Rattle.controller.specs.declared.Requested.{Requested}
+use Rattle.controller.specs.Says.{Replies}
+use Rattle.calls.specs.declared.Call as read
+use Rattle.calls.specs.declared.Call.the-variants as C
+use Rattle.calls.specs.Reads.{asCall, Within, ReadsCall}
+use Rattle.lines.specs.declared.Intake.{Intake}
+use Rattle.lines.specs.declared.Taken.{Taken}
+use Rattle.lines.specs.declared.Next.the-variants.{Line}
+use Rattle.lines.specs.Intake.{nextOf, Behind}
+use Rattle.acts.specs.Script.{Made, Brings, brings-none, brings-line, brings-more, line-behind, line-short, none-waits, made-read, made-ticked, made-asked}
+use Rattle.runs.specs.Runs.{Stops}
+use borrow.Author.Needs.{needs}
+use Rattle.runs.proofs.answer.Statement.{statement}
+use Rattle.runs.proofs.answer.Tie as tie
+
+-- ---- what a line's call makes of the controller, by its way
+
+asked : {c : Controller} (bytes : List ℕ) {call : read.Call} {n room : ℕ} {old new : List ℕ} (r : Requested) → call ≡ C.Request n room → length old ≡ room → Replies c (take n bytes) old new r → Made c (asCall bytes call) (r .next)
+asked {c} bytes {n = n} {room = room} r e f h = subst (λ (k : read.Call). Made c (asCall bytes k) (r .next)) (sym e) (made-asked bytes n room r f h)
+
+-- a line request's bytes and its reply have room
+roomy : {call : read.Call} {n room : ℕ} → call ≡ C.Request n room → Within call → (n ≤ 2048) × (room ≤ 64)
+unfolding Within
+roomy e w = subst Within e w
+
+-- a reply in the first bytes of a buffer leaves its length
+part-length : (spare part : List ℕ) (k : ℕ) → k ≤ length spare → length part ≡ length (take k spare) → length (part ++ drop k spare) ≡ length spare
+part-length spare part k h e = omega (arith, e, length-append part (drop k spare), length-take-le k spare h, length-drop k spare)
+
+-- the lines behind it find that controller
+step : (input : List ℕ) (held : Intake) (t : Taken) → t ≡ nextOf held input → {first c d : Controller} {start : Intake} {from to : ℕ} {call : read.Call} {old new : List ℕ}
+    → Brings first start input c held → t .next ≡ Line from to → ReadsCall (take (to - from) (drop from input)) old new call → 2048 ≤ length old → Made c (asCall new call) d → Brings first start input d (t .intake)
+step input held t e g n r h m = brings-line input held t e g n (made-read r h (line-short input held t e n) m)
+
+-- ---- the loop
+
+abbrev Inv-loop : tie.InvT-loop
+Inv-loop input bytes₀ spare₀ out₀ at c₀ held₀ len₀ bytes spare out c held len =
+    Brings c₀ held₀ input c held × (length input - held .at ≤ length input - held₀ .at) × (length bytes ≡ length bytes₀) × (length spare ≡ length spare₀) × (length out ≡ length out₀)
+
+abbrev μ-loop : tie.MeasureT-loop
+μ-loop input bytes₀ spare₀ out₀ at c₀ held₀ len₀ bytes spare out c held len = length input - held .at
+
+-- the line that was found
+behind : (c : tie.After-with-room Inv-loop μ-loop) → Behind (c .before .before .before .before .before .before .before .loop .held) (now (c .before .before .before .before .before .before .before .before .before .before .before .before .args .input)) (c .before .before .before .next .given .0 .0) (c .before .before .before .next .given .0 .1 .0) (c .before .before .before .before .before .before .next-line .result .intake)
+behind c = line-behind _ _ _ (c .before .before .before .before .before .before .next-line .ensures) (c .before .before .before .next .given .1)
+
+sample-fits : (c : tie.After-known-told2 Inv-loop μ-loop) → SFits w32 (c .before .call .given .0 .0)
+sample-fits c = search needs
+
+loop-again : tie.Need-loop-again Inv-loop μ-loop
+loop-again c =
+    let inv = c .before .before .before .before .before .before .before .before .before .before .before .before .before .before .before .before .before .before .before .before .before .loop .inv in
+    let read = c .before .before .before .before .before .before .before .before .before .before .before .read in
+    let b = behind (c .before .before .before .before .before .before .before .before .before .before .before .before .before .before) in (
+      step _ _ _ (c .before .before .before .before .before .before .before .before .before .before .before .before .before .before .before .before .before .before .before .before .next-line .ensures) (inv .0) (c .before .before .before .before .before .before .before .before .before .before .before .before .before .before .before .before .before .next .given .1) (read .ensures) (omega (arith, inv .2, c .before .before .before .before .before .before .before .before .before .before .before .before .before .before .before .before .before .before .before .before .before .before .before .before .before .before .pre .1 .0))
+          (made-ticked _ (c .before .before .before .before .before .tick .result) (c .before .before .before .before .before .before .before .call .given .1) (toZ-ofZ (sample-fits (c .before .before .before .before .before .before))) (c .before .before .before .before .before .tick .ensures)),
+      omega (arith, inv .1, b .place, b .ahead, b .inside),
+      read .kept .1 .0 ∙ inv .2,
+      inv .3,
+      c .before .before .say-tick .kept .0 ∙ inv .4,
+    )
+
+loop-again-2 : tie.Need-loop-again-2 Inv-loop μ-loop
+loop-again-2 c =
+    let inv = c .before .before .before .before .before .before .before .before .before .before .before .before .before .before .before .before .before .before .before .before .before .before .before .before .before .before .before .before .before .before .before .loop .inv in
+    let read = c .before .before .before .before .before .before .before .before .before .before .before .before .before .before .before .before .before .before .before .before .before .read in
+    let b = behind (c .before .before .before .before .before .before .before .before .before .before .before .before .before .before .before .before .before .before .before .before .before .before .before .before) in
+    let room = c .before .before .before .before .before .before .before .before .before .before .before .before .before .before .before .before .call2 .given .0 .1 .0 in
+    let spare = c .before .before .before .before .before .before .before .before .before .before .before .before .before .lend .last .0 in
+    let fits : room ≤ length spare = omega (arith, roomy (c .before .before .before .before .before .before .before .before .before .before .before .before .before .before .before .before .call2 .given .1) (read .ensures .within) .1, c .before .before .before .before .before .before .before .before .before .before .before .before .before .lend .kept .0, inv .3, c .before .before .before .before .before .before .before .before .before .before .before .before .before .before .before .before .before .before .before .before .before .before .before .before .before .before .before .before .before .before .before .before .before .before .before .before .pre .1 .1) in (
+      step _ _ _ (c .before .before .before .before .before .before .before .before .before .before .before .before .before .before .before .before .before .before .before .before .before .before .before .before .before .before .before .before .before .before .next-line .ensures) (inv .0) (c .before .before .before .before .before .before .before .before .before .before .before .before .before .before .before .before .before .before .before .before .before .before .before .before .before .before .before .next .given .1) (read .ensures) (omega (arith, inv .2, c .before .before .before .before .before .before .before .before .before .before .before .before .before .before .before .before .before .before .before .before .before .before .before .before .before .before .before .before .before .before .before .before .before .before .before .before .pre .1 .0))
+          (asked _ (c .before .before .before .before .before .before .before .before .request .result) (c .before .before .before .before .before .before .before .before .before .before .before .before .before .before .before .before .call2 .given .1) (length-take-le room spare fits) (c .before .before .before .before .before .before .before .before .request .ensures)),
+      omega (arith, inv .1, b .place, b .ahead, b .inside),
+      read .kept .1 .0 ∙ inv .2,
+      part-length spare (c .before .before .before .before .before .before .before .before .request .last .1 .1 .0) room fits (c .before .before .before .before .before .before .before .before .request .kept .1 .1 .0) ∙ c .before .before .before .before .before .before .before .before .before .before .before .before .before .lend .kept .0 ∙ inv .3,
+      c .before .before .say-request .kept .0 ∙ inv .4,
+    )
+
+-- every whole line is answered
+returns : tie.Need-returns Inv-loop μ-loop
+unfolding Stops
+returns c =
+    let brings = brings-more _ _ _ (c .before .before .before .next-line .ensures) (c .before .before .before .before .loop .inv .0) (c .enum-told .given .1) in
+    record { sound = brings .sound; stops = (brings, none-waits _ _ _ (c .before .before .before .next-line .ensures) (c .enum-told .given .1)) }
+
+-- a call that is no tick and no line request
+returns-2 : tie.Need-returns-2 Inv-loop μ-loop
+unfolding Stops
+returns-2 c =
+    let inv = c .before .before .before .before .before .before .before .before .before .before .before .before .before .before .loop .inv in
+    let read = c .before .before .before .before .read in
+    let b = behind (c .before .before .before .before .before .before .before) in
+    record {
+      sound = inv .0 .sound;
+      stops = record {
+        made = λ d m. step _ _ _ (c .before .before .before .before .before .before .before .before .before .before .before .before .before .next-line .ensures) (inv .0) (c .before .before .before .before .before .before .before .before .before .before .next .given .1) (read .ensures) (omega (arith, inv .2, c .before .before .before .before .before .before .before .before .before .before .before .before .before .before .before .before .before .before .before .pre .1 .0)) m;
+        within = read .ensures .within;
+        noTick = c .before .match2 .keys2;
+        noLine = c .match3 .keys2;
+        less = omega (arith, inv .1, b .place, b .ahead, b .inside);
+      };
+    }
+
+pub answer-spec : {M : Type 1} → statement M
+answer-spec =
+    tie.close
+    (tie.spec
+    Inv-loop μ-loop (λ c. (brings-none (c .before .before .before .before .pre .0), omega arith, refl, refl, refl))
+    (λ c κs. tt) (λ c. search needs) (λ c. search needs)
+    (λ c. search needs) (λ c. search needs) (λ c. search needs) returns
+    (λ c κs. tt) (λ c. behind c .order) (λ c. behind c .order) (λ c. omega (arith, behind c .inside)) (λ c κs. tt)
+    (λ c. search needs) (λ c κs. c .before .before .before .before .before .before .before .before .before .before .before .before .before .before .before .loop .inv .0 .sound) (λ c κs. tt)
+    (λ c. let b = behind (c .before .before .before .before .before .before .before .before .before .before .before .before .before .before) in omega (arith, b .place, b .ahead, b .inside)) loop-again
+    (λ c. search needs) (λ c. search needs) (λ c. search needs) (λ c. search needs) returns-2
+    (λ c. search needs) (λ c. search needs) (λ c κs. tt)
+    (λ c. omega (arith, roomy (c .before .before .before .before .before .call2 .given .1) (c .before .before .before .before .before .before .before .before .before .before .read .ensures .within) .0, c .before .before .before .before .before .before .before .before .before .before .read .kept .1 .0, c .before .before .before .before .before .before .before .before .before .before .before .before .before .before .before .before .before .before .before .before .loop .inv .2, c .before .before .before .before .before .before .before .before .before .before .before .before .before .before .before .before .before .before .before .before .before .before .before .before .before .pre .1 .0))
+    (λ c. sym (length-take-le _ _ (omega (arith, roomy (c .before .before .before .before .before .before .call2 .given .1) (c .before .before .before .before .before .before .before .before .before .before .before .read .ensures .within) .0, c .before .before .before .before .before .before .before .before .before .before .before .read .kept .1 .0, c .before .before .before .before .before .before .before .before .before .before .before .before .before .before .before .before .before .before .before .before .before .loop .inv .2, c .before .before .before .before .before .before .before .before .before .before .before .before .before .before .before .before .before .before .before .before .before .before .before .before .before .before .pre .1 .0))))
+    (λ c. omega (arith, roomy (c .before .before .before .before .before .before .call2 .given .1) (c .before .before .before .before .before .before .before .before .before .before .before .read .ensures .within) .1, c .before .before .before .lend .kept .0, c .before .before .before .before .before .before .before .before .before .before .before .before .before .before .before .before .before .before .before .before .before .loop .inv .3, c .before .before .before .before .before .before .before .before .before .before .before .before .before .before .before .before .before .before .before .before .before .before .before .before .before .before .pre .1 .1))
+    (λ c. sym (length-take-le _ _ (omega (arith, roomy (c .before .before .before .before .before .before .before .call2 .given .1) (c .before .before .before .before .before .before .before .before .before .before .before .before .read .ensures .within) .1, c .before .before .before .before .lend .kept .0, c .before .before .before .before .before .before .before .before .before .before .before .before .before .before .before .before .before .before .before .before .before .before .loop .inv .3, c .before .before .before .before .before .before .before .before .before .before .before .before .before .before .before .before .before .before .before .before .before .before .before .before .before .before .before .pre .1 .1))))
+    (λ c κs. c .before .before .before .before .before .before .before .before .before .before .before .before .before .before .before .before .before .before .before .before .before .before .loop .inv .0 .sound) (λ c κs. tt)
+    (λ c. let b = behind (c .before .before .before .before .before .before .before .before .before .before .before .before .before .before .before .before .before .before .before .before .before .before .before .before) in omega (arith, b .place, b .ahead, b .inside)) loop-again-2)

@@ -1,0 +1,101 @@
+// Runs of ticks and line requests, each answered as it is made.
+use calls::Call;
+use controller::Controller;
+use libc::STDOUT_FILENO;
+use lines::Intake;
+use lines::Next;
+ghost use Prim.Native.Nat.{_≤_};
+ghost use lib.ListN.{length};
+ghost use Rattle.controller.specs.Sound.{Sound};
+ghost use Rattle.runs.specs.Runs.{Ran};
+
+// Why a run stops: at a call that is no tick and no line request, whose bytes stand at the start of the lent buffer, or for more input.
+pub enum Stop {
+    Call(Call),
+    More,
+}
+
+// Where a run stopped: the controller, what is pending, the end of the answers, and why.
+pub struct Run {
+    pub controller: Controller,
+    pub intake: Intake,
+    pub len: usize,
+    pub stop: Stop,
+}
+
+// So many bytes hold every answer.
+const ENOUGH: usize = 4096;
+
+// Writes the answers out.
+pub fn write_out(out: &[u8], len: usize) {
+    let n = pieces::within(len, out);
+    io::write_all(STDOUT_FILENO, &out[..n]);
+}
+
+// Writes the answers out where there is no room for one more, and answers how many bytes still stand there.
+fn with_room(out: &[u8], len: usize) -> usize
+    ensures { λ r. ⌜ r ≤ length (now (out .entry)) ⌝ }
+{
+    let end = pieces::within(len, out);
+    if out.len() - end < ENOUGH {
+        write_out(out, end);
+        return 0;
+    }
+    end
+}
+
+// Answers the whole lines of what is held, behind the first `at` bytes of `out`, up to one that is no tick and no line request.
+pub fn answer(
+    old: Controller,
+    intake: Intake,
+    input: &[u8],
+    bytes: &mut [u8],
+    spare: &mut [u8],
+    out: &mut [u8],
+    at: usize,
+) -> Run
+    requires sound { ⌜ Sound old ⌝ }
+    requires room { ⌜ (2048 ≤ length (now bytes)) × (64 ≤ length (now spare)) ⌝ }
+    ensures { λ r. ⌜ Ran old intake (now (input .entry)) (now (bytes .exit)) r ⌝ }
+{
+    let mut c = old;
+    let mut held = intake;
+    let mut len = at;
+    loop {
+        let taken = held.next_line(input);
+        let next = taken.next;
+        held = taken.intake;
+        let Next::Line { from, to } = next else {
+            return Run {
+                controller: c,
+                intake: held,
+                len,
+                stop: Stop::More,
+            };
+        };
+        len = with_room(out, len);
+        let call = calls::read(&input[from..to], bytes);
+        if let Call::Tick(sample, inputs) = call {
+            let ticked = c.tick(sample, inputs);
+            let said = ticked.answer;
+            c = ticked.next;
+            len = boxed::say_tick(out, len, said);
+            continue;
+        }
+        let Call::Request(n, room) = call else {
+            return Run {
+                controller: c,
+                intake: held,
+                len,
+                stop: Stop::Call(call),
+            };
+        };
+        let size = n as usize;
+        let most = room as usize;
+        pieces::lend(spare, most);
+        let asked = c.request(&bytes[..size], &mut spare[..most]);
+        let said = asked.answer;
+        c = asked.next;
+        len = boxed::say_request(out, len, said, most, spare);
+    }
+}
