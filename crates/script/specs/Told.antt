@@ -1,8 +1,8 @@
 -- What a program knows of the next line by what it was told. Assumes nothing.
-use mathlib.Core.Path.{_≡_, refl, sym, ap, _∙_}
+use mathlib.Core.Path.{_≡_, refl, sym, ap, _∙_, subst}
 use mathlib.Core.Bool.{false}
 use mathlib.Core.List.{List, [], _∷_}
-use Prim.Native.Nat.{ℕ, _+_}
+use Prim.Native.Nat.{ℕ, _+_, _≤_, _<_}
 use native.Mathlib.Omega.{arith}
 use types.Run.{OneOf, hit}
 use denote.Enum.Declared.{tagOf}
@@ -16,7 +16,7 @@ use Rattle.lines.specs.declared.Taken.{Taken}
 use Rattle.lines.specs.declared.Next.{Next}
 use Rattle.lines.specs.declared.Next.the-variants.{Line, More}
 use Rattle.lines.specs.Places.{endOf, partOf}
-use Rattle.lines.specs.Intake.{overlong, lineTo, nextOf}
+use Rattle.lines.specs.Intake.{overlong, lineTo, nextOf, Behind, NextStands, next-steps}
 use Rattle.calls.specs.Call.{Call, tick, link, settings, reset, counters, restart, request, modbus, why, writeFrame, readFrame, writeField, readField, writeLine, readLine, hour, hours, callBy, atEnd, callOf}
 use Rattle.calls.specs.declared.Call as read
 use Rattle.calls.specs.declared.Call.the-variants as C
@@ -96,6 +96,14 @@ module _ (i : Intake) (input : List ℕ) where
       (λ h. told-line (endOf (take (i .have) input) (i .at)))
       (λ h f. let z : _≡_ {A = ℕ} 0 1 = cc in let a : ⊥ = omega arith in absurd a)
       e
+
+  -- it lies in the buffer
+  pub tick-ahead : {x : ℤ} {k next : ℕ} → sightOf i input ≡ S.Tick x k next → (i .at < next) × (next ≤ length input)
+  tick-ahead e =
+      let t = tick-told e in
+      let b : Behind i input (t .from) (t .to) (nextOf i input .intake) = subst (NextStands i input (nextOf i input .intake)) (t .line) (next-steps i input .stands) in
+      let at = ap (λ (j : Intake). j .at) (t .behind) in
+      (omega (arith, b .place, b .ahead, at), omega (arith, b .place, b .inside, at))
 
 -- ---- no tick
 
