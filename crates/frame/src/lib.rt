@@ -140,7 +140,7 @@ fn frame_len(body: &[u8], c: u8) -> usize
     sent_len(body) + byte_len(c) + 3
 }
 
-// PutsBytes a body byte as it is sent, and answers the place after it.
+// Puts a body byte as it is sent, and answers the place after it.
 fn put_byte(out: &mut [u8], at: usize, b: u8) -> usize
     requires { ⌜ at + length (sentByte b) ≤ length (now out) ⌝ }
     ensures { λ r. ⌜ PutsBytes (sentByte b) (now (out .entry)) (now (out .exit)) at r ⌝ }
@@ -153,7 +153,7 @@ fn put_byte(out: &mut [u8], at: usize, b: u8) -> usize
     at + 1
 }
 
-// PutsBytes a body as it is sent, and answers the place after it.
+// Puts a body as it is sent, and answers the place after it.
 fn put_body(out: &mut [u8], at: usize, body: &[u8]) -> usize
     requires { ⌜ at + length (sent (now body)) ≤ length (now out) ⌝ }
     ensures { λ r. ⌜ PutsBytes (sent (now (body .entry))) (now (out .entry)) (now (out .exit)) at r ⌝ }
@@ -167,7 +167,7 @@ fn put_body(out: &mut [u8], at: usize, body: &[u8]) -> usize
     to
 }
 
-// PutsBytes a body's frame at the buffer's start; c is the body's check byte.
+// Puts a body's frame at the buffer's start; c is the body's check byte.
 fn put_frame(out: &mut [u8], body: &[u8], c: u8)
     requires { ⌜ (length (frame (now body)) ≤ length (now out)) × (c ≡ check (now body)) ⌝ }
     ensures { λ _. ⌜ now (out .exit) ≡ sets (now (out .entry)) 0 (frame (now (body .entry))) ⌝ }
@@ -286,7 +286,7 @@ fn fill(bytes: &[u8], i: usize, buf: &mut [u8], n: usize) -> usize
     k
 }
 
-// ReadsFrame bytes up to the end of the first finished body, which is left at the buffer's start.
+// Reads bytes up to the end of the first finished body, which is left at the buffer's start.
 fn scan(bytes: &[u8], buf: &mut [u8]) -> State
     requires { ⌜ length (now buf) ≡ 255 ⌝ }
     ensures { λ r. ⌜ HoldsReading r (now (buf .exit)) (readAll (now (bytes .entry))) ⌝ }
@@ -340,7 +340,7 @@ fn bad(body: &[u8]) -> bool
     check_byte(body) != 0
 }
 
-// PutsBytes 0 at each place from n on.
+// Puts 0 at each place from n on.
 fn clear(buf: &mut [u8], n: usize)
     requires { ⌜ n ≤ length (now buf) ⌝ }
     ensures { λ _. ⌜ now (buf .exit) ≡ take n (now (buf .entry)) ++ replicate (length (now (buf .entry)) - n) 0 ⌝ }
@@ -385,7 +385,7 @@ fn body_len(found: Found) -> usize
     }
 }
 
-// ReadsFrame bytes up to the end of the first finished body, and answers that body or why there is none.
+// Reads bytes up to the end of the first finished body, and answers that body or why there is none.
 pub fn read_frame(bytes: &[u8]) -> Read
     ensures { λ r. ⌜ ReadsFrame (now (bytes .entry)) r ⌝ }
 {
