@@ -8,7 +8,7 @@ ghost use Rattle.paper.specs.Answer.{Answer, told, bytesIn};
 ghost use Rattle.frame.specs.Check.{check, enter};
 ghost use Rattle.frame.specs.Table.{entries};
 ghost use Rattle.frame.specs.Frame.{sentByte, sent, frame};
-ghost use Rattle.frame.specs.Read.{grown, step, readAll, tooShort, bad, Finished, answerOf};
+ghost use Rattle.frame.specs.Read.{grown, step, readAll, tooShort, badBody, Finished, answerOf};
 ghost use Rattle.frame.specs.Says.{saysFound, placeAndLength, bytesOf, ChecksTo, TellsFramable, Writes, ReadsFrame};
 ghost use Rattle.frame.specs.Puts.{PutsBytes};
 ghost use Rattle.frame.specs.Stands.{stands, Held, HoldsReading, Skips, Takes};
@@ -331,8 +331,8 @@ fn too_short(body: &[u8]) -> bool
 }
 
 // Whether a finished body is too short or its check is not 0.
-fn bad(body: &[u8]) -> bool
-    ensures { λ r. ⌜ r ≡ bad (now (body .entry)) ⌝ }
+fn bad_body(body: &[u8]) -> bool
+    ensures { λ r. ⌜ r ≡ badBody (now (body .entry)) ⌝ }
 {
     if too_short(body) {
         return true;
@@ -367,7 +367,7 @@ fn answer_of(st: State, buf: &[u8], n: usize) -> Found
             last: _,
         } => Found::R9(before),
         State::Ended { len, place } => {
-            if bad(&buf[..len]) {
+            if bad_body(&buf[..len]) {
                 return Found::R6(place);
             }
             Found::Body { place, len }
