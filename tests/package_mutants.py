@@ -100,6 +100,10 @@ MUTANTS = [
     # Times, table and picture.
     ('a time without a zone', 'times.py', 'if not isinstance(origin.tzinfo, timezone):',
      'if False:', 'time'),
+    ('the nearest hour', 'times.py', '(time - time_of(0, origin)) // timedelta(hours=1)',
+     'round((time - time_of(0, origin)) / timedelta(hours=1))', 'time'),
+    ('an hour past the last', 'times.py', 'range(LAST_HOUR + 1)', 'range(LAST_HOUR + 2)', 'time'),
+    ('a time of any zone', 'times.py', 'if time.tzinfo is None:', 'if False:', 'time'),
     ('an hour without a date', 'times.py', 'except OverflowError:', 'except KeyError:', 'time'),
     ('a month of every year', 'times.py', '(time.year, time.month) == (begin.year, begin.month)',
      'time.month == begin.month', 'time'),

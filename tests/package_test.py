@@ -462,6 +462,20 @@ def time_checks():
     late = datetime(9999, 12, 31, tzinfo=timezone.utc)
     same('past all dates', type(raised(jehmulka.time_of, 24, late)), ValueError)
     same('no zone', type(raised(jehmulka.time_of, 1, datetime(1970, 1, 1))), ValueError)
+    hour, west = timedelta(hours=1), timezone(timedelta(hours=-7))
+    for number in (0, 1, 30, 483294):
+        for origin in (jehmulka.EPOCH, datetime(1990, 1, 1, tzinfo=zone)):
+            begin = jehmulka.time_of(number, origin)
+            end = begin + hour - timedelta(microseconds=1)
+            same('there and back', jehmulka.hour_at(begin, origin), number)
+            same('its last moment', jehmulka.hour_at(end, origin), number)
+            same('in another zone', jehmulka.hour_at(begin.astimezone(west), origin), number)
+    same('the last hour', jehmulka.hour_at(jehmulka.EPOCH + 9999999 * hour), 9999999)
+    early = jehmulka.EPOCH - timedelta(microseconds=1)
+    same('before hour 0', type(raised(jehmulka.hour_at, early)), ValueError)
+    late = jehmulka.EPOCH + 10000000 * hour
+    same('after the last hour', type(raised(jehmulka.hour_at, late)), ValueError)
+    same('a time without zone', type(raised(jehmulka.hour_at, datetime(2025, 1, 1))), ValueError)
     same('scaled', [str(jehmulka.scaled(4987, point)) for point in range(4)],
          ['4987', '498.7', '49.87', '4.987'])
     same('scaled exactly', str(jehmulka.scaled(29491200001, 3)), '29491200.001')

@@ -6,10 +6,11 @@ from datetime import datetime, timedelta, timezone
 from decimal import Decimal
 from typing import Iterable, List
 
-from .values import Hour
+from .values import LAST_HOUR, Hour
 
 # The begin of hour 0.
 EPOCH = datetime(1970, 1, 1, tzinfo=timezone.utc)
+HOURS = range(LAST_HOUR + 1)
 POINTS = range(4)
 WEEKDAYS = ('Mon', 'Tue', 'Wed', 'Thu', 'Fri', 'Sat', 'Sun')
 
@@ -22,6 +23,16 @@ def time_of(hour: int, origin: datetime = EPOCH) -> datetime:
         return origin + timedelta(hours=hour)
     except OverflowError:
         raise ValueError('hour %d from %s on has no date' % (hour, origin)) from None
+
+
+def hour_at(time: datetime, origin: datetime = EPOCH) -> int:
+    """The hour in which a time lies, where hour 0 begins at the origin."""
+    if time.tzinfo is None:
+        raise ValueError('the time needs a zone, as timezone.utc')
+    hour = (time - time_of(0, origin)) // timedelta(hours=1)
+    if hour not in HOURS:
+        raise ValueError('%s lies in hour %d, and hours are 0 to %d' % (time, hour, HOURS[-1]))
+    return hour
 
 
 def told_time(hour: int, origin: datetime) -> str:

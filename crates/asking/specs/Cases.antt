@@ -7,7 +7,7 @@ use Rattle.paper.specs.Answer.{Answer, done, refused, told, onDone, inRoom}
 use Rattle.paper.specs.Numbers.{R5, R6, R7, R8, R9, R14}
 use Rattle.frame.specs.Check.{check, enterAll, enter, enterBits, enterBit, fellOut}
 use Rattle.frame.specs.Frame.{frame, sent, sentByte, extended, framable, fewest, writeOf}
-use Rattle.frame.specs.Read.{readOf, readAll, run, step, grown, answerOf, judged, bad, tooShort}
+use Rattle.frame.specs.Read.{readOf, readAll, run, step, grown, answerOf, judged, badBody, tooShort}
 use Rattle.message.specs.Message.{partsOf, formOf, addressLength, proper, bodyOf, addressBytes, framableOf, improper, buildOf}
 use Rattle.message.specs.declared.Form.{Form}
 use Rattle.message.specs.declared.Form.the-variants.{Address, Serial}
@@ -36,7 +36,7 @@ pub cases :
     × (ask (0xFF ∷ 0x01 ∷ 0xC1 ∷ 0x31 ∷ 0xFF ∷ 0xFF ∷ []) ≡ refused R7 (5 ∷ []))
     × (ask (0xFF ∷ 0x01 ∷ 0xC3 ∷ 0x07 ∷ 0xE1 ∷ 0xFF ∷ 0xFF ∷ []) ≡ refused R7 (6 ∷ []))
     × (ask (0xFF ∷ 0x02 ∷ 0xC1 ∷ 0x34 ∷ 0xFF ∷ 0xFF ∷ []) ≡ refused R5 (5 ∷ []))
-unfolding askOf heardOf addressOf ours codeOf known bare told onDone readOf readAll run step grown answerOf judged bad tooShort extended partsOf formOf addressLength check enterAll enter enterBits enterBit fellOut pick
+unfolding askOf heardOf addressOf ours codeOf known bare told onDone readOf readAll run step grown answerOf judged badBody tooShort extended partsOf formOf addressLength check enterAll enter enterBits enterBit fellOut pick
 cases = (refl, refl, refl, refl, refl, refl, refl, refl, refl, refl, refl, refl, refl)
 
 -- C0's reply in a buffer that it just fills and in one a byte shorter; one byte; weight and CON by the serial; an address that no frame begins with, and forms that their bytes would not give back

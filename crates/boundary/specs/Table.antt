@@ -23,7 +23,7 @@ use Rattle.counters.specs.Counters.{counters, countersAfter, countedOf, recordO
 use Rattle.controller.specs.State.{restarted}
 use Rattle.controller.specs.Calls.{restartOf, controllerIn, storedBad}
 use Rattle.channels.specs.Channels.{runsAfter, runAfter, expected, startOf, outputsOf, worth, input, watchOf}
-use Rattle.scale.specs.Scale.{stableOf, filterOf, equalZ, none, calmRun, outside, overCapacity, changed, filtered, calmAfter}
+use Rattle.scale.specs.Scale.{stableOf, filterOf, equalZ, none, calmByMean, outside, overCapacity, changed, filtered, calmByGates}
 use Rattle.controller.specs.Tick.{tickOf, step2, step3, steps4and5, steps6to8, mismatched, step7, step8, seenOf, wOf, faulted, saysFault}
 
 -- what a case asks, with document 01's numerals
@@ -172,7 +172,7 @@ passes-holds (totalAfter t amount t') u = eqb→eq (countedOf (counters 0 t) amo
 
 -- every case passes: computed over the whole list
 all-pass : T (each passes cases)
-unfolding each both cases passes says sameWeight sameFlag sameZ check enterAll enter enterBits enterBit fellOut readOf readable isBcd weightOf signed hasBit valueOf meanOf averagedOf leftOf without alike largest smallest greater lesser plainOf roundAway halfUp sumOf outputsAt outputsAfter al1 controllerIn restartOf onDone firstBad firstFrom table inRange leastLevel mostLevel storedBad restarted tickOf step2 step3 steps4and5 steps6to8 mismatched watchOf runsAfter runAfter expected step7 step8 seenOf wOf stableOf filtered filterOf equalZ none calmRun startOf outside faulted saysFault outputsOf worth input overCapacity changed calmAfter countersAfter countedOf recordOf recordsOf stepOf ready readyToFill readyToDose waits zeroed nearZero fillBegins coarseStage fineStage fill full hold settle settleEnds dischargeOpens discharge amountOf load calm doseCoarse doseFine doseSettle reachedWf reachedWc notBelowZero Wc Wf samplesOf pushOf emptyWindow pick xor
+unfolding each both cases passes says sameWeight sameFlag sameZ check enterAll enter enterBits enterBit fellOut readOf readable isBcd weightOf signed hasBit valueOf meanOf averagedOf leftOf without alike largest smallest greater lesser plainOf roundAway halfUp sumOf outputsAt outputsAfter al1 controllerIn restartOf onDone firstBad firstFrom table inRange leastLevel mostLevel storedBad restarted tickOf step2 step3 steps4and5 steps6to8 mismatched watchOf runsAfter runAfter expected step7 step8 seenOf wOf stableOf filtered filterOf equalZ none calmByMean startOf outside faulted saysFault outputsOf worth input overCapacity changed calmByGates countersAfter countedOf recordOf recordsOf stepOf ready readyToFill readyToDose waits zeroed nearZero fillBegins coarseStage fineStage fill full hold settle settleEnds dischargeOpens discharge amountOf load calm doseCoarse doseFine doseSettle reachedWf reachedWc notBelowZero Wc Wf samplesOf pushOf emptyWindow pick xor
 all-pass = tt
 
 -- all thirteen

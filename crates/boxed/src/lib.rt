@@ -11,7 +11,9 @@ use controller::SetAnswer;
 use controller::TickAnswer;
 use counters::Record;
 use pieces::Words;
-ghost use Prim.Native.Nat.{_≤_};
+ghost use mathlib.Core.Path.{_≡_};
+ghost use mathlib.Core.Bool.{true};
+ghost use Prim.Native.Nat.{_+_, _≤_, _<_};
 ghost use lib.ListN.{length};
 
 // D, the outputs, count, amount, settled, product
@@ -34,12 +36,35 @@ fn fault(why: Fault) -> Words {
     }
 }
 
-// The line of O and the outputs, which most ticks answer.
+// Whether 4 bytes have room from `at` on.
+fn has_four(len: usize, at: usize) -> bool
+    ensures { λ r. ⌜ (r ≡ true → at + 4 ≤ len) ⌝ }
+{
+    if len < at {
+        return false;
+    }
+    4 <= len - at
+}
+
+// O, a tab, a digit and LF, the line of most ticks.
+fn put_digit(out: &mut [u8], at: usize, digit: u8) -> usize
+    requires { ⌜ (at + 4 ≤ length (now out)) × (digit < 10) ⌝ }
+{
+    out[at] = b'O';
+    out[at + 1] = text::TAB;
+    out[at + 2] = 48 + digit;
+    out[at + 3] = text::LF;
+    at + 4
+}
+
+// The line of O and the outputs.
 fn put_outputs(out: &mut [u8], at: usize, outputs: u8) -> usize {
-    let after_letter = text::put_byte(out, at, b'O');
-    let after_tab = text::put_byte(out, after_letter, text::TAB);
-    let after_number = text::put_decimal(out, after_tab, outputs as u64);
-    pieces::end(out, after_number)
+    if outputs < 10 {
+        if has_four(out.len(), at) {
+            return put_digit(out, at, outputs);
+        }
+    }
+    pieces::line(out, at, Words::one(b'O', outputs as u64))
 }
 
 // The line of a tick's answer: O, D, F or R.

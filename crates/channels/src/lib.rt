@@ -2,9 +2,11 @@
 use dosing::Gates;
 use settings::Settings;
 ghost use mathlib.Core.Path.{_≡_};
-ghost use Prim.Native.Nat.{_/_, _%_, _<_};
-ghost use lib.Dec.{eqb};
-ghost use Rattle.channels.specs.Channels.{worth, runAfter};
+ghost use mathlib.Core.Bool.{xor};
+ghost use Prim.Native.Nat.{_+_, _/_, _%_, _<_};
+ghost use lib.Dec.{ltb, eqb};
+ghost use Rattle.laws.specs.Pick.{pick};
+ghost use Rattle.channels.specs.Channels.{worth, expected};
 ghost use Rattle.channels.specs.Says.{Starts, Shows, Moves, Watches};
 
 // The runs of mismatches of channels 1 to 3.
@@ -58,12 +60,18 @@ pub fn start_of(set: Settings, link: bool, inputs: u8) -> bool
     link | (!(3 <= set.algorithm) & has_bit(inputs, 8))
 }
 
-// A mismatch adds 1 to the channel's run, a match puts it to 0; expected is the output at level 1, its opposite at level 0.
-fn run_after(level: u32, output: bool, on: bool, run: u32) -> u32
-    ensures { λ r. ⌜ r ≡ runAfter level output on run ⌝ }
+// Whether a channel's input is not the expected one: the output at level 1, its opposite at level 0.
+fn mismatch(level: u32, output: bool, on: bool) -> bool
+    ensures { λ r. ⌜ r ≡ xor on (expected level output) ⌝ }
 {
-    let expected = (level == 1) == output;
-    if on != expected {
+    on != ((level == 1) == output)
+}
+
+// A mismatch adds 1 to the channel's run, a match puts it to 0.
+fn run_after(wrong: bool, run: u32) -> u32
+    ensures { λ r. ⌜ r ≡ pick wrong (pick (ltb run 64) (run + 1) 64) 0 ⌝ }
+{
+    if wrong {
         if run < Runs::MISMATCHES {
             run + 1
         } else {
@@ -74,17 +82,28 @@ fn run_after(level: u32, output: bool, on: bool, run: u32) -> u32
     }
 }
 
-// The runs of channels 1 to 3, which move in AL1 to AL3.
+// The runs of channels 1 to 3, which move in AL1 to AL3; on nearly every tick all three match.
 pub fn runs_after(set: Settings, g: Gates, inputs: u8, runs: Runs) -> Runs
     ensures { λ r. ⌜ Moves set g inputs runs r ⌝ }
 {
     if set.algorithm == 0 {
         return runs;
     }
-    let one = run_after(set.in1, g.one, has_bit(inputs, 1), runs.one);
-    let two = run_after(set.in2, g.two, has_bit(inputs, 2), runs.two);
-    let three = run_after(set.in3, g.three, has_bit(inputs, 4), runs.three);
-    Runs { one, two, three }
+    let one = mismatch(set.in1, g.one, has_bit(inputs, 1));
+    let two = mismatch(set.in2, g.two, has_bit(inputs, 2));
+    let three = mismatch(set.in3, g.three, has_bit(inputs, 4));
+    if !(one | two | three) {
+        return Runs {
+            one: 0,
+            two: 0,
+            three: 0,
+        };
+    }
+    Runs {
+        one: run_after(one, runs.one),
+        two: run_after(two, runs.two),
+        three: run_after(three, runs.three),
+    }
 }
 
 // The lowest channel whose run has reached its limit is F14.

@@ -67,40 +67,43 @@ pub record Kept (c : Controller) (x : ℤ) (window : Window) (to : Sampled) : Ty
   pub pushed : window ≡ pushOf (c .window) x
   pub read : to ≡ sampledBy (none (samplesOf (c .window))) (filtered (pushOf (c .window) x) (filterOf (c .set) (c .gates))) (c .f .v) (c .s)
 
-pub kept-so : (c : Controller) (x : ℤ) (window : Window) {to : Sampled} → Sound c → length (window .samples) ≡ 128
-    → window ≡ pushOf (c .window) x
-    → to ≡ sampleOf (c .set) (c .gates) (eqb (c .window .held) 0) (window .samples) (window .held) (c .f) (c .s)
-    → Kept c x window to
-unfolding sampleOf
-kept-so c x window s l w k =
-    let n = filterOf (c .set) (c .gates) in
-    let mean = lent-filtered window n l ∙ ap (λ (v : Window). filtered v n) w in
-    let first = sym (none-held (c .window) (s .places)) in
-    record { pushed = w; read = k ∙ ap₂ (λ (b : Bool) (f : ℤ). sampledBy b f (c .f .v) (c .s)) first mean }
+-- of a sound controller, whose inputs of this tick are kept
+module _ (c : Controller) (inputs : ℕ) {kept : Controller} (e : kept ≡ withUnstarted false (withInputs inputs c)) (s : Sound c) where
+  pub kept-so : (x : ℤ) (window : Window) {to : Sampled} → length (window .samples) ≡ 128
+      → window ≡ pushOf (kept .window) x
+      → to ≡ sampleOf (kept .set) (kept .gates) (eqb (kept .window .held) 0) (window .samples) (window .held) (kept .f) (kept .s)
+      → Kept kept x window to
+  unfolding sampleOf
+  kept-so x window l w k =
+      let n = filterOf (kept .set) (kept .gates) in
+      let mean = lent-filtered window n l ∙ ap (λ (v : Window). filtered v n) w in
+      let first = sym (none-held (kept .window) (rw e (s .places))) in
+      record { pushed = w; read = k ∙ ap₂ (λ (b : Bool) (f : ℤ). sampledBy b f (kept .f .v) (kept .s)) first mean }
 
--- F and Z of a tick are small
-pub mean-small : (c : Controller) (x : Units) {window : Window} {to : Sampled} → Sound c → outside (x .v) ≡ false → Kept c (x .v) window to → Small (to .f) (c .z)
-unfolding sampledBy
-mean-small c x s h k =
-    record { mean = rw (k .read) (filtered-within (pushOf (c .window) (x .v)) (filterOf (c .set) (c .gates)) (push-within c s (x .v) (inside-within (x .v) h))); zero = s .zero }
+  -- F and Z of a tick are small
+  pub mean-small : (x : Units) {window : Window} {to : Sampled} → outside (x .v) ≡ false → Kept kept (x .v) window to → Small (to .f) (kept .z)
+  unfolding sampledBy
+  mean-small x h k =
+      record { mean = rw (k .read) (filtered-within (pushOf (kept .window) (x .v)) (filterOf (kept .set) (kept .gates)) (rw e (push-within c s (x .v) (inside-within (x .v) h)))); zero = rw e (s .zero) }
 
 module _ (c : Controller) (x : ℤ) (inputs : ℕ) where
   pub step3-outside : {r : Ticked} → outside x ≡ true → Gives (faulted F.F21 (withUnstarted false (withInputs inputs c))) r → Gives (step3 c x inputs) r
   unfolding step3
   step3-outside h g = gives (sym (pick-t _ _ _ h)) g
 
-  module _ {window : Window} {to : Sampled} {start : Bool} {runs : Runs} (watch : Watch) (inside : outside x ≡ false)
-      (k : Kept c x window to)
-      (o : start ≡ startOf (c .set) (c .link) inputs)
-      (e : runs ≡ runsAfter (c .set) (c .gates) inputs (c .runs))
+  module _ {kept : Controller} {window : Window} {to : Sampled} {start : Bool} {runs : Runs} (watch : Watch) (inside : outside x ≡ false)
+      (i : kept ≡ withUnstarted false (withInputs inputs c))
+      (k : Kept kept x window to)
+      (o : start ≡ startOf (kept .set) (kept .link) inputs)
+      (e : runs ≡ runsAfter (kept .set) (kept .gates) inputs (kept .runs))
       (says : saysWatch watch ≡ watchOf runs) where
     -- the sample and the inputs are kept, with F, S and the runs
     abbrev moved : Controller
-    moved = withRuns runs (withS (to .s) (withF (to .f) (withWindow window (withUnstarted false (withInputs inputs c)))))
+    moved = withRuns runs (withS (to .s) (withF (to .f) (withWindow window kept)))
 
     sixth : mismatched (saysWatch watch) moved (step7 moved start) ≡ step3 c x inputs
     unfolding step3 steps4and5 steps6to8 sampledBy
-    sixth = rw (says, e, o, k .read, k .pushed) (sym (pick-f _ _ _ inside))
+    sixth = rw (says, e, o, k .read, k .pushed, i) (sym (pick-f _ _ _ inside))
 
     pub reached : {channel : ℕ} {r : Ticked} → watch ≡ W.F14 channel → Gives (faulted (F.F14 channel) moved) r → Gives (step3 c x inputs) r
     unfolding mismatched

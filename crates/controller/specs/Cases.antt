@@ -17,7 +17,7 @@ use Rattle.dosing.specs.Rules.{stepOf, ready, readyToFill, readyToDose, waits, 
 use Rattle.dosing.specs.Rules.{units}
 use Rattle.channels.specs.Channels.{input, worth, outputsOf, startOf, expected, runAfter, runsAfter, watchOf}
 use Rattle.counters.specs.Counters.{countedOf, countersAfter, recordOf, recordsOf}
-use Rattle.scale.specs.Scale.{outside, filtered, filterOf, equalZ, none, calmRun, stableOf, changed, calmAfter, overCapacity}
+use Rattle.scale.specs.Scale.{outside, filtered, filterOf, equalZ, none, calmByMean, stableOf, changed, calmByGates, overCapacity}
 use Rattle.stepping.specs.Stepping.{atReady, unstartedOf}
 use Rattle.controller.specs.State.{restarted, withZ, withS, withAlarm, withLink, withInputs}
 use Rattle.controller.specs.Tick.{Told, tickOf, step2, step3, steps4and5, steps6to8, mismatched, step7, step8, seenOf, wOf, faulted, saysFault}
@@ -41,7 +41,7 @@ ticked c (t ∷ ts) = ticked (tickOf c (t .0) (t .1) .next) ts
 
 -- to unfold this is to unfold every rule of these calls
 unfoldable pub rules : Unit {0}
-unfolding lastOf ticked setOf restartOf storedBad onDone firstBad firstFrom table inRange leastLevel mostLevel settingsOf settingsAnswer after taken resetOf resetAnswer isReady readyIn atReady linkOf xor answers freshOf restarted defaultSet tickOf step2 step3 steps4and5 steps6to8 mismatched watchOf runsAfter runAfter expected step7 unstartedOf step8 seenOf wOf stableOf filtered filterOf equalZ none calmRun startOf outside faulted saysFault outputsOf worth input overCapacity changed calmAfter countersAfter countedOf recordOf recordsOf stepOf ready readyToFill readyToDose waits zeroed nearZero fillBegins coarseStage fineStage fill full hold settle settleEnds dischargeOpens discharge amountOf load calm doseCoarse doseFine doseSettle reachedWf reachedWc notBelowZero Wc Wf samplesOf pushOf emptyWindow meanOf averagedOf leftOf without alike largest smallest greater lesser plainOf roundAway halfUp sumOf pick
+unfolding lastOf ticked setOf restartOf storedBad onDone firstBad firstFrom table inRange leastLevel mostLevel settingsOf settingsAnswer after taken resetOf resetAnswer isReady readyIn atReady linkOf xor answers freshOf restarted defaultSet tickOf step2 step3 steps4and5 steps6to8 mismatched watchOf runsAfter runAfter expected step7 unstartedOf step8 seenOf wOf stableOf filtered filterOf equalZ none calmByMean startOf outside faulted saysFault outputsOf worth input overCapacity changed calmByGates countersAfter countedOf recordOf recordsOf stepOf ready readyToFill readyToDose waits zeroed nearZero fillBegins coarseStage fineStage fill full hold settle settleEnds dischargeOpens discharge amountOf load calm doseCoarse doseFine doseSettle reachedWf reachedWc notBelowZero Wc Wf samplesOf pushOf emptyWindow meanOf averagedOf leftOf without alike largest smallest greater lesser plainOf roundAway halfUp sumOf pick
 rules = tt
 
 abbrev outputs : ℕ → Answer Told

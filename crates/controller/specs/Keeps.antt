@@ -27,7 +27,7 @@ use Rattle.dosing.specs.declared.Moved.{Moved}
 use Rattle.channels.specs.Channels.{noRuns}
 use Rattle.counters.specs.Laws.{after-storable}
 use Rattle.scale.specs.Scale.{filtered, none, overCapacity}
-use Rattle.scale.specs.Laws.{within-at, empty-within, calm-after-most}
+use Rattle.scale.specs.Laws.{within-at, empty-within, calm-by-gates-most}
 use Rattle.stepping.specs.Stepping.{unstartedOf}
 use Rattle.asking.specs.Asking.{Asked, timeOf, zeroOf, askOf}
 use Rattle.readout.specs.Readout.{zeroable, mayZero}
@@ -65,7 +65,7 @@ pub step8-sound : (c : Controller) (m : Moved) → Sound c → c .condition ≡ 
 unfolding step8
 step8-sound c m s e f =
     let n = after-storable (c .counters) (m .dose) (record { count = s .count; total = s .total }) in
-    let calm = calm-after-most (c .gates) (m .gates) (c .s) (s .calm) in
+    let calm = calm-by-gates-most (c .gates) (m .gates) (c .s) (s .calm) in
     let left = abandoned-clear (c .condition) (m .phase) (overCapacity (c .set) (c .f .v -ℤ m .z .v)) e in
     search needs
 

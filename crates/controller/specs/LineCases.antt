@@ -11,7 +11,7 @@ use Rattle.settings.specs.Cases.{setOf}
 use Rattle.field.specs.Field.{weight, fieldOf, bcdOf, conOf, bitOf, negative}
 use Rattle.frame.specs.Check.{check, enterAll, enter, enterBits, enterBit, fellOut}
 use Rattle.frame.specs.Frame.{frame, sent, sentByte, extended}
-use Rattle.frame.specs.Read.{readOf, readAll, run, step, grown, answerOf, judged, bad, tooShort}
+use Rattle.frame.specs.Read.{readOf, readAll, run, step, grown, answerOf, judged, badBody, tooShort}
 use Rattle.message.specs.Message.{partsOf, formOf, addressLength, bodyOf, addressBytes}
 use Rattle.dosing.specs.Rules.{units, gates}
 use Rattle.controller.specs.State.{restarted, withZ, withS, withGates, withAlarm}
@@ -32,7 +32,7 @@ box =
 
 -- to unfold this is to unfold every rule of a request, and of the calls before it
 unfoldable requests : Unit {0}
-unfolding rules box told requestOf repliesTo replied askedOf askOf heardOf addressOf codeOf allowed timely timeOf zeroOf mayZero zeroable ours known bare replyFrame answerFrame replyData fieldBytes zeroedBy weightFrom weightBy readOf readAll run step grown answerOf judged bad tooShort extended partsOf formOf addressLength bodyOf addressBytes frame sent sentByte check enterAll enter enterBits enterBit fellOut fieldOf bcdOf conOf bitOf negative
+unfolding rules box told requestOf repliesTo replied askedOf askOf heardOf addressOf codeOf allowed timely timeOf zeroOf mayZero zeroable ours known bare replyFrame answerFrame replyData fieldBytes zeroedBy weightFrom weightBy readOf readAll run step grown answerOf judged badBody tooShort extended partsOf formOf addressLength bodyOf addressBytes frame sent sentByte check enterAll enter enterBits enterBit fellOut fieldOf bcdOf conOf bitOf negative
 requests = tt
 
 abbrev asked : List ℕ → ℕ → Answer Replied

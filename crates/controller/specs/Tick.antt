@@ -16,7 +16,7 @@ use Rattle.dosing.specs.declared.Moved.{Moved}
 use Rattle.channels.specs.Channels.{outputsOf, startOf, runsAfter, watchOf}
 use Rattle.counters.specs.declared.Record.{Record}
 use Rattle.counters.specs.Counters.{countersAfter, recordsOf}
-use Rattle.scale.specs.Scale.{outside, filtered, filterOf, none, calmRun, stableOf, calmAfter, overCapacity}
+use Rattle.scale.specs.Scale.{outside, filtered, filterOf, none, calmByMean, stableOf, calmByGates, overCapacity}
 use Rattle.stepping.specs.Stepping.{unstartedOf}
 use Rattle.controller.specs.State.{withWindow, withZ, withF, withS, withRuns, withPhase, withGates, withAlarm, withInputs, withCondition, withCounters, withUnstarted}
 use Rattle.controller.specs.declared.Controller.{Controller}
@@ -60,7 +60,7 @@ step8 c m =
     let four = overCapacity (c .set) (c .f .v -ℤ m .z .v) in
     let after = countersAfter (c .counters) (m .dose) in
     record {
-      next = withCounters after (withAlarm four (withS (calmAfter (c .gates) (m .gates) (c .s)) (withGates (m .gates) (withZ (m .z) (withPhase (m .phase) c)))));
+      next = withCounters after (withAlarm four (withS (calmByGates (c .gates) (m .gates) (c .s)) (withGates (m .gates) (withZ (m .z) (withPhase (m .phase) c)))));
       answer = done (record { outputs = outputsOf (m .gates) four; doses = recordsOf (c .set .product) after (m .dose) });
     }
 
@@ -99,7 +99,7 @@ unfoldable pub steps4and5 : Controller → ℤ → Result Told
 steps4and5 c x =
     let held = pushOf (c .window) x in
     let f = filtered held (filterOf (c .set) (c .gates)) in
-    steps6to8 (withF (units f) (withWindow held c)) (startOf (c .set) (c .link) (c .inputs)) (calmRun (none (samplesOf (c .window))) f (c .f .v) (c .s))
+    steps6to8 (withF (units f) (withWindow held c)) (startOf (c .set) (c .link) (c .inputs)) (calmByMean (none (samplesOf (c .window))) f (c .f .v) (c .s))
 
 -- ---- steps 1 to 3
 

@@ -17,7 +17,7 @@ use Rattle.channels.specs.Channels.{runsAfter, watchOf}
 use Rattle.channels.specs.Laws.{NoLonger, runs-most, watch-ways}
 use Rattle.channels.specs.declared.Runs.{Runs}
 use Rattle.scale.specs.Scale.{outside, filtered, filterOf, none}
-use Rattle.scale.specs.Laws.{inside-within, push-held, filtered-within, calm-most}
+use Rattle.scale.specs.Laws.{inside-within, push-held, filtered-within, calm-by-mean-most}
 use Rattle.controller.specs.State.{withWindow, withF, withS, withRuns, withInputs, withUnstarted}
 use Rattle.controller.specs.Tick.{Result, Told, still, faulted, saysFault, step7, mismatched, steps6to8, steps4and5, step3, step2, tickOf}
 use Rattle.controller.specs.Sound.{Sound, Watched}
@@ -84,7 +84,7 @@ module _ (Q : Result Told → Type 0) (faults : (why : Fault) (d : Controller) �
       let f = filtered held (filterOf (c .set) (c .gates)) in
       let w = push-within c s x h in
       let t = filter-sound c s held (units f) (push-length (c .window) x (s .places)) (push-held (c .window) x) w (filtered-within held _ w) u in
-      steps6to8-ways (withF (units f) (withWindow held c)) _ _ t e u (calm-most (none (samplesOf (c .window))) f (c .f .v) (c .s))
+      steps6to8-ways (withF (units f) (withWindow held c)) _ _ t e u (calm-by-mean-most (none (samplesOf (c .window))) f (c .f .v) (c .s))
       (λ d a. go d _ a)
 
   step3-ways : (c : Controller) (x : ℤ) (i : ℕ) → Sound c → c .condition ≡ Clear → i ≤ 15

@@ -72,13 +72,20 @@ fn faulted(why: Fault, c: Controller) -> Ticked
     }
 }
 
-// Step 3 on a sample outside -900,000..900,000: the inputs are kept, the sample is not, F21.
-fn outside(mut c: Controller, inputs: u8) -> Ticked
-    ensures { λ r. ⌜ Gives (faulted Fault.F21 (withUnstarted false (withInputs inputs c))) r ⌝ }
+// Step 3: the inputs are kept, and this tick has not waited for start so far.
+fn kept(mut c: Controller, inputs: u8) -> Controller
+    ensures { λ r. ⌜ r ≡ withUnstarted false (withInputs inputs c) ⌝ }
 {
     c.inputs = inputs;
     c.unstarted = false;
-    faulted(Fault::F21, c)
+    c
+}
+
+// Step 3 on a sample outside -900,000..900,000: the inputs are kept, the sample is not, F21.
+fn outside(c: Controller, inputs: u8) -> Ticked
+    ensures { λ r. ⌜ Gives (faulted Fault.F21 (withUnstarted false (withInputs inputs c))) r ⌝ }
+{
+    faulted(Fault::F21, kept(c, inputs))
 }
 
 // The outputs, with the dose record if one completed.
@@ -121,12 +128,11 @@ fn steps7and8(c: Controller, start: bool) -> Ticked
 }
 
 // From step 4 on: the inputs and the sample are kept; F, start and S; the lowest channel whose run reached its limit is F14, else the phase rule.
-fn steps4to8(mut c: Controller, x: Units, inputs: u8) -> Ticked
+fn steps4to8(c: Controller, x: Units, inputs: u8) -> Ticked
     requires { ⌜ Takes c x ⌝ }
     ensures { λ r. ⌜ Gives (step3 c (x .v) inputs) r ⌝ }
 {
-    c.inputs = inputs;
-    c.unstarted = false;
+    let mut c = kept(c, inputs);
     let v = x.v;
     let window = c.window.push(v);
     let held = window.held;

@@ -29,10 +29,6 @@ pub enum Converted {
     R8,
 }
 
-const TAB: u8 = 9;
-
-const LF: u8 = 10;
-
 const ZERO: u8 = 48;
 
 // A D line of the old form has so many fields behind its letter, with a tab before each.
@@ -43,10 +39,10 @@ fn tabs_after(tabs: usize, b: u8) -> usize
     requires { ⌜ tabs ≤ 65536 ⌝ }
     ensures { λ r. ⌜ r ≡ tabsAfter tabs b ⌝ }
 {
-    if b == LF {
+    if b == text::LF {
         return 0;
     }
-    if b == TAB {
+    if b == text::TAB {
         return tabs + 1;
     }
     tabs
@@ -56,7 +52,7 @@ fn tabs_after(tabs: usize, b: u8) -> usize
 fn ends_dose(tabs: usize, b: u8) -> bool
     ensures { λ r. ⌜ r ≡ (eqb b 10 && eqb tabs 4) ⌝ }
 {
-    if b == LF {
+    if b == text::LF {
         return tabs == OLD_FIELDS;
     }
     false
@@ -117,9 +113,9 @@ fn put_new(out: &mut [u8], at: usize, tabs: usize, b: u8) -> usize
     ensures { λ r. ⌜ Puts (now (out .entry)) at (newPiece tabs b) (now (out .exit)) r ⌝ }
 {
     if ends_dose(tabs, b) {
-        let after_tab = text::put_byte(out, at, TAB);
+        let after_tab = text::put_byte(out, at, text::TAB);
         let after_zero = text::put_byte(out, after_tab, ZERO);
-        return text::put_byte(out, after_zero, LF);
+        return text::put_byte(out, after_zero, text::LF);
     }
     text::put_byte(out, at, b)
 }
@@ -254,7 +250,7 @@ fn is_other(tabs: usize, b: u8) -> bool
     ensures { λ r. ⌜ r ≡ isOther tabs b ⌝ }
 {
     if tabs == OLD_FIELDS + 1 {
-        if b == LF {
+        if b == text::LF {
             return false;
         }
         return b != ZERO;
@@ -267,7 +263,7 @@ fn line_after(line: usize, b: u8) -> usize
     requires { ⌜ line ≤ 65538 ⌝ }
     ensures { λ r. ⌜ r ≡ lineAfter line b ⌝ }
 {
-    if b == LF {
+    if b == text::LF {
         return line + 1;
     }
     line

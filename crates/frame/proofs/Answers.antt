@@ -7,7 +7,7 @@ use lib.ListN.{length, take, replicate}
 use lib.Seq.{length-take-le}
 use Rattle.laws.specs.Pick.{pick-all}
 use Rattle.paper.specs.Answer.{Answer, told, bytesIn}
-use Rattle.frame.specs.Read.{Finished, bad, judged, answerOf, readAll, readOf}
+use Rattle.frame.specs.Read.{Finished, badBody, judged, answerOf, readAll, readOf}
 use Rattle.frame.specs.Says.{saysFound, placeAndLength, bytesOf, ReadsFrame}
 use Rattle.frame.specs.Stands.{stands, fits, Held, HoldsReading}
 use Rattle.frame.specs.declared.State.{State}
@@ -37,7 +37,7 @@ answer-front n (S.Lead p) buf h = none buf
 answer-front n (S.Body p m) buf h = none buf
 answer-front n (S.Mark p m q) buf h = none buf
 answer-front n (S.Ended m k) buf h =
-    pick-all (λ (a : Answer Finished). Front (handed a) buf) (bad (take m buf)) (none buf) (taken m buf (h .body-fits) (h .full))
+    pick-all (λ (a : Answer Finished). Front (handed a) buf) (badBody (take m buf)) (none buf) (taken m buf (h .body-fits) (h .full))
 
 pub in-buffer : (n m : ℕ) (st : State) (buf : List ℕ) → Held st buf → m ≡ length (handed (answerOf n (stands st buf))) → m ≤ length buf
 in-buffer n m st buf h e = omega (arith, e, answer-front n st buf h .most, h .full)

@@ -52,8 +52,8 @@ unfoldable pub tooShort : List ℕ → Bool
 tooShort l = ltb (length l) (pick (extended l) 6 3)
 
 -- R6: .. or check not 0
-unfoldable pub bad : List ℕ → Bool
-bad l = tooShort l || not (eqb (check l) 0)
+unfoldable pub badBody : List ℕ → Bool
+badBody l = tooShort l || not (eqb (check l) 0)
 
 -- a finished body with its check byte, and the place of the second closing FF
 pub record Finished : Type 0 where
@@ -62,7 +62,7 @@ pub record Finished : Type 0 where
 
 -- A finished body answers with the place of the second closing FF
 unfoldable pub judged : List ℕ → ℕ → Answer Finished
-judged l k = pick (bad l) (refused R6 (k ∷ [])) (done (record { place = k; bytes = l }))
+judged l k = pick (badBody l) (refused R6 (k ∷ [])) (done (record { place = k; bytes = l }))
 
 -- With no frame finished, R9 answers the place from which to offer the bytes again, where n were offered:
 -- the last FF before the begun body, else, while seeking a first byte, the last FF seen, else the length
@@ -89,7 +89,7 @@ pub cases :
     × (readOf (1 ∷ 0xFF ∷ 5 ∷ 0xFF ∷ []) ≡ refused R9 (1 ∷ []))
     × (readOf (0xFF ∷ 0x01 ∷ 0x69 ∷ 0xFF ∷ 0xFF ∷ []) ≡ refused R6 (4 ∷ []))
     × (readOf (0xFF ∷ 0x01 ∷ 0xC3 ∷ 0xE2 ∷ 0xFF ∷ 0xFF ∷ []) ≡ refused R6 (5 ∷ []))
-unfolding readOf readAll run step grown answerOf judged bad tooShort extended check enterAll enter enterBits enterBit fellOut pick
+unfolding readOf readAll run step grown answerOf judged badBody tooShort extended check enterAll enter enterBits enterBit fellOut pick
 cases = (refl, refl, refl, refl, refl, refl, refl, refl)
 
 -- the last FF before a body: of two FF the second, and behind a dropped body the one that dropped it; FE while seeking a first byte is skipped
@@ -101,7 +101,7 @@ pub places :
     × (readOf (0xFF ∷ 0xFE ∷ 0x01 ∷ 0xC3 ∷ 0xE3 ∷ 0xFF ∷ 0xFF ∷ []) ≡ finished 6 (0x01 ∷ 0xC3 ∷ 0xE3 ∷ []))
     × (readOf (0xFF ∷ 0x01 ∷ 0xC3 ∷ 0xE3 ∷ 0xFF ∷ 0xFF ∷ 0x02 ∷ 0xC3 ∷ 0xE6 ∷ 0xFF ∷ 0xFF ∷ []) ≡ finished 5 (0x01 ∷ 0xC3 ∷ 0xE3 ∷ []))
     × (readOf (0xFF ∷ 0x02 ∷ 0xC3 ∷ 0xE6 ∷ 0xFF ∷ 0xFF ∷ []) ≡ finished 5 (0x02 ∷ 0xC3 ∷ 0xE6 ∷ []))
-unfolding readOf readAll run step grown answerOf judged bad tooShort extended check enterAll enter enterBits enterBit fellOut pick
+unfolding readOf readAll run step grown answerOf judged badBody tooShort extended check enterAll enter enterBits enterBit fellOut pick
 places = (refl, refl, refl, refl, refl, refl, refl)
 
 -- 255 body bytes are a body, the 256th drops it, and so does an FF FE there; then an FF is sought again
@@ -113,5 +113,5 @@ pub longest :
     × (readOf (0xFF ∷ (replicate 255 1 ++ 0xFF ∷ 0xFE ∷ [])) ≡ refused R9 (258 ∷ []))
     × (readOf (0xFF ∷ (replicate 255 1 ++ 0xFF ∷ 5 ∷ [])) ≡ refused R9 (256 ∷ []))
     × (readOf (0xFF ∷ (replicate 254 1 ++ 0xFF ∷ 0xFE ∷ [])) ≡ refused R9 (0 ∷ []))
-unfolding readOf readAll run step grown answerOf judged bad tooShort extended check enterAll enter enterBits enterBit fellOut pick
+unfolding readOf readAll run step grown answerOf judged badBody tooShort extended check enterAll enter enterBits enterBit fellOut pick
 longest = (refl, refl, refl, refl, refl, refl, refl)

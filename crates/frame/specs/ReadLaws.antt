@@ -15,7 +15,7 @@ use Rattle.paper.specs.AnswerLaws.{refused-done, failed}
 use Rattle.paper.specs.Numbers.{R6}
 use Rattle.frame.specs.Check.{check}
 use Rattle.frame.specs.Frame.{extended}
-use Rattle.frame.specs.Read.{Reading, seek, lead, body, mark, ended, grown, step, run, readAll, tooShort, bad, Finished, judged, answerOf, readOf}
+use Rattle.frame.specs.Read.{Reading, seek, lead, body, mark, ended, grown, step, run, readAll, tooShort, badBody, Finished, judged, answerOf, readOf}
 
 pub run-append : (r : Reading) (i : ℕ) (xs ys : List ℕ) → run r i (xs ++ ys) ≡ run (run r i xs) (i + length xs) ys
 unfolding run
@@ -96,23 +96,23 @@ neither true b e = false-true (sym e)
 neither false true e = (refl, refl)
 neither false false e = false-true (sym e)
 
-answered : (n : ℕ) (r : Reading) (f : Finished) → answerOf n r ≡ done f → (r ≡ ended (f .bytes) (f .place)) × (bad (f .bytes) ≡ false)
+answered : (n : ℕ) (r : Reading) (f : Finished) → answerOf n r ≡ done f → (r ≡ ended (f .bytes) (f .place)) × (badBody (f .bytes) ≡ false)
 unfolding answerOf judged
 answered n seek f e = refused-done e
 answered n (lead p) f e = refused-done e
 answered n (body p l) f e = refused-done e
 answered n (mark p l q) f e = refused-done e
 answered n (ended l k) f e =
-    let h = failed (bad l) (record { place = k; bytes = l }) R6 (k ∷ []) f e in
-    (ap (λ (x : Finished). ended (x .bytes) (x .place)) (h .1), subst (λ (x : Finished). bad (x .bytes) ≡ false) (h .1) (h .0))
+    let h = failed (badBody l) (record { place = k; bytes = l }) R6 (k ∷ []) f e in
+    (ap (λ (x : Finished). ended (x .bytes) (x .place)) (h .1), subst (λ (x : Finished). badBody (x .bytes) ≡ false) (h .1) (h .0))
 
 -- where the answer is done, reading has finished that body
-pub done-ended : (s : List ℕ) (f : Finished) → readOf s ≡ done f → (readAll s ≡ ended (f .bytes) (f .place)) × (bad (f .bytes) ≡ false)
+pub done-ended : (s : List ℕ) (f : Finished) → readOf s ≡ done f → (readAll s ≡ ended (f .bytes) (f .place)) × (badBody (f .bytes) ≡ false)
 unfolding readOf
 done-ended s f e = answered (length s) (readAll s) f e
 
 pub done-whole : (s : List ℕ) (f : Finished) → readOf s ≡ done f → Whole (f .bytes)
-unfolding bad
+unfolding badBody
 done-whole s f e =
     let h = done-ended s f e in
     let n = neither (tooShort (f .bytes)) (eqb (check (f .bytes)) 0) (h .1) in

@@ -15,7 +15,7 @@ use Rattle.frame.specs.Check.{check}
 use Rattle.frame.specs.CheckLaws.{check-zero}
 use Rattle.frame.specs.Frame.{sentByte, sent, frame, extended, fewest, framable}
 use Rattle.frame.specs.FrameLaws.{sent-plain, framable-is, fewest-two}
-use Rattle.frame.specs.Read.{Reading, seek, lead, body, mark, ended, grown, step, run, readAll, tooShort, bad, judged, answerOf, readOf}
+use Rattle.frame.specs.Read.{Reading, seek, lead, body, mark, ended, grown, step, run, readAll, tooShort, badBody, judged, answerOf, readOf}
 use Rattle.frame.specs.ReadLaws.{run-append, run-ended}
 
 -- reading has finished no body and has not just met an FF inside one
@@ -94,8 +94,8 @@ frame-read r i (x ∷ xs) after o e =
     (sent-read r i x (xs ++ c ∷ []) after o (f .not-FF) (f .not-FE) (omega (arith, f .most)) ∙ ap (ended (x ∷ (xs ++ c ∷ []))) k)
 
 -- a framable body with its check byte is no bad one
-whole : (b : List ℕ) → framable b ≡ true → bad (b ++ check b ∷ []) ≡ false
-unfolding bad tooShort fewest extended
+whole : (b : List ℕ) → framable b ≡ true → badBody (b ++ check b ∷ []) ≡ false
+unfolding badBody tooShort fewest extended
 whole [] e = let f = framable-is [] e in absurd (omega (arith, fewest-two [], f .enough))
 whole (x ∷ xs) e =
     let f = framable-is (x ∷ xs) e in
@@ -105,9 +105,9 @@ whole (x ∷ xs) e =
     rw (check-zero (x ∷ xs), le-ltb (length l) (pick (eqb x 0) 6 3) long)
 
 -- the reader's answer where the body that was finished is not bad
-answers : (n : ℕ) (r : Reading) (l : List ℕ) (k : ℕ) → r ≡ ended l k → bad l ≡ false → answerOf n r ≡ done (record { place = k; bytes = l })
+answers : (n : ℕ) (r : Reading) (l : List ℕ) (k : ℕ) → r ≡ ended l k → badBody l ≡ false → answerOf n r ≡ done (record { place = k; bytes = l })
 unfolding answerOf judged
-answers n r l k e g = rw (e, pick-f (bad l) _ _ g)
+answers n r l k e g = rw (e, pick-f (badBody l) _ _ g)
 
 pub round-trip : (before b after : List ℕ) → Open (readAll before) → framable b ≡ true
     → readOf (before ++ (frame b ++ after)) ≡ done (record { place = length before + length (frame b) - 1; bytes = b ++ check b ∷ [] })

@@ -8,7 +8,7 @@ ghost use Rattle.paper.specs.Answer.{Answer, told, bytesIn};
 ghost use Rattle.frame.specs.Check.{check, enter};
 ghost use Rattle.frame.specs.Table.{entries};
 ghost use Rattle.frame.specs.Frame.{sentByte, sent, frame};
-ghost use Rattle.frame.specs.Read.{grown, step, readAll, tooShort, bad, Finished, answerOf};
+ghost use Rattle.frame.specs.Read.{grown, step, readAll, tooShort, badBody, Finished, answerOf};
 ghost use Rattle.frame.specs.Says.{saysFound, placeAndLength, bytesOf, ChecksTo, TellsFramable, Writes, ReadsFrame};
 ghost use Rattle.frame.specs.Puts.{PutsBytes};
 ghost use Rattle.frame.specs.Stands.{stands, Held, HoldsReading, Skips, Takes};
@@ -140,7 +140,7 @@ fn frame_len(body: &[u8], c: u8) -> usize
     sent_len(body) + byte_len(c) + 3
 }
 
-// PutsBytes a body byte as it is sent, and answers the place after it.
+// Puts a body byte as it is sent, and answers the place after it.
 fn put_byte(out: &mut [u8], at: usize, b: u8) -> usize
     requires { ⌜ at + length (sentByte b) ≤ length (now out) ⌝ }
     ensures { λ r. ⌜ PutsBytes (sentByte b) (now (out .entry)) (now (out .exit)) at r ⌝ }
@@ -153,7 +153,7 @@ fn put_byte(out: &mut [u8], at: usize, b: u8) -> usize
     at + 1
 }
 
-// PutsBytes a body as it is sent, and answers the place after it.
+// Puts a body as it is sent, and answers the place after it.
 fn put_body(out: &mut [u8], at: usize, body: &[u8]) -> usize
     requires { ⌜ at + length (sent (now body)) ≤ length (now out) ⌝ }
     ensures { λ r. ⌜ PutsBytes (sent (now (body .entry))) (now (out .entry)) (now (out .exit)) at r ⌝ }
@@ -167,7 +167,7 @@ fn put_body(out: &mut [u8], at: usize, body: &[u8]) -> usize
     to
 }
 
-// PutsBytes a body's frame at the buffer's start; c is the body's check byte.
+// Puts a body's frame at the buffer's start; c is the body's check byte.
 fn put_frame(out: &mut [u8], body: &[u8], c: u8)
     requires { ⌜ (length (frame (now body)) ≤ length (now out)) × (c ≡ check (now body)) ⌝ }
     ensures { λ _. ⌜ now (out .exit) ≡ sets (now (out .entry)) 0 (frame (now (body .entry))) ⌝ }
@@ -286,7 +286,7 @@ fn fill(bytes: &[u8], i: usize, buf: &mut [u8], n: usize) -> usize
     k
 }
 
-// ReadsFrame bytes up to the end of the first finished body, which is left at the buffer's start.
+// Reads bytes up to the end of the first finished body, which is left at the buffer's start.
 fn scan(bytes: &[u8], buf: &mut [u8]) -> State
     requires { ⌜ length (now buf) ≡ 255 ⌝ }
     ensures { λ r. ⌜ HoldsReading r (now (buf .exit)) (readAll (now (bytes .entry))) ⌝ }
@@ -331,8 +331,8 @@ fn too_short(body: &[u8]) -> bool
 }
 
 // Whether a finished body is too short or its check is not 0.
-fn bad(body: &[u8]) -> bool
-    ensures { λ r. ⌜ r ≡ bad (now (body .entry)) ⌝ }
+fn bad_body(body: &[u8]) -> bool
+    ensures { λ r. ⌜ r ≡ badBody (now (body .entry)) ⌝ }
 {
     if too_short(body) {
         return true;
@@ -340,7 +340,7 @@ fn bad(body: &[u8]) -> bool
     check_byte(body) != 0
 }
 
-// PutsBytes 0 at each place from n on.
+// Puts 0 at each place from n on.
 fn clear(buf: &mut [u8], n: usize)
     requires { ⌜ n ≤ length (now buf) ⌝ }
     ensures { λ _. ⌜ now (buf .exit) ≡ take n (now (buf .entry)) ++ replicate (length (now (buf .entry)) - n) 0 ⌝ }
@@ -367,7 +367,7 @@ fn answer_of(st: State, buf: &[u8], n: usize) -> Found
             last: _,
         } => Found::R9(before),
         State::Ended { len, place } => {
-            if bad(&buf[..len]) {
+            if bad_body(&buf[..len]) {
                 return Found::R6(place);
             }
             Found::Body { place, len }
@@ -385,7 +385,7 @@ fn body_len(found: Found) -> usize
     }
 }
 
-// ReadsFrame bytes up to the end of the first finished body, and answers that body or why there is none.
+// Reads bytes up to the end of the first finished body, and answers that body or why there is none.
 pub fn read_frame(bytes: &[u8]) -> Read
     ensures { λ r. ⌜ ReadsFrame (now (bytes .entry)) r ⌝ }
 {

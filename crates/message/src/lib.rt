@@ -79,7 +79,7 @@ pub fn split_body(body: &[u8]) -> Split
     })
 }
 
-// PutsBytes the address bytes of a form, and answers the place after them.
+// Puts the address bytes of a form, and answers the place after them.
 fn put_address(out: &mut [u8], form: Form) -> usize
     requires { ⌜ 4 ≤ length (now out) ⌝ }
     ensures { λ r. ⌜ PutsBytes (addressBytes form) (now (out .entry)) (now (out .exit)) 0 r ⌝ }
@@ -99,7 +99,7 @@ fn put_address(out: &mut [u8], form: Form) -> usize
     }
 }
 
-// PutsBytes bytes from a place on.
+// Puts bytes from a place on.
 fn put_all(out: &mut [u8], at: usize, values: &[u8])
     requires { ⌜ at + length (now values) ≤ length (now out) ⌝ }
     ensures { λ _. ⌜ now (out .exit) ≡ sets (now (out .entry)) at (now (values .entry)) ⌝ }

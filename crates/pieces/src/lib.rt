@@ -11,10 +11,6 @@ pub struct Words {
     pub numbers: [u64; 5],
 }
 
-const TAB: u8 = 9;
-
-const LF: u8 = 10;
-
 impl Words {
     // A letter alone.
     pub fn none(letter: u8) -> Words {
@@ -97,14 +93,14 @@ fn sign(out: &mut [u8], at: usize, minus: bool) -> usize {
 
 // A tab, a minus where there is one, and a number.
 fn field(out: &mut [u8], at: usize, minus: bool, n: u64) -> usize {
-    let after = text::put_byte(out, at, TAB);
+    let after = text::put_byte(out, at, text::TAB);
     let start = sign(out, after, minus);
     text::put_decimal(out, start, n)
 }
 
 // A tab and the 16 digits of a number's bits.
 pub fn bits(out: &mut [u8], at: usize, n: u64) -> usize {
-    let after = text::put_byte(out, at, TAB);
+    let after = text::put_byte(out, at, text::TAB);
     text::put_hex(out, after, 16, n)
 }
 
@@ -132,7 +128,7 @@ pub fn put_words(out: &mut [u8], at: usize, w: Words) -> usize {
 
 // A tab, and the bytes of a word before its first 0.
 pub fn word(out: &mut [u8], at: usize, letters: [u8; 9]) -> usize {
-    let mut p = text::put_byte(out, at, TAB);
+    let mut p = text::put_byte(out, at, text::TAB);
     for i in 0..9 {
         let b = letters[i];
         if b == 0 {
@@ -145,7 +141,7 @@ pub fn word(out: &mut [u8], at: usize, letters: [u8; 9]) -> usize {
 
 // The end of the line.
 pub fn end(out: &mut [u8], at: usize) -> usize {
-    text::put_byte(out, at, LF)
+    text::put_byte(out, at, text::LF)
 }
 
 // The ASCII code of a hexadecimal digit, in upper case.
@@ -180,7 +176,7 @@ fn digits(out: &mut [u8], at: usize, bytes: &[u8]) -> usize {
 
 // A tab, bytes, and the end of the line.
 pub fn bytes(out: &mut [u8], at: usize, bytes: &[u8]) -> usize {
-    let start = text::put_byte(out, at, TAB);
+    let start = text::put_byte(out, at, text::TAB);
     let after = digits(out, start, bytes);
     end(out, after)
 }

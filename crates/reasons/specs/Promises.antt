@@ -21,7 +21,7 @@ use Rattle.dosing.specs.declared.Seen.{Seen}
 use Rattle.dosing.specs.declared.Moved.{Moved}
 use Rattle.channels.specs.Channels.{startOf}
 use Rattle.window.specs.Window.{samplesOf}
-use Rattle.scale.specs.Scale.{stableOf, none, calmRun, equalZ}
+use Rattle.scale.specs.Scale.{stableOf, none, calmByMean, equalZ}
 use Rattle.controller.specs.State.{withF, withS}
 use Rattle.stepping.specs.Stepping.{atReady, unstartedOf}
 use Rattle.controller.specs.Tick.{Result, Told, seenOf, step7, step8, tickOf}
@@ -186,5 +186,5 @@ leZ-refl (negsuc n) = le-leb n n (omega arith)
 
 -- there are such: S of 4,032 and the tick's own F as the previous one leave S there, where a sample is held
 pub calm-reached : (c : Controller) (x : ℤ) → none (samplesOf (c .window)) ≡ false → calmAt (withS 4032 (withF (units (meanAt c x)) c)) x ≡ 4032
-unfolding calmAt calmRun equalZ meanAt pick
+unfolding calmAt calmByMean equalZ meanAt pick
 calm-reached c x h = rw (h, leZ-refl (meanAt c x))

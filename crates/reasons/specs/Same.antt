@@ -17,7 +17,7 @@ use Rattle.dosing.specs.declared.Gates.{Gates}
 use Rattle.channels.specs.Channels.{input, startOf, runsAfter, watchOf}
 use Rattle.channels.specs.Laws.{watch-ways}
 use Rattle.channels.specs.declared.Runs.{Runs}
-use Rattle.scale.specs.Scale.{outside, filtered, filterOf, none, calmRun}
+use Rattle.scale.specs.Scale.{outside, filtered, filterOf, none, calmByMean}
 use Rattle.controller.specs.State.{withWindow, withF, withS, withRuns, withInputs, withUnstarted}
 use Rattle.controller.specs.Tick.{Result, Told, faulted, mismatched, step7, steps6to8, steps4and5, step3, step2, tickOf}
 use Rattle.controller.specs.Calls.{linkOf}
@@ -34,7 +34,7 @@ meanAt c x = filtered (pushOf (c .window) x) (filterOf (c .set) (c .gates))
 
 -- S after step 5
 unfoldable pub calmAt : Controller → ℤ → ℕ
-calmAt c x = calmRun (none (samplesOf (c .window))) (meanAt c x) (c .f .v) (c .s)
+calmAt c x = calmByMean (none (samplesOf (c .window))) (meanAt c x) (c .f .v) (c .s)
 
 -- what steps 7 and 8 find
 unfoldable pub found : Controller → ℤ → ℕ → Controller

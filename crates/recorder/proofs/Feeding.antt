@@ -1,9 +1,11 @@
 -- What is left of a buffer, from the place that its lines so far have reached, gives the whole. Assumes nothing.
 use mathlib.Core.Path.{_≡_, refl, sym, ap, ap₂, _∙_, subst}
+use mathlib.Core.Bool.{false}
 use mathlib.Core.List.{List, [], _++_, append-assoc, append-nil}
 use Prim.Native.Nat.{ℕ, zero, suc, _+_, _-_, _≤_, _<_}
 use native.Mathlib.Nat.{add-zero, zero-add}
 use native.Mathlib.Omega.{arith}
+use lib.IntN.{ℤ}
 use lib.ListN.{length, drop, length-append}
 use lib.Seq.{sets, length-sets}
 use borrow.Author.Tests.{le-leb, lt-leb}
@@ -17,6 +19,9 @@ use Rattle.lines.specs.declared.Next.the-variants.{Line, More}
 use Rattle.lines.specs.Places.{partOf}
 use Rattle.lines.specs.Intake.{Behind}
 use Rattle.lines.specs.Intake as lines
+use Rattle.script.specs.Sight.{sightOf}
+use Rattle.script.specs.Told.{tick-told}
+use Rattle.script.specs.declared.Sighted.the-variants as S
 use Rattle.controller.specs.declared.Controller.{Controller}
 use Rattle.clock.specs.declared.Clock.{Clock}
 use Rattle.clock.specs.declared.Marked.{Marked}
@@ -171,3 +176,10 @@ module _ {r₀ : Recorder} {i₀ : Intake} {input old new : List ℕ} {r : Recor
               room = omega (arith, n .fits, w .long);
               carries = subst Carries (sym (n .next)) (note-carries r l (w .carries));
             }
+
+  -- a tick that stands next is noted
+  pub feeding-tick : {x : ℤ} {k next : ℕ} (e : sightOf i input ≡ S.Tick x k next) → 64 ≤ length new - len → {q : Recorder} {now : List ℕ} {at : ℕ}
+      → Notes r (partOf (tick-told i input e .from) (tick-told i input e .to) input) new len q now at → Feeding r₀ i₀ input old now q (record { at = next; have = i .have; long = false }) at
+  feeding-tick e h {q} {now} {at} n =
+      let t = tick-told i input e in
+      subst (λ (j : Intake). Feeding r₀ i₀ input old now q j at) (t .behind) (feeding-line (lines.nextOf i input) refl h (t .line) n)

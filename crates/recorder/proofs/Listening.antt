@@ -18,14 +18,14 @@ use Rattle.controller.specs.Sound.{Sound}
 use Rattle.controller.specs.Says.{saysTick, Ticks}
 use Rattle.controller.specs.Tick.{saysFault}
 use Rattle.series.specs.Events.{run}
-use Rattle.calls.specs.Call.{callOf}
+use Rattle.laws.specs.Decimal.{good}
+use Rattle.calls.specs.Call.{tick, callOf}
 use Rattle.calls.specs.Reads.{asCall, ReadsCall, read-call}
 use Rattle.calls.specs.declared.Call as read
-use Rattle.calls.specs.declared.Call.the-variants as C
 use Rattle.calls.proofs.Call.{the-type as call-type}
 use Rattle.acts.specs.Acts.{Ask, askOf, askBy, eventsIn, madeBy, saidAt, saidTo, lent, beside}
 use Rattle.acts.specs.Makes.{saysAct, Acts, unticked, others-whole, lent-read}
-use Rattle.acts.specs.Script.{made-tick, made-read}
+use Rattle.acts.specs.Script.{made-tick}
 use Rattle.acts.specs.declared.Acted.{Acted}
 use Rattle.acts.specs.declared.Answer as acts
 use Rattle.acts.specs.declared.Answer.the-variants as A
@@ -92,16 +92,15 @@ pub record Heard-as (c : Controller) (l : List ℕ) (d : Controller) (h : Heard)
   pub box : d ≡ madeBy c (callOf l)
   pub heard : h ≡ heardOf c (callOf l)
 
-module _ {l old new : List ℕ} {c : Controller} (room : 2048 ≤ length old) (short : length l ≤ 4095) where
-  -- a tick
-  pub tick-heard : {call : read.Call} {x : ℤ} {i : ℕ} {h : Heard} (r : Ticked) → ReadsCall l old new call → call ≡ C.Tick x i → SFits w32 x → Ticks c (toZ w32 (ofZ w32 x)) i r → h ≡ heardTick (saysTick (r .answer)) → Heard-as c l (r .next) h
-  unfolding heardOf heardSaid saidTo saidAt asCall askBy askOf
-  tick-heard {i = i} r read is fits told e =
-      let p = subst (ReadsCall l old new) is read in
-      let t = subst (λ (x : ℤ). Ticks c x i r) (toZ-ofZ fits) told in
-      record { box = made-read p room short (made-tick new r t) .next; heard = e ∙ ap heardTick (t .says) ∙ ap (heardOf c) (read-call p room short) }
+-- a tick
+pub sighted-heard : {l : List ℕ} {c : Controller} {x : ℤ} {i : ℕ} {h : Heard} (r : Ticked) → callOf l ≡ good (tick x i) [] → SFits w32 x → Ticks c (toZ w32 (ofZ w32 x)) i r → h ≡ heardTick (saysTick (r .answer)) → Heard-as c l (r .next) h
+unfolding heardOf heardSaid saidTo saidAt asCall askBy askOf
+sighted-heard {c = c} {i = i} r call fits told e =
+    let t = subst (λ (x : ℤ). Ticks c x i r) (toZ-ofZ fits) told in
+    record { box = made-tick [] r t .next ∙ ap (madeBy c) (sym call); heard = e ∙ ap heardTick (t .says) ∙ ap (heardOf c) (sym call) }
 
-  -- any other call
+-- any other call
+module _ {l old new : List ℕ} {c : Controller} (room : 2048 ≤ length old) (short : length l ≤ 4095) where
   pub other-heard : {reply left : List ℕ} {h : Heard} (call : read.Call) (r : Acted) → 64 ≤ length reply → OneOf unticked (tagOf call-type call) → ReadsCall l old new call
       → Acts c (beside false (lent (length reply) (askBy (asCall new call)))) reply left r → Hears (r .answer) h → Heard-as c l (r .next) h
   unfolding madeBy heardOf

@@ -1,6 +1,5 @@
 // From samples to a journal: what each line of a script adds to it.
 use acts::Answer;
-use calls::Call;
 use clock::Clock;
 use clock::Heard;
 use clock::Marked;
@@ -10,6 +9,7 @@ use controller::RestartAnswer;
 use controller::TickAnswer;
 use lines::Intake;
 use lines::Next;
+use script::Sighted;
 ghost use mathlib.Core.Path.{_≡_};
 ghost use Prim.Native.Nat.{_-_, _≤_};
 ghost use lib.ListN.{length, replicate};
@@ -101,6 +101,46 @@ fn feed_with(
     let mut at = intake;
     let mut len: usize = 0;
     while ENOUGH <= out.len() - len {
+        let stage = k.stage;
+        let Stage::Recording = stage else {
+            let taken = at.next_line(input);
+            at = taken.intake;
+            let next = taken.next;
+            let Next::Line { from, to } = next else {
+                return Fed {
+                    next: Recorder {
+                        controller: c,
+                        clock: k,
+                    },
+                    intake: at,
+                    len,
+                };
+            };
+            let marked = unheard(k, &input[from..to], &mut out[len..]);
+            k = marked.next;
+            len += marked.len;
+            continue;
+        };
+        let sighted = script::tick_next(at, input);
+        if let Sighted::Tick {
+            sample,
+            inputs,
+            next,
+        } = sighted {
+            let have = at.have;
+            at = Intake {
+                at: next,
+                have,
+                long: false,
+            };
+            let ticked = c.tick(sample, inputs);
+            c = ticked.next;
+            let answer = ticked.answer;
+            let marked = k.heard(heard_tick(answer), &mut out[len..]);
+            k = marked.next;
+            len += marked.len;
+            continue;
+        }
         let taken = at.next_line(input);
         at = taken.intake;
         let next = taken.next;
@@ -114,23 +154,7 @@ fn feed_with(
                 len,
             };
         };
-        let stage = k.stage;
-        let Stage::Recording = stage else {
-            let marked = unheard(k, &input[from..to], &mut out[len..]);
-            k = marked.next;
-            len += marked.len;
-            continue;
-        };
         let call = calls::read(&input[from..to], bytes);
-        if let Call::Tick(sample, inputs) = call {
-            let ticked = c.tick(sample, inputs);
-            c = ticked.next;
-            let answer = ticked.answer;
-            let marked = k.heard(heard_tick(answer), &mut out[len..]);
-            k = marked.next;
-            len += marked.len;
-            continue;
-        }
         let acted = acts::other(c, call, bytes, reply);
         c = acted.next;
         let answer = acted.answer;

@@ -4,6 +4,7 @@ use controller::Controller;
 use libc::STDOUT_FILENO;
 use lines::Intake;
 use lines::Next;
+use script::Sighted;
 ghost use Prim.Native.Nat.{_≤_};
 ghost use lib.ListN.{length};
 ghost use Rattle.controller.specs.Sound.{Sound};
@@ -62,6 +63,25 @@ pub fn answer(
     let mut held = intake;
     let mut len = at;
     loop {
+        len = with_room(out, len);
+        let sighted = script::tick_next(held, input);
+        if let Sighted::Tick {
+            sample,
+            inputs,
+            next,
+        } = sighted {
+            let have = held.have;
+            held = Intake {
+                at: next,
+                have,
+                long: false,
+            };
+            let ticked = c.tick(sample, inputs);
+            let said = ticked.answer;
+            c = ticked.next;
+            len = boxed::say_tick(out, len, said);
+            continue;
+        }
         let taken = held.next_line(input);
         let next = taken.next;
         held = taken.intake;
@@ -73,15 +93,7 @@ pub fn answer(
                 stop: Stop::More,
             };
         };
-        len = with_room(out, len);
         let call = calls::read(&input[from..to], bytes);
-        if let Call::Tick(sample, inputs) = call {
-            let ticked = c.tick(sample, inputs);
-            let said = ticked.answer;
-            c = ticked.next;
-            len = boxed::say_tick(out, len, said);
-            continue;
-        }
         let Call::Request(n, room) = call else {
             return Run {
                 controller: c,

@@ -15,7 +15,7 @@ use Rattle.window.specs.Mean.{meanOf, averagedOf, leftOf, without, alike, large
 use Rattle.window.specs.Window.{samplesOf}
 use Rattle.field.specs.Field.{weight, writable}
 use Rattle.dosing.specs.Rules.{units, gates, shut}
-use Rattle.scale.specs.Scale.{outside, asWindow, filtered, filterOf, equalZ, none, calmRun, stableOf, changed, calmAfter, overCapacity, netOf, seenBy, weightFrom, weightBy, showable}
+use Rattle.scale.specs.Scale.{outside, asWindow, filtered, filterOf, equalZ, none, calmByMean, stableOf, changed, calmByGates, overCapacity, netOf, seenBy, weightFrom, weightBy, showable}
 
 -- C 10,000, p7 4, p8 8, and a settle time p9 and a decimal point
 abbrev set : ℕ → ℕ → Settings
@@ -60,17 +60,17 @@ filters = (refl, refl, refl, refl, refl, refl)
 
 -- S: 0 on the first tick, one more on the same F up to 4,032, 0 on another F and where output 1, 2 or 3 moves
 pub calm-runs :
-    (calmRun true (pos 0) (pos 0) 7 ≡ 0)
-    × (calmRun false (negsuc 4) (negsuc 4) 7 ≡ 8)
-    × (calmRun false (pos 5) (negsuc 4) 7 ≡ 0)
-    × (calmRun false (negsuc 4) (pos 5) 7 ≡ 0)
-    × (calmRun false (pos 5) (pos 5) 4031 ≡ 4032)
-    × (calmRun false (pos 5) (pos 5) 4032 ≡ 4032)
-    × (calmAfter shut shut 7 ≡ 7)
-    × (calmAfter shut (gates true false false) 7 ≡ 0)
-    × (calmAfter (gates false true false) shut 7 ≡ 0)
-    × (calmAfter (gates true false true) (gates true false false) 7 ≡ 0)
-unfolding calmRun equalZ calmAfter changed xor pick
+    (calmByMean true (pos 0) (pos 0) 7 ≡ 0)
+    × (calmByMean false (negsuc 4) (negsuc 4) 7 ≡ 8)
+    × (calmByMean false (pos 5) (negsuc 4) 7 ≡ 0)
+    × (calmByMean false (negsuc 4) (pos 5) 7 ≡ 0)
+    × (calmByMean false (pos 5) (pos 5) 4031 ≡ 4032)
+    × (calmByMean false (pos 5) (pos 5) 4032 ≡ 4032)
+    × (calmByGates shut shut 7 ≡ 7)
+    × (calmByGates shut (gates true false false) 7 ≡ 0)
+    × (calmByGates (gates false true false) shut 7 ≡ 0)
+    × (calmByGates (gates true false true) (gates true false false) 7 ≡ 0)
+unfolding calmByMean equalZ calmByGates changed xor pick
 calm-runs = (refl, refl, refl, refl, refl, refl, refl, refl, refl, refl)
 
 -- stable means S >= 64*p9; w = C+9 is no alarm, C+10 is

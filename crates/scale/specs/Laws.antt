@@ -26,7 +26,7 @@ use Rattle.field.specs.declared.Weight.{Weight}
 use Rattle.dosing.specs.Rules.{units}
 use Rattle.dosing.specs.declared.Units.{Units}
 use Rattle.dosing.specs.declared.Gates.{Gates}
-use Rattle.scale.specs.Scale.{outside, asWindow, filtered, filteredLent, none, calmRun, stableOf, calmAfter, netOf, seenBy, weightFrom, weightBy, showable}
+use Rattle.scale.specs.Scale.{outside, asWindow, filtered, filteredLent, none, calmByMean, stableOf, calmByGates, netOf, seenBy, weightFrom, weightBy, showable}
 
 -- ---- samples
 
@@ -99,17 +99,17 @@ pub filtered-within : (w : Window) (n : ℕ) → Within 900000 (samplesOf w) →
 unfolding filtered
 filtered-within w n all = mean-within 900000 (take n (samplesOf w)) (within-take 900000 n (samplesOf w) all)
 
-pub calm-most : (first : Bool) (f previous : ℤ) (s : ℕ) → calmRun first f previous s ≤ 4032
-unfolding calmRun
-calm-most first f previous s =
+pub calm-by-mean-most : (first : Bool) (f previous : ℤ) (s : ℕ) → calmByMean first f previous s ≤ 4032
+unfolding calmByMean
+calm-by-mean-most first f previous s =
     pick-all (λ (n : ℕ). n ≤ 4032) first (omega arith)
     (pick-all (λ (n : ℕ). n ≤ 4032) _
     (pick-if (λ (n : ℕ). n ≤ 4032) (ltb s 4032) (λ a. omega (arith, ltb-true s 4032 a)) (λ a. omega arith))
     (omega arith))
 
-pub calm-after-most : (old new : Gates) (s : ℕ) → s ≤ 4032 → calmAfter old new s ≤ 4032
-unfolding calmAfter
-calm-after-most old new s h = pick-all (λ (k : ℕ). k ≤ 4032) _ (omega arith) h
+pub calm-by-gates-most : (old new : Gates) (s : ℕ) → s ≤ 4032 → calmByGates old new s ≤ 4032
+unfolding calmByGates
+calm-by-gates-most old new s h = pick-all (λ (k : ℕ). k ≤ 4032) _ (omega arith) h
 
 -- a weight of the scale
 pub weight-within : (f z : ℤ) → natAbs f ≤ 900000 → natAbs z ≤ 24998 → natAbs (f -ℤ z) ≤ 924998

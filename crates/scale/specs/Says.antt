@@ -14,7 +14,7 @@ use Rattle.dosing.specs.Rules.{units}
 use Rattle.dosing.specs.declared.Units.{Units}
 use Rattle.dosing.specs.declared.Gates.{Gates}
 use Rattle.dosing.specs.declared.Seen.{Seen}
-use Rattle.scale.specs.Scale.{outside, none, asWindow, filteredLent, filterOf, calmRun, calmAfter, stableOf, overCapacity, seenBy, weightBy, showable}
+use Rattle.scale.specs.Scale.{outside, none, asWindow, filteredLent, filterOf, calmByMean, calmByGates, stableOf, overCapacity, seenBy, weightBy, showable}
 use Rattle.scale.specs.declared.Weighed.{Weighed}
 use Rattle.scale.specs.declared.Weighed.the-variants as W
 
@@ -36,11 +36,11 @@ MeansLent samples held n r = r ≡ units (filteredLent samples held n)
 abbrev pub Filters : Settings → Gates → ℕ → Type 0
 Filters set g r = r ≡ filterOf set g
 
-abbrev pub Calms : Bool → Units → Units → ℕ → ℕ → Type 0
-Calms first f previous s r = r ≡ calmRun first (f .v) (previous .v) s
+abbrev pub CalmsByMean : Bool → Units → Units → ℕ → ℕ → Type 0
+CalmsByMean first f previous s r = r ≡ calmByMean first (f .v) (previous .v) s
 
-abbrev pub Calmer : Gates → Gates → ℕ → ℕ → Type 0
-Calmer old new s r = r ≡ calmAfter old new s
+abbrev pub CalmsByGates : Gates → Gates → ℕ → ℕ → Type 0
+CalmsByGates old new s r = r ≡ calmByGates old new s
 
 abbrev pub Steadies : Settings → ℕ → Bool → Type 0
 Steadies set s r = r ≡ stableOf set s
@@ -75,11 +75,11 @@ lent-determined samples held n a b p q = same p q
 pub filter-determined : (set : Settings) (g : Gates) (a b : ℕ) → Filters set g a → Filters set g b → a ≡ b
 filter-determined set g a b p q = same p q
 
-pub calm-run-determined : (first : Bool) (f previous : Units) (s a b : ℕ) → Calms first f previous s a → Calms first f previous s b → a ≡ b
-calm-run-determined first f previous s a b p q = same p q
+pub calm-by-mean-determined : (first : Bool) (f previous : Units) (s a b : ℕ) → CalmsByMean first f previous s a → CalmsByMean first f previous s b → a ≡ b
+calm-by-mean-determined first f previous s a b p q = same p q
 
-pub calm-after-determined : (old new : Gates) (s a b : ℕ) → Calmer old new s a → Calmer old new s b → a ≡ b
-calm-after-determined old new s a b p q = same p q
+pub calm-by-gates-determined : (old new : Gates) (s a b : ℕ) → CalmsByGates old new s a → CalmsByGates old new s b → a ≡ b
+calm-by-gates-determined old new s a b p q = same p q
 
 pub stable-determined : (set : Settings) (s : ℕ) (a b : Bool) → Steadies set s a → Steadies set s b → a ≡ b
 stable-determined set s a b p q = same p q

@@ -52,8 +52,8 @@ none [] = true
 none (x ∷ xs) = false
 
 -- S grows by 1 (cap 4,032) if F equals the previous tick's F, else becomes 0; on the first tick after the filter is emptied it is 0
-unfoldable pub calmRun : Bool → ℤ → ℤ → ℕ → ℕ
-calmRun first f previous s = pick first 0 (pick (equalZ f previous) (pick (ltb s 4032) (s + 1) 4032) 0)
+unfoldable pub calmByMean : Bool → ℤ → ℤ → ℕ → ℕ
+calmByMean first f previous s = pick first 0 (pick (equalZ f previous) (pick (ltb s 4032) (s + 1) 4032) 0)
 
 -- Stable means S >= 64*p9
 unfoldable pub stableOf : Settings → ℕ → Bool
@@ -64,8 +64,8 @@ unfoldable pub changed : Gates → Gates → Bool
 changed a b = xor (a .one) (b .one) || xor (a .two) (b .two) || xor (a .three) (b .three)
 
 -- If an output 1 to 3 changed, S becomes 0
-unfoldable pub calmAfter : Gates → Gates → ℕ → ℕ
-calmAfter old new s = pick (changed old new) 0 s
+unfoldable pub calmByGates : Gates → Gates → ℕ → ℕ
+calmByGates old new s = pick (changed old new) 0 s
 
 -- w > C+9
 unfoldable pub overCapacity : Settings → ℤ → Bool

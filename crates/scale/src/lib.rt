@@ -8,7 +8,7 @@ ghost use mathlib.Core.Path.{_≡_};
 ghost use lib.IntN.{_-ℤ_};
 ghost use Rattle.dosing.specs.Rules.{units};
 ghost use Rattle.scale.specs.Scale.{asWindow, netOf, showable};
-ghost use Rattle.scale.specs.Says.{Excludes, Lacks, MeansLent, Filters, Calms, Calmer, Steadies, Overs, Sees, Weighs, saysWeighed};
+ghost use Rattle.scale.specs.Says.{Excludes, Lacks, MeansLent, Filters, CalmsByMean, CalmsByGates, Steadies, Overs, Sees, Weighs, saysWeighed};
 
 // A weight that a reply can show, or R16 for one that is beyond six digits or has a point above 7.
 pub enum Weighed {
@@ -68,8 +68,8 @@ pub fn filter_of(set: Settings, g: Gates) -> u32
 }
 
 // S grows by 1 up to its cap if F equals the previous F, else becomes 0; at the first sample it is 0.
-pub fn calm_run(first: bool, f: Units, previous: Units, s: u32) -> u32
-    ensures { λ r. ⌜ Calms first f previous s r ⌝ }
+pub fn calm_by_mean(first: bool, f: Units, previous: Units, s: u32) -> u32
+    ensures { λ r. ⌜ CalmsByMean first f previous s r ⌝ }
 {
     let now = f.v;
     let before = previous.v;
@@ -83,8 +83,8 @@ pub fn calm_run(first: bool, f: Units, previous: Units, s: u32) -> u32
 }
 
 // If an output 1 to 3 changed, S becomes 0.
-pub fn calm_after(old: Gates, new: Gates, s: u32) -> u32
-    ensures { λ r. ⌜ Calmer old new s r ⌝ }
+pub fn calm_by_gates(old: Gates, new: Gates, s: u32) -> u32
+    ensures { λ r. ⌜ CalmsByGates old new s r ⌝ }
 {
     let changed = (old.one != new.one) | (old.two != new.two) | (old.three != new.three);
     if changed { 0 } else { s }

@@ -18,7 +18,7 @@ use Rattle.dosing.specs.declared.Moved.{Moved}
 use Rattle.channels.specs.Channels.{outputsOf}
 use Rattle.counters.specs.Counters.{countersAfter}
 use Rattle.counters.specs.declared.Counters.{Counters}
-use Rattle.scale.specs.Scale.{filteredLent, filterOf, calmRun, calmAfter, overCapacity, seenBy}
+use Rattle.scale.specs.Scale.{filteredLent, filterOf, calmByMean, calmByGates, overCapacity, seenBy}
 use Rattle.stepping.specs.Stepping.{sampledBy, sampleOf, atReady, unstartedOf, steppedBy, steppedOf}
 use Rattle.stepping.specs.declared.Sampled.{Sampled}
 use Rattle.stepping.specs.declared.Stepped.{Stepped}
@@ -42,7 +42,7 @@ not-ready (DoseSettle wH n) h = refl
 pub samples-so : (set : Settings) (gates : Gates) (first : Bool) (samples : List ℤ) (held : ℕ) (previous : Units) (s : ℕ) {n calm : ℕ} {f : Units}
     → n ≡ filterOf set gates
     → f ≡ units (filteredLent samples held n)
-    → calm ≡ calmRun first (f .v) (previous .v) s
+    → calm ≡ calmByMean first (f .v) (previous .v) s
     → _≡_ {A = Sampled} (record { f = f; s = calm }) (sampleOf set gates first samples held previous s)
 unfolding sampleOf sampledBy
 samples-so set gates first samples held previous s p m k = rw (k, m, p)
@@ -53,7 +53,7 @@ pub steps-so : (set : Settings) (began : Phase) (f z : Units) (s : ℕ) (gates :
     → m ≡ stepOf set began t
     → unstarted ≡ unstartedOf began start (m .phase)
     → alarm ≡ overCapacity set (f .v -ℤ m .z .v)
-    → calm ≡ calmAfter gates (m .gates) s
+    → calm ≡ calmByGates gates (m .gates) s
     → outputs ≡ outputsOf (m .gates) alarm
     → after ≡ countersAfter n (m .dose)
     → _≡_ {A = Stepped} (record { phase = m .phase; z = m .z; s = calm; gates = m .gates; alarm = alarm; outputs = outputs; dose = m .dose; counters = after; unstarted = unstarted }) (steppedOf set began f z s gates n start)

@@ -15,7 +15,7 @@ use Rattle.dosing.specs.declared.Phase.the-variants.{Ready, Coarse, Discharge}
 use Rattle.dosing.specs.declared.Dose.the-variants.{Nothing, Complete}
 use Rattle.channels.specs.Channels.{worth, outputsOf}
 use Rattle.counters.specs.Counters.{counters, countedOf, countersAfter}
-use Rattle.scale.specs.Scale.{filteredLent, filterOf, equalZ, calmRun, stableOf, changed, calmAfter, overCapacity, netOf, seenBy}
+use Rattle.scale.specs.Scale.{filteredLent, filterOf, equalZ, calmByMean, stableOf, changed, calmByGates, overCapacity, netOf, seenBy}
 use Rattle.stepping.specs.Stepping.{sampledBy, sampleOf, atReady, unstartedOf, steppedBy, steppedOf}
 
 -- AL1, C 1,000, D 500, Pc 100, Pf 20, M 50, p7 4, p8 8, p9 1
@@ -31,12 +31,12 @@ pub sampled :
     (sampleOf set (gates true false false) false thirteen 13 (units (pos 100)) 7 ≡ record { f = units (pos 100); s = 8 })
     × (sampleOf set shut false thirteen 13 (units (pos 100)) 7 ≡ record { f = units (pos 67); s = 0 })
     × (sampleOf set shut true (replicate 128 (pos 5)) 1 (units (pos 5)) 7 ≡ record { f = units (pos 5); s = 0 })
-unfolding sampleOf sampledBy filteredLent heldOf filterOf calmRun equalZ meanOf averagedOf leftOf without alike largest smallest greater lesser plainOf roundAway halfUp sumOf setOf pick
+unfolding sampleOf sampledBy filteredLent heldOf filterOf calmByMean equalZ meanOf averagedOf leftOf without alike largest smallest greater lesser plainOf roundAway halfUp sumOf setOf pick
 sampled = (refl, refl, refl)
 
 -- to unfold this is to unfold the phase rule and step 8
 unfoldable rules : Unit {0}
-unfolding steppedOf steppedBy seenBy netOf stableOf unstartedOf atReady overCapacity changed calmAfter xor outputsOf worth countersAfter countedOf stepOf ready readyToFill readyToDose waits zeroed nearZero fillBegins coarseStage fineStage fill full hold settle settleEnds dischargeOpens discharge amountOf load calm doseCoarse doseFine doseSettle reachedWf reachedWc notBelowZero Wc Wf setOf pick
+unfolding steppedOf steppedBy seenBy netOf stableOf unstartedOf atReady overCapacity changed calmByGates xor outputsOf worth countersAfter countedOf stepOf ready readyToFill readyToDose waits zeroed nearZero fillBegins coarseStage fineStage fill full hold settle settleEnds dischargeOpens discharge amountOf load calm doseCoarse doseFine doseSettle reachedWf reachedWc notBelowZero Wc Wf setOf pick
 rules = tt
 
 -- start at F 30 zeroes, opens output 1 and begins S anew; at rest with start off it waited; w = 49 closes output 3 and counts 450; over C+9 output 4 is on

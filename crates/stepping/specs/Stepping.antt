@@ -13,7 +13,7 @@ use Rattle.dosing.specs.declared.Moved.{Moved}
 use Rattle.channels.specs.Channels.{outputsOf}
 use Rattle.counters.specs.Counters.{countersAfter}
 use Rattle.counters.specs.declared.Counters.{Counters}
-use Rattle.scale.specs.Scale.{filteredLent, filterOf, calmRun, calmAfter, overCapacity, seenBy}
+use Rattle.scale.specs.Scale.{filteredLent, filterOf, calmByMean, calmByGates, overCapacity, seenBy}
 use Rattle.stepping.specs.declared.Sampled.{Sampled}
 use Rattle.stepping.specs.declared.Stepped.{Stepped}
 
@@ -21,7 +21,7 @@ use Rattle.stepping.specs.declared.Stepped.{Stepped}
 
 -- F, and S by the F before
 unfoldable pub sampledBy : Bool → ℤ → ℤ → ℕ → Sampled
-sampledBy first mean previous s = record { f = units mean; s = calmRun first mean previous s }
+sampledBy first mean previous s = record { f = units mean; s = calmByMean first mean previous s }
 
 -- F is the mean of the last n samples of those lent; n is p7 if output 1 was open before the tick, else p8
 unfoldable pub sampleOf : Settings → Gates → Bool → List ℤ → ℕ → Units → ℕ → Sampled
@@ -55,7 +55,7 @@ steppedBy set f s gates n unstarted m =
     record {
       phase = m .phase;
       z = m .z;
-      s = calmAfter gates (m .gates) s;
+      s = calmByGates gates (m .gates) s;
       gates = m .gates;
       alarm = four;
       outputs = outputsOf (m .gates) four;

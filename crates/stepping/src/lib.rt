@@ -44,7 +44,7 @@ pub fn sample(
 {
     let n = scale::filter_of(set, gates);
     let mean = scale::mean_lent(samples, held, n);
-    let calm = scale::calm_run(first, mean, f, s);
+    let calm = scale::calm_by_mean(first, mean, f, s);
     Sampled { f: mean, s: calm }
 }
 
@@ -88,7 +88,7 @@ pub fn step(
     Stepped {
         phase,
         z: zero,
-        s: scale::calm_after(gates, opened, s),
+        s: scale::calm_by_gates(gates, opened, s),
         gates: opened,
         alarm,
         outputs: channels::outputs_of(opened, alarm),

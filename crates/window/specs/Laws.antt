@@ -27,10 +27,6 @@ pub push-length : (w : Window) (x : ℤ) → length (w .samples) ≡ places → 
 unfolding pushOf
 push-length w x e = omega (arith, length-take places (x ∷ w .samples))
 
-pub samples-most : (w : Window) → length (w .samples) ≡ places → length (samplesOf w) ≤ places
-unfolding samplesOf
-samples-most w e = omega (arith, length-take (w .held) (w .samples))
-
 -- a window that lends its samples lends those that it holds
 pub held-of : (w : Window) → length (w .samples) ≡ places → heldOf (w .samples) (w .held) ≡ samplesOf w
 unfolding heldOf samplesOf

@@ -32,16 +32,16 @@ whole c =
     let held = c .before .before .before .pre in
     length-take-le _ _ (omega (arith, rw (c .st4 .given .1) at (held .body-fits), held .full))
 
-slice-aggregate-bad : tie.Need-slice-aggregate-bad
-slice-aggregate-bad c = sym (whole (c .before .before))
+slice-aggregate-bad-body : tie.Need-slice-aggregate-bad-body
+slice-aggregate-bad-body c = sym (whole (c .before .before))
 
-bad-requires : tie.Need-bad-requires
-bad-requires c κs = search needs
+bad-body-requires : tie.Need-bad-body-requires
+bad-body-requires c κs = search needs
 
 -- Ended, R6
 returns : tie.Need-returns
 unfolding stands answerOf judged told
-returns c = rw (c .before .before .before .before .st4 .given .1, pick-t _ _ _ (so (c .before .bad .ensures) (c .if1 .taken)))
+returns c = rw (c .before .before .before .before .st4 .given .1, pick-t _ _ _ (so (c .before .bad-body .ensures) (c .if1 .taken)))
 
 -- Seek
 returns-2 : tie.Need-returns-2
@@ -68,7 +68,7 @@ returns-6 : tie.Need-returns-6
 unfolding stands answerOf judged told
 returns-6 c =
     let at-end = c .before .before .before .before in
-    rw (at-end .st4 .given .1, pick-f _ _ _ (so (c .before .bad .ensures) (c .if1 .left)), whole at-end)
+    rw (at-end .st4 .given .1, pick-f _ _ _ (so (c .before .bad-body .ensures) (c .if1 .left)), whole at-end)
 
 pub answer-of-spec : {M : Type 1} → statement M
 answer-of-spec =
@@ -79,8 +79,8 @@ answer-of-spec =
     enum-known-st-2
     enum-known-st-3
     enum-known-st-4
-    slice-aggregate-bad
-    bad-requires
+    slice-aggregate-bad-body
+    bad-body-requires
     returns
     returns-2
     returns-3

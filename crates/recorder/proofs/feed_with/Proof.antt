@@ -1,18 +1,23 @@
-use mathlib.Core.Path.{_≡_, refl, _∙_}
+use mathlib.Core.Path.{_≡_, refl, sym, ap, _∙_}
 use Prim.Native.Nat.{ℕ, _-_, _≤_}
 use native.Mathlib.Omega.{arith}
 use mir.Syntax.{w32}
 use mir.Val.{SFits}
 use denote.Ref.{now}
 use lib.ListN.{length}
+use Rattle.lines.specs.declared.Taken.{Taken}
 use Rattle.lines.specs.Intake.{Behind}
 use Rattle.lines.specs.Places.{partOf}
 use Rattle.clock.specs.Part.{part-length}
+use Rattle.calls.specs.Reads.{read-call}
 use Rattle.acts.specs.Script.{line-behind, line-short}
 use Rattle.recorder.specs.Recording.{with}
 use borrow.Author.Needs.{needs}
-use Rattle.recorder.proofs.Listening.{unheard, unheard-box, tick-heard, other-heard, recorded-box, ticked-writes, passed-note}
-use Rattle.recorder.proofs.Feeding.{written, notes-part, notes-none, Feeding, feeding-none, feeding-full, feeding-more, feeding-line}
+use Rattle.script.specs.Sight.{sightOf}
+use Rattle.script.specs.Told.{tick-told, tick-ahead, no-tick}
+use Rattle.script.specs.declared.Sighted.the-variants as S
+use Rattle.recorder.proofs.Listening.{unheard, unheard-box, sighted-heard, other-heard, recorded-box, ticked-writes, passed-note}
+use Rattle.recorder.proofs.Feeding.{written, notes-part, notes-none, Feeding, feeding-none, feeding-full, feeding-more, feeding-line, feeding-tick}
 use Rattle.recorder.proofs.feed_with.Statement.{statement}
 use Rattle.recorder.proofs.feed_with.Tie as tie
 
@@ -23,20 +28,22 @@ Inv-loop input bytes₀ reply₀ out₀ c₀ k₀ at₀ len₀ bytes reply out c
 abbrev μ-loop : tie.MeasureT-loop
 μ-loop input bytes₀ reply₀ out₀ c₀ k₀ at₀ len₀ bytes reply out c k at len = length input - at .at
 
--- the line lies in the buffer
-lies : (c : tie.After-next Inv-loop μ-loop) → Behind (c .before .before .before .before .before .loop .at) (now (c .before .before .before .before .before .before .before .before .before .before .before .before .args .input)) (c .next .given .0 .0) (c .next .given .0 .1 .0) (c .before .before .before .next-line .result .intake)
-lies c = line-behind _ _ (c .before .before .before .next-line .result) (c .before .before .before .next-line .ensures) (c .next .given .1)
-
 loop-holds : tie.Need-loop-holds Inv-loop μ-loop
-loop-holds c = let start = c .before .before .before .before .before .before in (feeding-none (start .args .r) (start .args .intake) (start .pre .0), refl, refl)
+loop-holds c = (feeding-none (c .before .before .before .before .before .before .args .r) (c .before .before .before .before .before .before .args .intake) (c .before .before .before .before .before .before .pre .0), refl, refl)
+
+-- ---- a line before or after recording
+
+-- it lies in the buffer
+lies-unheard : (c : tie.After-next Inv-loop μ-loop) → Behind (c .before .before .before .before .before .before .loop .at) (now (c .before .before .before .before .before .before .before .before .before .before .before .before .before .args .input)) (c .next .given .0 .0) (c .next .given .0 .1 .0) (c .before .before .before .next-line .result .intake)
+lies-unheard c = line-behind _ _ (c .before .before .before .next-line .result) (c .before .before .before .next-line .ensures) (c .next .given .1)
 
 returns : tie.Need-returns Inv-loop μ-loop
-returns c = feeding-more (c .before .before .before .before .before .loop .inv .0) (c .before .before .before .next-line .result) (c .before .before .before .next-line .ensures) (c .before .before .before .before .loop-test .taken) (c .enum-told .given .1)
+returns c = feeding-more (c .before .before .before .before .before .before .loop .inv .0) (c .before .before .before .next-line .result) (c .before .before .before .next-line .ensures) (c .before .before .before .before .before .loop-test .taken) (c .enum-told2 .given .1)
 
 unheard-requires : tie.Need-unheard-requires Inv-loop μ-loop
 unheard-requires c κs =
     let l = c .before .before .before .before .before .before .before .before .before .loop in
-    (l .inv .0 .carries .runs, (unheard _ (c .before .before .match2 .keys2), omega (arith, part-length (l .out) (l .len), c .before .before .before .before .before .before .before .before .loop-test .taken)))
+    (l .inv .0 .carries .runs, (unheard _ (c .before .before .before .before .before .before .before .match .keys2), omega (arith, part-length (l .out) (l .len), c .before .before .before .before .before .before .before .before .loop-test .taken)))
 
 add-len : tie.Need-add-len Inv-loop μ-loop
 add-len c =
@@ -50,91 +57,91 @@ unfolding partOf
 loop-again c =
     let l = c .before .before .before .before .before .before .before .before .before .before .before .before .before .before .loop in
     let w = l .inv .0 in
-    let t = c .before .before .before .before .before .before .before .before .before .before .before .before .next-line in
+    let t = c .before .before .before .before .before .before .before .before .before .before .before .next-line in
     let m = c .before .before .before .before .unheard in (
-      feeding-line w (t .result) (t .ensures) (c .before .before .before .before .before .before .before .before .before .before .before .before .before .loop-test .taken) (c .before .before .before .before .before .before .before .before .before .next .given .1)
-          (notes-part (omega (arith, w .room, w .long)) (unheard-box (l .c) _ (unheard _ (c .before .before .before .before .before .before .before .match2 .keys2))) (m .result) (m .kept .1 .1 .0) (m .ensures (l .c))),
+      feeding-line w (t .result) (t .ensures) (c .before .before .before .before .before .before .before .before .before .before .before .before .before .loop-test .taken) (c .before .before .before .before .before .before .before .before .next .given .1)
+          (notes-part (omega (arith, w .room, w .long)) (unheard-box (l .c) _ (unheard _ (c .before .before .before .before .before .before .before .before .before .before .before .before .match .keys2))) (m .result) (m .kept .1 .1 .0) (m .ensures (l .c))),
       l .inv .1,
       l .inv .2,
     )
 
-tick-requires : tie.Need-tick-requires Inv-loop μ-loop
-tick-requires c κs = c .before .before .before .before .before .before .before .before .before .before .before .before .before .before .before .before .loop .inv .0 .carries .sound
+-- ---- a tick
 
-heard-requires : tie.Need-heard-requires Inv-loop μ-loop
-heard-requires c κs = c .before .before .before .before .before .before .before .before .before .before .before .before .before .before .before .before .before .before .before .before .loop .inv .0 .carries .runs
+sight : (c : tie.After-known-told2 Inv-loop μ-loop) → sightOf (c .before .before .before .before .before .before .before .loop .at) (now (c .before .before .before .before .before .before .before .before .before .before .before .before .before .before .args .input)) ≡ S.Tick (c .before .sighted .given .0 .0) (c .before .sighted .given .0 .1 .0) (c .before .sighted .given .0 .1 .1 .0)
+sight c = sym (c .before .before .before .tick-next .ensures) ∙ c .before .sighted .given .1
+
+sample-fits : (c : tie.After-known-told2 Inv-loop μ-loop) → SFits w32 (c .before .sighted .given .0 .0)
+sample-fits c = search needs
 
 add-len-2 : tie.Need-add-len-2 Inv-loop μ-loop
 add-len-2 c =
-    let l = c .before .before .before .before .before .before .before .before .before .before .before .before .before .before .before .before .before .before .before .before .before .before .before .before .before .loop in
+    let l = c .before .before .before .before .before .before .before .before .before .before .before .before .before .before .before .before .loop in
     let w = l .inv .0 in
     let m = c .before .before .before .before .heard in
-    omega (arith, written (m .ensures .writes) (m .kept .1 .1 .0), part-length (l .out) (l .len), w .room, w .long, c .before .before .before .before .before .before .before .before .before .before .before .before .before .before .before .before .before .before .before .before .before .before .before .before .before .before .before .before .before .before .before .before .good)
-
-sample-fits : (c : tie.After-known-told2 Inv-loop μ-loop) → SFits w32 (c .before .call .given .0 .0)
-sample-fits c = record { sfits = c .known-told2 .given .0 .1 }
+    omega (arith, written (m .ensures .writes) (m .kept .1 .1 .0), part-length (l .out) (l .len), w .room, w .long, c .before .before .before .before .before .before .before .before .before .before .before .before .before .before .before .before .before .before .before .before .before .before .before .good)
 
 loop-again-2 : tie.Need-loop-again-2 Inv-loop μ-loop
-unfolding partOf
 loop-again-2 c =
-    let start = c .before .before .before .before .before .before .before .before .before .before .before .before .before .before .before .before .before .before .before .before .before .before .before .before .before .before .before .before .before .before .before .before in
-    let l = c .before .before .before .before .before .before .before .before .before .before .before .before .before .before .before .before .before .before .before .before .before .before .before .before .before .loop in
+    let at = c .before .before .before .before .before .before .before .before .before in
+    let l = c .before .before .before .before .before .before .before .before .before .before .before .before .before .before .before .before .loop in
     let w = l .inv .0 in
-    let t = c .before .before .before .before .before .before .before .before .before .before .before .before .before .before .before .before .before .before .before .before .before .before .before .next-line in
-    let room = c .before .before .before .before .before .before .before .before .before .before .before .before .before .before .before .before .before .before .before .before .before .before .before .before .loop-test .taken in
-    let line = c .before .before .before .before .before .before .before .before .before .before .before .before .before .before .before .before .before .before .before .before .next .given .1 in
-    let stage = c .before .before .before .before .before .before .before .before .before .before .before .before .before .before .before .before .before .enum-told2 .given .1 in
-    let read = c .before .before .before .before .before .before .before .before .before .before .before .before .before .before .read in
+    let room = c .before .before .before .before .before .before .before .before .before .before .before .before .before .before .before .loop-test .taken in
+    let stage = c .before .before .before .before .before .before .before .before .before .before .before .before .before .enum-told .given .1 in
     let m = c .before .before .before .before .heard in
-    let heard = tick-heard (omega (arith, l .inv .1, start .pre .1 .0)) (line-short _ _ (t .result) (t .ensures) line) (c .before .before .before .before .before .before .before .before .tick .result) (read .ensures) (c .before .before .before .before .before .before .before .before .before .before .call .given .1) (sample-fits (c .before .before .before .before .before .before .before .before .before)) (c .before .before .before .before .before .before .before .before .tick .ensures) (c .before .before .before .before .before .before .heard-tick .ensures) in (
-      feeding-line w (t .result) (t .ensures) room line
+    let heard = sighted-heard (c .before .before .before .before .before .before .before .before .tick .result) (tick-told _ _ (sight at) .call) (sample-fits at) (c .before .before .before .before .before .before .before .before .tick .ensures) (c .before .before .before .before .before .before .heard-tick .ensures) in (
+      feeding-tick w (sight at) room
           (notes-part (omega (arith, w .room, w .long)) (recorded-box (l .k) stage heard) (m .result) (m .kept .1 .1 .0)
           (ticked-writes (l .k) stage heard (w .carries .sound) (omega (arith, part-length (l .out) (l .len), room)) (m .ensures))),
-      omega (arith, l .inv .1, read .kept .1 .0),
+      l .inv .1,
       l .inv .2,
     )
 
-other-requires : tie.Need-other-requires Inv-loop μ-loop
-other-requires c κs = c .before .before .before .before .before .before .before .before .before .before .before .before .before .before .before .before .loop .inv .0 .carries .sound
+-- ---- any other line
+
+lies : (c : tie.After-next2 Inv-loop μ-loop) → Behind (c .before .before .before .before .before .before .before .before .before .before .loop .at) (now (c .before .before .before .before .before .before .before .before .before .before .before .before .before .before .before .before .before .args .input)) (c .next2 .given .0 .0) (c .next2 .given .0 .1 .0) (c .before .before .before .next-line2 .result .intake)
+lies c = line-behind _ _ (c .before .before .before .next-line2 .result) (c .before .before .before .next-line2 .ensures) (c .next2 .given .1)
+
+returns-2 : tie.Need-returns-2 Inv-loop μ-loop
+returns-2 c = feeding-more (c .before .before .before .before .before .before .before .before .before .before .loop .inv .0) (c .before .before .before .next-line2 .result) (c .before .before .before .next-line2 .ensures) (c .before .before .before .before .before .before .before .before .before .loop-test .taken) (c .enum-told4 .given .1)
 
 loop-again-3 : tie.Need-loop-again-3 Inv-loop μ-loop
 unfolding partOf
 loop-again-3 c =
-    let start = c .before .before .before .before .before .before .before .before .before .before .before .before .before .before .before .before .before .before .before .before .before .before .before .before .before .before .before .before .before in
-    let l = c .before .before .before .before .before .before .before .before .before .before .before .before .before .before .before .before .before .before .before .before .before .before .loop in
+    let pre = c .before .before .before .before .before .before .before .before .before .before .before .before .before .before .before .before .before .before .before .before .before .before .before .before .before .before .before .before .before .before .before .pre in
+    let l = c .before .before .before .before .before .before .before .before .before .before .before .before .before .before .before .before .before .before .before .before .before .before .before .before .loop in
     let w = l .inv .0 in
-    let t = c .before .before .before .before .before .before .before .before .before .before .before .before .before .before .before .before .before .before .before .before .next-line in
-    let line = c .before .before .before .before .before .before .before .before .before .before .before .before .before .before .before .before .before .next .given .1 in
-    let stage = c .before .before .before .before .before .before .before .before .before .before .before .before .before .before .enum-told2 .given .1 in
-    let read = c .before .before .before .before .before .before .before .before .before .before .before .read in
+    let t = c .before .before .before .before .before .before .before .before .before .before .before .before .before .before .before .before .before .next-line2 in
+    let line = c .before .before .before .before .before .before .before .before .before .before .before .before .before .before .next2 .given .1 in
+    let stage = c .before .before .before .before .before .before .before .before .before .before .before .before .before .before .before .before .before .before .before .before .before .enum-told .given .1 in
+    let read = c .before .before .before .before .before .before .before .before .before .before .read in
     let made = c .before .before .before .before .before .other in
     let answer = c .before .by-answer .ensures in
-    let heard = other-heard (omega (arith, l .inv .1, start .pre .1 .0)) (line-short _ _ (t .result) (t .ensures) line) (read .result) (made .result) (omega (arith, l .inv .2, start .pre .1 .1)) (c .before .before .before .before .before .before .before .before .match3 .keys2) (read .ensures) (made .ensures) answer in (
-      feeding-line w (t .result) (t .ensures) (c .before .before .before .before .before .before .before .before .before .before .before .before .before .before .before .before .before .before .before .before .before .loop-test .taken) line
+    let other = no-tick _ _ (sym (c .before .before .before .before .before .before .before .before .before .before .before .before .before .before .before .before .before .before .before .before .tick-next .ensures) ∙ c .before .before .before .before .before .before .before .before .before .before .before .before .before .before .before .before .before .before .enum-told3 .given .1) (ap (λ (x : Taken). x .next) (sym (t .ensures)) ∙ line) _ (read .result) (read-call (read .ensures) (omega (arith, l .inv .1, pre .1 .0)) (line-short _ _ (t .result) (t .ensures) line)) in
+    let heard = other-heard (omega (arith, l .inv .1, pre .1 .0)) (line-short _ _ (t .result) (t .ensures) line) (read .result) (made .result) (omega (arith, l .inv .2, pre .1 .1)) other (read .ensures) (made .ensures) answer in (
+      feeding-line w (t .result) (t .ensures) (c .before .before .before .before .before .before .before .before .before .before .before .before .before .before .before .before .before .before .before .before .before .before .before .loop-test .taken) line
           (notes-none (omega (arith, w .room, w .long)) (recorded-box (l .k) stage heard) (passed-note (l .k) stage heard answer (c .passed .ensures .next))),
       omega (arith, l .inv .1, read .kept .1 .0),
       omega (arith, l .inv .2, made .kept .1 .1 .1 .0),
     )
 
-returns-2 : tie.Need-returns-2 Inv-loop μ-loop
-returns-2 c = feeding-full (c .before .loop .inv .0) (c .loop-test .left)
+returns-3 : tie.Need-returns-3 Inv-loop μ-loop
+returns-3 c = feeding-full (c .before .loop .inv .0) (c .loop-test .left)
 
 pub feed-with-spec : {M : Type 1} → statement M
 feed-with-spec =
     tie.close
     (tie.spec
-    Inv-loop μ-loop loop-holds (λ c. search needs) (λ c κs. search needs) (λ c. search needs) (λ c. search needs)
-    (λ c. search needs) (λ c. search needs) (λ c. search needs) returns (λ c. search needs)
-    (λ c. lies (c .before .before) .order) (λ c. lies (c .before .before) .order) (λ c. let b = lies (c .before .before) in omega (arith, b .inside))
+    Inv-loop μ-loop loop-holds (λ c. search needs) (λ c. search needs) (λ c κs. search needs) (λ c. search needs) (λ c. search needs)
+    (λ c. search needs) (λ c. search needs) (λ c. search needs) returns
+    (λ c. lies-unheard (c .before) .order) (λ c. lies-unheard (c .before) .order) (λ c. let b = lies-unheard (c .before) in omega (arith, b .inside))
     (λ c. search needs) (λ c. search needs) (λ c. search needs) unheard-requires add-len
-    (λ c. let b = lies (c .before .before .before .before .before .before .before .before .before) in omega (arith, b .inside, b .place, b .ahead))
-    loop-again
-    (λ c. lies (c .before .before .before) .order) (λ c. lies (c .before .before .before) .order) (λ c. let b = lies (c .before .before .before) in omega (arith, b .inside))
-    (λ c κs. search needs) (λ c. search needs) tick-requires (λ c κs. search needs)
-    (λ c. let w = c .before .before .before .before .before .before .before .before .before .before .before .before .before .before .before .before .before .before .before .loop .inv .0 in omega (arith, w .room, w .long)) (λ c. let w = c .before .before .before .before .before .before .before .before .before .before .before .before .before .before .before .before .before .before .before .loop .inv .0 in omega (arith, w .room, w .long)) (λ c. search needs) heard-requires add-len-2
-    (λ c. let b = lies (c .before .before .before .before .before .before .before .before .before .before .before .before .before .before .before .before .before .before .before .before) in omega (arith, b .inside, b .place, b .ahead))
-    loop-again-2
-    other-requires (λ c κs. search needs) (λ c κs. search needs)
-    (λ c. let b = lies (c .before .before .before .before .before .before .before .before .before .before .before .before .before .before .before .before .before) in omega (arith, b .inside, b .place, b .ahead))
-    loop-again-3
-    (λ c. search needs) (λ c. search needs) (λ c. search needs) returns-2)
+    (λ c. let b = lies-unheard (c .before .before .before .before .before .before .before .before) in omega (arith, b .inside, b .place, b .ahead)) loop-again
+    (λ c κs. search needs) (λ c. search needs) (λ c κs. c .before .before .before .before .before .before .before .loop .inv .0 .carries .sound) (λ c κs. search needs)
+    (λ c. let w = c .before .before .before .before .before .before .before .before .before .before .loop .inv .0 in omega (arith, w .room, w .long)) (λ c. let w = c .before .before .before .before .before .before .before .before .before .before .loop .inv .0 in omega (arith, w .room, w .long)) (λ c. search needs)
+    (λ c κs. c .before .before .before .before .before .before .before .before .before .before .before .loop .inv .0 .carries .runs) add-len-2
+    (λ c. let less = tick-ahead _ _ (sight (c .before .before .before .before .before .before .before .before .before)) in omega (arith, less)) loop-again-2
+    (λ c. search needs) (λ c κs. search needs) (λ c. search needs) (λ c. search needs) (λ c. search needs) (λ c. search needs) (λ c. search needs) returns-2
+    (λ c. lies (c .before) .order) (λ c. lies (c .before) .order) (λ c. let b = lies (c .before) in omega (arith, b .inside)) (λ c κs. search needs)
+    (λ c κs. c .before .before .before .before .before .before .before .before .before .before .before .before .before .before .before .before .before .before .loop .inv .0 .carries .sound) (λ c κs. search needs) (λ c κs. search needs)
+    (λ c. let b = lies (c .before .before .before .before .before .before .before .before .before .before .before .before .before .before) in omega (arith, b .inside, b .place, b .ahead)) loop-again-3
+    (λ c. search needs) (λ c. search needs) (λ c. search needs) returns-3)

@@ -8,15 +8,15 @@ filter-of-requires c κs = tt
 mean-lent-requires : tie.Need-mean-lent-requires
 mean-lent-requires c κs = tt
 
-calm-run-requires : tie.Need-calm-run-requires
-calm-run-requires c κs = tt
+calm-by-mean-requires : tie.Need-calm-by-mean-requires
+calm-by-mean-requires c κs = tt
 
 returns : tie.Need-returns
 returns c =
     let m = c .before in
     let n = m .before in
     let a = n .before .args in
-    samples-so (a .set) (a .gates) (a .first) _ (a .held) (a .f) (a .s) (n .filter-of .ensures) (m .mean-lent .ensures) (c .calm-run .ensures)
+    samples-so (a .set) (a .gates) (a .first) _ (a .held) (a .f) (a .s) (n .filter-of .ensures) (m .mean-lent .ensures) (c .calm-by-mean .ensures)
 
 pub sample-spec : {M : Type 1} → statement M
-sample-spec = tie.close (tie.spec filter-of-requires mean-lent-requires calm-run-requires returns)
+sample-spec = tie.close (tie.spec filter-of-requires mean-lent-requires calm-by-mean-requires returns)

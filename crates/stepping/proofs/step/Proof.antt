@@ -14,8 +14,8 @@ is-unstarted-requires c κs = tt
 over-capacity-requires : tie.Need-over-capacity-requires
 over-capacity-requires c κs = tt
 
-calm-after-requires : tie.Need-calm-after-requires
-calm-after-requires c κs = tt
+calm-by-gates-requires : tie.Need-calm-by-gates-requires
+calm-by-gates-requires c κs = tt
 
 outputs-of-requires : tie.Need-outputs-of-requires
 outputs-of-requires c κs = tt
@@ -30,7 +30,7 @@ returns c =
     let u = o .before in
     let m = u .before .before .before in
     let a = m .before .before .args in
-    steps-so (a .set) (a .began) (a .f) (a .z) (a .s) (a .gates) (a .n) (a .start) (m .before .see .ensures) (m .step .ensures) (u .is-unstarted .ensures) (o .over-capacity .ensures) (s .calm-after .ensures) (c .before .outputs-of .ensures) (c .counters-after .ensures)
+    steps-so (a .set) (a .began) (a .f) (a .z) (a .s) (a .gates) (a .n) (a .start) (m .before .see .ensures) (m .step .ensures) (u .is-unstarted .ensures) (o .over-capacity .ensures) (s .calm-by-gates .ensures) (c .before .outputs-of .ensures) (c .counters-after .ensures)
 
 pub step-spec : {M : Type 1} → statement M
 step-spec =
@@ -40,7 +40,7 @@ step-spec =
     step-requires
     is-unstarted-requires
     over-capacity-requires
-    calm-after-requires
+    calm-by-gates-requires
     outputs-of-requires
     counters-after-requires
     returns)

@@ -10,15 +10,18 @@ use Rattle.controller.proofs.Steps.{Kept, kept-so, mean-small, reached,
 use Rattle.controller.proofs.tick.steps4to8.Statement.{statement}
 use Rattle.controller.proofs.tick.steps4to8.Tie as tie
 
-told : (c : tie.After-struct-told) → SFits w32 (c .before .args .x .v)
+kept-requires : tie.Need-kept-requires
+kept-requires c κs = tt
+
+told : (c : tie.After-struct-told) → SFits w32 (c .before .before .args .x .v)
 told c = search needs
 
 push-requires : tie.Need-push-requires
 push-requires c κs = tt
 
 -- the sample is kept
-pushed : (c : tie.After-push) → c .push .result ≡ pushOf (c .before .before .args .c .window) (c .before .before .args .x .v)
-pushed c = c .push .ensures ∙ ap (λ (z : ℤ). pushOf (c .before .before .args .c .window) z) (toZ-ofZ (told (c .before)))
+pushed : (c : tie.After-push) → c .push .result ≡ pushOf (c .before .before .kept .result .window) (c .before .before .before .args .x .v)
+pushed c = c .push .ensures ∙ ap (λ (z : ℤ). pushOf (c .before .before .kept .result .window) z) (toZ-ofZ (told (c .before)))
 
 -- the samples lent are the window's
 lent : (c : tie.After-push) → length (c .push .result .samples) ≡ 128
@@ -27,16 +30,19 @@ lent c = search needs
 sample-requires : tie.Need-sample-requires
 sample-requires c κs = search needs
 
--- where the tick begins, and where its sample was kept
+-- where the tick begins, where its inputs were kept, and where its sample was
 module _ (c : tie.After-sample) where
   abbrev push : tie.After-push
   push = c .before .before .before .before .before
 
-  abbrev start : tie.Start
-  start = push .before .before
+  abbrev stored : tie.After-kept
+  stored = push .before .before
 
-  kept : Kept (start .args .c) (start .args .x .v) (push .push .result) (c .sample .result)
-  kept = kept-so (start .args .c) (start .args .x .v) (push .push .result) (start .pre .sound) (lent push) (pushed push) (c .sample .ensures)
+  abbrev start : tie.Start
+  start = stored .before
+
+  sampled : Kept (stored .kept .result) (start .args .x .v) (push .push .result) (c .sample .result)
+  sampled = kept-so (start .args .c) (start .args .inputs) (stored .kept .ensures) (start .pre .sound) (start .args .x .v) (push .push .result) (lent push) (pushed push) (c .sample .ensures)
 
 start-of-requires : tie.Need-start-of-requires
 start-of-requires c κs = tt
@@ -60,7 +66,7 @@ steps7and8-requires : tie.Need-steps7and8-requires
 steps7and8-requires c κs =
     let k = c .before .before .before .before .before .before in
     let p = start k in
-    mean-small (p .args .c) (p .args .x) (p .pre .sound) (p .pre .inside) (kept k)
+    mean-small (p .args .c) (p .args .inputs) (stored k .kept .ensures) (p .pre .sound) (p .args .x) (p .pre .inside) (sampled k)
 
 -- F14
 returns : tie.Need-returns
@@ -70,7 +76,7 @@ returns c =
     let o = r .before in
     let k = o .before in
     let p = start k in
-    reached (p .args .c) (p .args .x .v) (p .args .inputs) (w .reached .result) (p .pre .inside) (kept k) (o .start-of .ensures) (r .runs-after .ensures) (w .reached .ensures) (c .before .before .channel .given .1) (c .faulted .ensures)
+    reached (p .args .c) (p .args .x .v) (p .args .inputs) (w .reached .result) (p .pre .inside) (stored k .kept .ensures) (sampled k) (o .start-of .ensures) (r .runs-after .ensures) (w .reached .ensures) (c .before .before .channel .given .1) (c .faulted .ensures)
 
 returns-2 : tie.Need-returns-2
 returns-2 c =
@@ -79,12 +85,13 @@ returns-2 c =
     let o = r .before in
     let k = o .before in
     let p = start k in
-    not-reached (p .args .c) (p .args .x .v) (p .args .inputs) (w .reached .result) (p .pre .inside) (kept k) (o .start-of .ensures) (r .runs-after .ensures) (w .reached .ensures) (c .before .enum-told .given .1) (c .steps7and8 .ensures)
+    not-reached (p .args .c) (p .args .x .v) (p .args .inputs) (w .reached .result) (p .pre .inside) (stored k .kept .ensures) (sampled k) (o .start-of .ensures) (r .runs-after .ensures) (w .reached .ensures) (c .before .enum-told .given .1) (c .steps7and8 .ensures)
 
 pub steps4to8-spec : {M : Type 1} → statement M
 steps4to8-spec =
     tie.close
     (tie.spec
+    kept-requires
     push-requires
     sample-requires
     start-of-requires

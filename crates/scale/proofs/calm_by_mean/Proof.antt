@@ -5,10 +5,10 @@ use mir.Val.{SFits}
 use borrow.Author.Needs.{needs}
 use borrow.Author.Tests.{lt-ltb, le-ltb}
 use Rattle.laws.specs.Pick.{pick-t, pick-f}
-use Rattle.scale.specs.Scale.{calmRun}
+use Rattle.scale.specs.Scale.{calmByMean}
 use Rattle.scale.proofs.Laws.{equal-is, calm-again}
-use Rattle.scale.proofs.calm_run.Statement.{statement}
-use Rattle.scale.proofs.calm_run.Tie as tie
+use Rattle.scale.proofs.calm_by_mean.Statement.{statement}
+use Rattle.scale.proofs.calm_by_mean.Tie as tie
 
 told-f : (c : tie.After-struct-told) → SFits w32 (c .before .args .f .v)
 told-f c = search needs
@@ -20,24 +20,24 @@ add-result : tie.Need-add-result
 add-result c = search needs
 
 returns : tie.Need-returns
-unfolding calmRun
+unfolding calmByMean
 returns c =
     let t = c .before in
     sym (calm-again _ _ _ ∙ pick-t _ _ _ (rw (equal-is (told-f (t .before)) (told-previous t)) at (c .if1 .taken)))
 
 returns-2 : tie.Need-returns-2
-unfolding calmRun
+unfolding calmByMean
 returns-2 c =
     let t = c .before .before in
     let e = rw (equal-is (told-f (t .before)) (told-previous t)) at (c .before .if1 .left) in
     sym (calm-again _ _ _ ∙ pick-f _ _ _ e ∙ pick-t _ _ _ (lt-ltb (t .before .before .args .s) 4032 (omega arith)))
 
 returns-3 : tie.Need-returns-3
-unfolding calmRun
+unfolding calmByMean
 returns-3 c =
     let t = c .before .before in
     let e = rw (equal-is (told-f (t .before)) (told-previous t)) at (c .before .if1 .left) in
     sym (calm-again _ _ _ ∙ pick-f _ _ _ e ∙ pick-f _ _ _ (le-ltb (t .before .before .args .s) 4032 (omega arith)))
 
-pub calm-run-spec : {M : Type 1} → statement M
-calm-run-spec = tie.close (tie.spec returns add-result returns-2 returns-3)
+pub calm-by-mean-spec : {M : Type 1} → statement M
+calm-by-mean-spec = tie.close (tie.spec returns add-result returns-2 returns-3)

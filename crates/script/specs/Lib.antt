@@ -1,0 +1,4 @@
+pub mod Sight
+pub mod SightLaws
+pub mod SightNext
+pub mod Told

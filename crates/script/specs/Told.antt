@@ -1,0 +1,145 @@
+-- What a program knows of the next line by what it was told. Assumes nothing.
+use mathlib.Core.Path.{_≡_, refl, sym, ap, _∙_, subst}
+use mathlib.Core.Bool.{false}
+use mathlib.Core.List.{List, [], _∷_}
+use Prim.Native.Nat.{ℕ, _+_, _≤_, _<_}
+use native.Mathlib.Omega.{arith}
+use types.Run.{OneOf, hit}
+use denote.Enum.Declared.{tagOf}
+use lib.Dec.{ltb}
+use lib.IntN.{ℤ}
+use lib.ListN.{length, take}
+use Rattle.laws.specs.Pick.{pick, pick-if}
+use Rattle.laws.specs.Decimal.{Parsed, good, bad}
+use Rattle.lines.specs.declared.Intake.{Intake}
+use Rattle.lines.specs.declared.Taken.{Taken}
+use Rattle.lines.specs.declared.Next.{Next}
+use Rattle.lines.specs.declared.Next.the-variants.{Line, More}
+use Rattle.lines.specs.Places.{endOf, partOf}
+use Rattle.lines.specs.Intake.{overlong, lineTo, nextOf, Behind, NextStands, next-steps}
+use Rattle.calls.specs.Call.{Call, tick, link, settings, reset, counters, restart, request, modbus, why, writeFrame, readFrame, writeField, readField, writeLine, readLine, hour, hours, callBy, atEnd, callOf}
+use Rattle.calls.specs.declared.Call as read
+use Rattle.calls.specs.declared.Call.the-variants as C
+use Rattle.calls.proofs.Call.{the-type as call-type}
+use Rattle.calls.specs.Reads.{asCall}
+use Rattle.script.specs.Sight.{Seen, seen, unseen, ifTick, onlyTick, placed, handedTick, sightOf}
+use Rattle.script.specs.declared.Sighted.{Sighted}
+use Rattle.script.specs.declared.Sighted.the-variants as S
+
+unseen-seen : {X : Type 0} {x : ℤ} {k : ℕ} → unseen ≡ seen x k → X
+unseen-seen e = let z : _≡_ {A = ℕ} 0 1 = cc in let f : ⊥ = omega arith in absurd f
+
+-- ---- a tick
+
+if-tick : (call : Call) {x : ℤ} {k : ℕ} → ifTick call ≡ seen x k → call ≡ tick x k
+unfolding ifTick
+if-tick (tick x i) e = cc
+if-tick (link on) e = unseen-seen e
+if-tick (settings set) e = unseen-seen e
+if-tick reset e = unseen-seen e
+if-tick counters e = unseen-seen e
+if-tick (restart set count total) e = unseen-seen e
+if-tick (request s room) e = unseen-seen e
+if-tick (modbus s room) e = unseen-seen e
+if-tick (why k) e = unseen-seen e
+if-tick (writeFrame s room) e = unseen-seen e
+if-tick (readFrame s) e = unseen-seen e
+if-tick (writeField w) e = unseen-seen e
+if-tick (readField f) e = unseen-seen e
+if-tick (writeLine l room) e = unseen-seen e
+if-tick (readLine f s) e = unseen-seen e
+if-tick (hour s h) e = unseen-seen e
+if-tick (hours s room) e = unseen-seen e
+
+ended-tick : (p : Parsed Call) {x : ℤ} {k : ℕ} → onlyTick (atEnd p) ≡ seen x k → atEnd p ≡ good (tick x k) []
+unfolding atEnd onlyTick
+ended-tick (good call []) e = ap (λ (c : Call). good c []) (if-tick call e)
+ended-tick (good call (b ∷ bs)) e = unseen-seen e
+ended-tick bad e = unseen-seen e
+
+line-tick : (l : List ℕ) {x : ℤ} {k : ℕ} → onlyTick (callOf l) ≡ seen x k → callOf l ≡ good (tick x k) []
+unfolding callOf onlyTick
+line-tick [] e = unseen-seen e
+line-tick (b ∷ bs) e = ended-tick (callBy b bs) e
+
+placed-tick : (n : ℕ) (s : Seen) {x : ℤ} {k next : ℕ} → placed n s ≡ S.Tick x k next → (s ≡ seen x k) × (n ≡ next)
+unfolding placed
+placed-tick n (seen y j) e = (cc, cc)
+placed-tick n unseen e = let z : _≡_ {A = ℕ} 0 1 = cc in let f : ⊥ = omega arith in absurd f
+
+-- it is the next line's, and the others begin behind it
+pub record Ticking (i : Intake) (input : List ℕ) (t : Taken) (x : ℤ) (k next : ℕ) : Type 0 where
+  pub from : ℕ
+  pub to : ℕ
+  pub line : t .next ≡ Line from to
+  pub behind : t .intake ≡ record { at = next; have = i .have; long = false }
+  pub call : callOf (partOf from to input) ≡ good (tick x k) []
+
+module _ (i : Intake) (input : List ℕ) where
+  told-line : (end : ℕ) {x : ℤ} {k next : ℕ} → handedTick input (lineTo i end .intake .at) (lineTo i end .next) ≡ S.Tick x k next → Ticking i input (lineTo i end) x k next
+  unfolding lineTo handedTick
+  told-line end e =
+      let l = partOf (pick (overlong i end) end (i .at)) end input in
+      let p = placed-tick (end + 1) (onlyTick (callOf l)) e in
+      record {
+        from = pick (overlong i end) end (i .at);
+        to = end;
+        line = refl;
+        behind = ap (λ (n : ℕ). record { at = n; have = i .have; long = false }) (p .1);
+        call = line-tick l (p .0);
+      }
+
+  pub tick-told : {x : ℤ} {k next : ℕ} → sightOf i input ≡ S.Tick x k next → Ticking i input (nextOf i input) x k next
+  unfolding sightOf nextOf handedTick
+  tick-told {x} {k} {next} e =
+      pick-if (λ (t : Taken). handedTick input (t .intake .at) (t .next) ≡ S.Tick x k next → Ticking i input t x k next) (ltb (endOf (take (i .have) input) (i .at)) (length (take (i .have) input)))
+      (λ h. told-line (endOf (take (i .have) input) (i .at)))
+      (λ h f. let z : _≡_ {A = ℕ} 0 1 = cc in let a : ⊥ = omega arith in absurd a)
+      e
+
+  -- it lies in the buffer
+  pub tick-ahead : {x : ℤ} {k next : ℕ} → sightOf i input ≡ S.Tick x k next → (i .at < next) × (next ≤ length input)
+  tick-ahead e =
+      let t = tick-told e in
+      let b : Behind i input (t .from) (t .to) (nextOf i input .intake) = subst (NextStands i input (nextOf i input .intake)) (t .line) (next-steps i input .stands) in
+      let at = ap (λ (j : Intake). j .at) (t .behind) in
+      (omega (arith, b .place, b .ahead, at), omega (arith, b .place, b .inside, at))
+
+-- ---- no tick
+
+-- every other call
+abbrev pub unticked : List ℕ
+unticked = 1 ∷ 2 ∷ 3 ∷ 4 ∷ 5 ∷ 6 ∷ 7 ∷ 8 ∷ 9 ∷ 10 ∷ 11 ∷ 12 ∷ 13 ∷ 14 ∷ 15 ∷ 16 ∷ 17 ∷ []
+
+untick : (bytes : List ℕ) (call : read.Call) → onlyTick (asCall bytes call) ≡ unseen → OneOf unticked (tagOf call-type call)
+unfolding onlyTick asCall ifTick
+untick bytes (C.Tick x i) e = unseen-seen (sym e)
+untick bytes (C.Link on) e = hit unticked 1 tt
+untick bytes (C.Settings set) e = hit unticked 2 tt
+untick bytes C.Reset e = hit unticked 3 tt
+untick bytes C.Counters e = hit unticked 4 tt
+untick bytes (C.Restart set count total) e = hit unticked 5 tt
+untick bytes (C.Request n room) e = hit unticked 6 tt
+untick bytes (C.Modbus n room) e = hit unticked 7 tt
+untick bytes (C.Why k) e = hit unticked 8 tt
+untick bytes (C.WriteFrame n room) e = hit unticked 9 tt
+untick bytes (C.ReadFrame n) e = hit unticked 10 tt
+untick bytes (C.WriteField w) e = hit unticked 11 tt
+untick bytes (C.ReadField f) e = hit unticked 12 tt
+untick bytes (C.WriteLine l room) e = hit unticked 13 tt
+untick bytes (C.ReadLine f n) e = hit unticked 14 tt
+untick bytes (C.Hour n h) e = hit unticked 15 tt
+untick bytes (C.Hours n room) e = hit unticked 16 tt
+untick bytes C.Unknown e = hit unticked 17 tt
+
+placed-none : (n : ℕ) (s : Seen) → placed n s ≡ S.Other → s ≡ unseen
+unfolding placed
+placed-none n (seen y j) e = let z : _≡_ {A = ℕ} 0 1 = cc in let f : ⊥ = omega arith in absurd f
+placed-none n unseen e = refl
+
+pub no-tick : (i : Intake) (input : List ℕ) {from to : ℕ} → sightOf i input ≡ S.Other → nextOf i input .next ≡ Line from to
+    → (bytes : List ℕ) (call : read.Call) → asCall bytes call ≡ callOf (partOf from to input) → OneOf unticked (tagOf call-type call)
+unfolding sightOf handedTick
+no-tick i input {from} {to} e l bytes call a =
+    let next = nextOf i input .intake .at in
+    untick bytes call (ap onlyTick a ∙ placed-none next (onlyTick (callOf (partOf from to input))) (sym (ap (handedTick input next) l) ∙ e))
