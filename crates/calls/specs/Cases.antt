@@ -13,7 +13,10 @@ use Rattle.journal.specs.declared.Line.the-variants.{Dose}
 use Rattle.text.specs.Scan.{expect, onGood, fieldAt}
 use Rattle.operands.specs.Numbers.{minus, plus, signedAt, signedField, setWith}
 use Rattle.operands.specs.Bytes.{isHex, hexValue, two, leadingBytes}
-use Rattle.calls.specs.Call.{tick, settings, restart, request, modbus, why, readFrame, writeField, readField, writeLine, readLine, hour, bytesAt, bytesField, flagField, rowFrom, numbersField, tickAt, linkAt, whyAt, orLast, settingsAt, restartAt, roomAt, bytesCall, writeFieldAt, readFieldAt, doseAt, onAt, callBy, atEnd, callOf}
+use Rattle.calls.specs.Call.{tick, request, modbus, order, item, bytes, bytesAt, bytesField, flagField, rowFrom, numbersField, tickAt, linkAt, whyAt, orLast, settingsAt, restartAt, roomAt, bytesCall, writeFieldAt, readFieldAt, doseAt, onAt, callBy, atEnd, callOf}
+use Rattle.calls.specs.declared.Order.the-variants.{Settings as Set, Restart, Why}
+use Rattle.calls.specs.declared.Item.the-variants.{Weight, Field, Line}
+use Rattle.calls.specs.declared.Use.the-variants.{ReadFrame, ReadLine, Hour}
 
 -- to unfold this is to unfold every rule of what a line asks
 unfoldable pub readings : Unit {0}
@@ -47,8 +50,8 @@ seventeen = sixteen ++ 9 ∷ 52 ∷ 50 ∷ 57 ∷ 52 ∷ 57 ∷ 54 ∷ 55 ∷ 50
 
 -- the 18 settings in the order of the table, and 17 with product 0; not 16, nor a tab alone behind them, nor 19
 pub sets :
-    (callOf (83 ∷ seventeen ++ 9 ∷ 55 ∷ []) ≡ good (settings (inOrder 7)) [])
-    × (callOf (83 ∷ seventeen) ≡ good (settings (inOrder 0)) [])
+    (callOf (83 ∷ seventeen ++ 9 ∷ 55 ∷ []) ≡ good (order (Set (inOrder 7))) [])
+    × (callOf (83 ∷ seventeen) ≡ good (order (Set (inOrder 0))) [])
     × (callOf (83 ∷ seventeen ++ 9 ∷ []) ≡ bad)
     × (callOf (83 ∷ seventeen ++ 9 ∷ 55 ∷ 9 ∷ 55 ∷ []) ≡ bad)
     × (callOf (83 ∷ sixteen) ≡ bad)
@@ -58,8 +61,8 @@ sets = (refl, refl, refl, refl, refl, refl)
 
 -- the stored count stands before the total, both behind the product; without the product it is 0
 pub restarts :
-    (callOf (78 ∷ seventeen ++ 9 ∷ 55 ∷ 9 ∷ 56 ∷ 9 ∷ 57 ∷ []) ≡ good (restart (inOrder 7) 8 9) [])
-    × (callOf (78 ∷ seventeen ++ 9 ∷ 56 ∷ 9 ∷ 57 ∷ []) ≡ good (restart (inOrder 0) 8 9) [])
+    (callOf (78 ∷ seventeen ++ 9 ∷ 55 ∷ 9 ∷ 56 ∷ 9 ∷ 57 ∷ []) ≡ good (order (Restart (inOrder 7) 8 9)) [])
+    × (callOf (78 ∷ seventeen ++ 9 ∷ 56 ∷ 9 ∷ 57 ∷ []) ≡ good (order (Restart (inOrder 0) 8 9)) [])
     × (callOf (78 ∷ seventeen ++ 9 ∷ 56 ∷ []) ≡ bad)
     × (callOf (78 ∷ seventeen ++ 9 ∷ 55 ∷ 9 ∷ 56 ∷ 9 ∷ 57 ∷ 9 ∷ 48 ∷ []) ≡ bad)
 unfolding readings
@@ -67,8 +70,8 @@ restarts = (refl, refl, refl, refl)
 
 -- two digits a byte, in upper case; an empty field is no bytes
 pub hex :
-    (callOf (88 ∷ 9 ∷ []) ≡ good (readFrame []) [])
-    × (callOf (88 ∷ 9 ∷ 70 ∷ 70 ∷ 48 ∷ 65 ∷ []) ≡ good (readFrame (255 ∷ 10 ∷ [])) [])
+    (callOf (88 ∷ 9 ∷ []) ≡ good (bytes ReadFrame [] 0) [])
+    × (callOf (88 ∷ 9 ∷ 70 ∷ 70 ∷ 48 ∷ 65 ∷ []) ≡ good (bytes ReadFrame (255 ∷ 10 ∷ []) 0) [])
     × (callOf (88 ∷ 9 ∷ 70 ∷ 70 ∷ 48 ∷ []) ≡ bad)
     × (callOf (88 ∷ 9 ∷ 70 ∷ 102 ∷ []) ≡ bad)
     × (callOf (88 ∷ 9 ∷ 48 ∷ 48 ∷ 9 ∷ []) ≡ bad)
@@ -82,15 +85,15 @@ pub fields :
     × (callOf (77 ∷ 9 ∷ 48 ∷ 49 ∷ 48 ∷ 51 ∷ 9 ∷ 54 ∷ 52 ∷ []) ≡ good (modbus (1 ∷ 3 ∷ []) 64) [])
     × (callOf (77 ∷ 9 ∷ 9 ∷ 54 ∷ 53 ∷ []) ≡ bad)
     × (callOf (109 ∷ 9 ∷ 9 ∷ 48 ∷ []) ≡ bad)
-    × (callOf (89 ∷ 9 ∷ 50 ∷ 53 ∷ 53 ∷ []) ≡ good (why 255) [])
+    × (callOf (89 ∷ 9 ∷ 50 ∷ 53 ∷ 53 ∷ []) ≡ good (order (Why 255)) [])
     × (callOf (89 ∷ 9 ∷ 50 ∷ 53 ∷ 54 ∷ []) ≡ bad)
-    × (callOf (71 ∷ 9 ∷ 45 ∷ 53 ∷ 9 ∷ 49 ∷ 9 ∷ 48 ∷ 9 ∷ 50 ∷ 53 ∷ 53 ∷ []) ≡ good (writeField (weight (negsuc 4) true false 255)) [])
-    × (callOf (75 ∷ 9 ∷ 48 ∷ 49 ∷ 48 ∷ 50 ∷ 48 ∷ 51 ∷ 48 ∷ 52 ∷ []) ≡ good (readField (four 1 2 3 4)) [])
+    × (callOf (71 ∷ 9 ∷ 45 ∷ 53 ∷ 9 ∷ 49 ∷ 9 ∷ 48 ∷ 9 ∷ 50 ∷ 53 ∷ 53 ∷ []) ≡ good (item (Weight (weight (negsuc 4) true false 255))) [])
+    × (callOf (75 ∷ 9 ∷ 48 ∷ 49 ∷ 48 ∷ 50 ∷ 48 ∷ 51 ∷ 48 ∷ 52 ∷ []) ≡ good (item (Field (four 1 2 3 4))) [])
     × (callOf (75 ∷ 9 ∷ 48 ∷ 49 ∷ 48 ∷ 50 ∷ 48 ∷ 51 ∷ []) ≡ bad)
-    × (callOf (68 ∷ 9 ∷ 49 ∷ 9 ∷ 50 ∷ 9 ∷ 51 ∷ 9 ∷ 52 ∷ 9 ∷ 53 ∷ 9 ∷ 54 ∷ 52 ∷ []) ≡ good (writeLine (Dose 1 2 3 4 5) 64) [])
+    × (callOf (68 ∷ 9 ∷ 49 ∷ 9 ∷ 50 ∷ 9 ∷ 51 ∷ 9 ∷ 52 ∷ 9 ∷ 53 ∷ 9 ∷ 54 ∷ 52 ∷ []) ≡ good (item (Line (Dose 1 2 3 4 5) 64)) [])
     × (callOf (68 ∷ 9 ∷ 49 ∷ 9 ∷ 50 ∷ 9 ∷ 51 ∷ 9 ∷ 52 ∷ 9 ∷ 54 ∷ 52 ∷ []) ≡ bad)
-    × (callOf (108 ∷ 9 ∷ 48 ∷ 65 ∷ []) ≡ good (readLine Old (10 ∷ [])) [])
-    × (callOf (109 ∷ 9 ∷ 48 ∷ 65 ∷ []) ≡ good (readLine New (10 ∷ [])) [])
-    × (callOf (117 ∷ 9 ∷ 9 ∷ 55 ∷ []) ≡ good (hour [] 7) [])
+    × (callOf (108 ∷ 9 ∷ 48 ∷ 65 ∷ []) ≡ good (bytes (ReadLine Old) (10 ∷ []) 0) [])
+    × (callOf (109 ∷ 9 ∷ 48 ∷ 65 ∷ []) ≡ good (bytes (ReadLine New) (10 ∷ []) 0) [])
+    × (callOf (117 ∷ 9 ∷ 9 ∷ 55 ∷ []) ≡ good (bytes Hour [] 7) [])
 unfolding readings
 fields = (refl, refl, refl, refl, refl, refl, refl, refl, refl, refl, refl, refl, refl, refl, refl)
