@@ -71,6 +71,16 @@ Within (C.Item i) = Unit {0}
 Within (C.Bytes u n k) = n ≤ 2048
 Within C.Unknown = Unit {0}
 
+-- every call but a tick
+abbrev pub Unticked : declared.Call → Type 0
+Unticked (C.Tick x i) = ⊥
+Unticked (C.Request n room) = Unit {0}
+Unticked (C.Modbus n room) = Unit {0}
+Unticked (C.Order o) = Unit {0}
+Unticked (C.Item i) = Unit {0}
+Unticked (C.Bytes u n k) = Unit {0}
+Unticked C.Unknown = Unit {0}
+
 -- the answer is the line's call; its bytes stand at the buffer's start, the rest of which is as it was: all of it where the line is no call
 pub record ReadsCall (l old new : List ℕ) (r : declared.Call) : Type 0 where
   pub reads : asCall new r ≡ readIn (length old) l

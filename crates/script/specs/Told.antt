@@ -4,8 +4,6 @@ use mathlib.Core.Bool.{false}
 use mathlib.Core.List.{List, [], _∷_}
 use Prim.Native.Nat.{ℕ, _+_, _≤_, _<_}
 use native.Mathlib.Omega.{arith}
-use types.Run.{OneOf, hit}
-use denote.Enum.Declared.{tagOf}
 use lib.Dec.{ltb}
 use lib.IntN.{ℤ}
 use lib.ListN.{length, take}
@@ -20,8 +18,7 @@ use Rattle.lines.specs.Intake.{overlong, lineTo, nextOf, Behind, NextStands, ne
 use Rattle.calls.specs.Call.{Call, tick, request, modbus, order, item, bytes, atEnd, callBy, callOf}
 use Rattle.calls.specs.declared.Call as read
 use Rattle.calls.specs.declared.Call.the-variants as C
-use Rattle.calls.proofs.Call.{the-type as call-type}
-use Rattle.calls.specs.Reads.{asCall}
+use Rattle.calls.specs.Reads.{asCall, Unticked}
 use Rattle.script.specs.Sight.{Seen, seen, unseen, ifTick, onlyTick, placed, handedTick, sightOf}
 use Rattle.script.specs.declared.Sighted.{Sighted}
 use Rattle.script.specs.declared.Sighted.the-variants as S
@@ -96,19 +93,15 @@ module _ (i : Intake) (input : List ℕ) where
 
 -- ---- no tick
 
--- every other call
-abbrev pub unticked : List ℕ
-unticked = 1 ∷ 2 ∷ 3 ∷ 4 ∷ 5 ∷ 6 ∷ []
-
-untick : (s : List ℕ) (call : read.Call) → onlyTick (asCall s call) ≡ unseen → OneOf unticked (tagOf call-type call)
+untick : (s : List ℕ) (call : read.Call) → onlyTick (asCall s call) ≡ unseen → Unticked call
 unfolding onlyTick asCall ifTick
 untick s (C.Tick x i) e = unseen-seen (sym e)
-untick s (C.Request n room) e = hit unticked 1 tt
-untick s (C.Modbus n room) e = hit unticked 2 tt
-untick s (C.Order o) e = hit unticked 3 tt
-untick s (C.Item i) e = hit unticked 4 tt
-untick s (C.Bytes u n k) e = hit unticked 5 tt
-untick s C.Unknown e = hit unticked 6 tt
+untick s (C.Request n room) e = tt
+untick s (C.Modbus n room) e = tt
+untick s (C.Order o) e = tt
+untick s (C.Item i) e = tt
+untick s (C.Bytes u n k) e = tt
+untick s C.Unknown e = tt
 
 placed-none : (n : ℕ) (s : Seen) → placed n s ≡ S.Other → s ≡ unseen
 unfolding placed
@@ -116,7 +109,7 @@ placed-none n (seen y j) e = let z : _≡_ {A = ℕ} 0 1 = cc in let f : ⊥ = o
 placed-none n unseen e = refl
 
 pub no-tick : (i : Intake) (input : List ℕ) {from to : ℕ} → sightOf i input ≡ S.Other → nextOf i input .next ≡ Line from to
-    → (s : List ℕ) (call : read.Call) → asCall s call ≡ callOf (partOf from to input) → OneOf unticked (tagOf call-type call)
+    → (s : List ℕ) (call : read.Call) → asCall s call ≡ callOf (partOf from to input) → Unticked call
 unfolding sightOf handedTick
 no-tick i input {from} {to} e l s call a =
     let next = nextOf i input .intake .at in
