@@ -78,10 +78,10 @@ pub const BYTES: usize = 2048;
 // The bytes of the longest line, its LF left out.
 const LONGEST: usize = 4095;
 
-// The call of a line that is no tick, by its letter; its bytes are only looked at.
+// The call of a line that is no tick and no line request, by its letter; its bytes are only looked at.
 fn call_of(line: &[u8]) -> Call
     requires line { ⌜ length (now line) ≤ 4095 ⌝ }
-    requires letter { ⌜ (getD (now line) 0 0 ≡ 84 → ⊥) ⌝ }
+    requires letter { ⌜ (getD (now line) 0 0 ≡ 84 → ⊥) × (getD (now line) 0 0 ≡ 66 → ⊥) ⌝ }
     ensures { λ r. ⌜ Asks (now (line .entry)) (callBy (getD (now (line .entry)) 0 0) (drop 1 (now (line .entry)))) r ⌝ }
 {
     let letter = text::byte_at(line, 0);
@@ -91,7 +91,6 @@ fn call_of(line: &[u8]) -> Call
         b'C' => asks::ended(line, 1, Call::Order(Order::Reset)),
         b'Q' => asks::ended(line, 1, Call::Order(Order::Counters)),
         b'N' => asks::restart(line),
-        b'B' => asks::room(line, letter, 64),
         b'M' => asks::room(line, letter, 64),
         b'Y' => asks::why(line),
         b'W' => asks::room(line, letter, 600),
@@ -120,7 +119,7 @@ pub fn size_of(call: Call) -> usize
     }
 }
 
-// The call of a line, its LF left out; its bytes are stored at the start of `bytes`, which is left as it was where the line is no call.
+// The call of a line, its LF left out; its bytes are stored at the start of `bytes`, which is left as it was where the line is no call. Ticks and line requests, of which most scripts are, go their own ways.
 pub fn read(line: &[u8], bytes: &mut [u8]) -> Call
     ensures { λ r. ⌜ ReadsCall (now (line .entry)) (now (bytes .entry)) (now (bytes .exit)) r ⌝ }
 {
@@ -130,8 +129,14 @@ pub fn read(line: &[u8], bytes: &mut [u8]) -> Call
     if LONGEST < line.len() {
         return Call::Unknown;
     }
-    if text::byte_at(line, 0) == b'T' {
+    let letter = text::byte_at(line, 0);
+    if letter == b'T' {
         return asks::tick(line);
+    }
+    if letter == b'B' {
+        let call = asks::room(line, letter, 64);
+        fields::store(line, size_of(call), bytes);
+        return call;
     }
     let call = call_of(line);
     fields::store(line, size_of(call), bytes);

@@ -2,8 +2,6 @@
 use mathlib.Core.Path.{_≡_, subst}
 use mathlib.Core.List.{List}
 use Prim.Native.Nat.{ℕ, _-_, _≤_, _<_}
-use types.Run.{OneOf}
-use denote.Enum.Declared.{tagOf}
 use lib.ListN.{length}
 use Rattle.controller.specs.declared.Controller.{Controller}
 use Rattle.controller.specs.Sound.{Sound}
@@ -12,10 +10,9 @@ use Rattle.lines.specs.Intake.{Waits}
 use Rattle.script.specs.Sight.{sightOf}
 use Rattle.script.specs.declared.Sighted.the-variants as S
 use Rattle.calls.specs.declared.Call as read
-use Rattle.calls.proofs.Call.{the-type as call-type}
-use Rattle.calls.specs.Reads.{asCall, Within}
-use Rattle.acts.specs.Makes.{unticked, unasked}
-use Rattle.acts.specs.Script.{Made, Brings}
+use Rattle.calls.specs.Reads.{asCall, Other, Within}
+use Rattle.acts.specs.Makes.{Made}
+use Rattle.acts.specs.Script.{Brings}
 use Rattle.runs.specs.declared.Stop.{Stop}
 use Rattle.runs.specs.declared.Stop.the-variants as at
 use Rattle.runs.specs.declared.Reached.{Reached}
@@ -31,8 +28,7 @@ pub record Reaches (first : Controller) (start : Intake) (input : List ℕ) (r :
 pub record Pending (first : Controller) (start : Intake) (input bytes : List ℕ) (c : Controller) (held : Intake) (call : read.Call) : Type 0 where
   pub made : (d : Controller) → Made c (asCall bytes call) d → Brings first start input d held
   pub within : Within call
-  pub noTick : OneOf unticked (tagOf call-type call)
-  pub noLine : OneOf unasked (tagOf call-type call)
+  pub other : Other call
   pub less : length input - held .at < length input - start .at
 
 -- at such a call, or where every whole line is answered

@@ -21,7 +21,8 @@ use Rattle.lines.specs.Places.{partOf}
 use Rattle.script.specs.Sight.{sightOf}
 use Rattle.script.specs.Told.{tick-told, tick-ahead}
 use Rattle.script.specs.declared.Sighted.the-variants as S
-use Rattle.acts.specs.Script.{Made, Brings, brings-none, brings-line, made-tick}
+use Rattle.acts.specs.Makes.{Made}
+use Rattle.acts.specs.Script.{Brings, brings-none, brings-line, made-tick}
 use borrow.Author.Needs.{needs}
 use Rattle.runs.proofs.ticks.Statement.{statement}
 use Rattle.runs.proofs.ticks.Tie as tie
