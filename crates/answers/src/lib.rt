@@ -43,7 +43,8 @@ fn poll(
     let polled = c.modbus(&bytes[..n], &mut spare[..room]);
     let said = polled.answer;
     let controller = polled.next;
-    let len = pieces::shown(out, 0, boxed::modbus(said), &spare[..room]);
+    let n = pieces::within(room, spare);
+    let len = pieces::shown(out, 0, boxed::modbus(said), &spare[..n]);
     Answered { controller, len }
 }
 
@@ -70,8 +71,9 @@ fn put(c: Controller, call: Call, bytes: &[u8], spare: &mut [u8], out: &mut [u8]
         Call::Modbus(n, room) => poll(c, n as usize, room as usize, bytes, spare, out),
         Call::Order(order) => {
             let acted = acts::order(c, order);
+            let said = acted.answer;
             let controller = acted.next;
-            let len = put_order(out, acted.answer);
+            let len = put_order(out, said);
             Answered { controller, len }
         }
         _ => Answered {
@@ -79,6 +81,12 @@ fn put(c: Controller, call: Call, bytes: &[u8], spare: &mut [u8], out: &mut [u8]
             len: put_aside(out, call, bytes, spare),
         },
     }
+}
+
+// The place so many bytes after another, at most the buffer's end.
+fn place_after(out: &[u8], at: usize, len: usize) -> usize {
+    let from = pieces::within(at, out);
+    from + pieces::within(len, &out[from..])
 }
 
 // The call is made on the first of `bytes`, and its answer put at `at`; the buffer that it is lent is the start of `spare`.
@@ -97,10 +105,7 @@ pub fn answer(
 {
     let from = pieces::within(at, out);
     let answered = put(c, call, bytes, spare, &mut out[from..]);
-    let len = pieces::within(answered.len, &out[from..]);
+    let len = place_after(out, from, answered.len);
     let controller = answered.controller;
-    Answered {
-        controller,
-        len: from + len,
-    }
+    Answered { controller, len }
 }
