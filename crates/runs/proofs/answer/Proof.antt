@@ -1,7 +1,9 @@
 use mathlib.Core.Path.{_≡_, refl, sym, ap, _∙_, subst}
-use mathlib.Core.List.{List, _++_}
+use mathlib.Core.List.{List, [], _∷_, _++_}
 use Prim.Native.Nat.{ℕ, _-_, _≤_, _<_}
 use native.Mathlib.Omega.{arith}
+use types.Run.{OneOf, miss}
+use denote.Enum.Declared.{tagOf}
 use denote.Ref.{now}
 use lib.ListN.{length, take, drop, length-append, length-drop}
 use lib.Seq.{length-take-le}
@@ -10,14 +12,16 @@ use Rattle.controller.specs.declared.Requested.{Requested}
 use Rattle.controller.specs.Says.{Replies}
 use Rattle.calls.specs.declared.Call as read
 use Rattle.calls.specs.declared.Call.the-variants as C
-use Rattle.calls.specs.Reads.{asCall, Within, ReadsCall, read-call}
+use Rattle.calls.proofs.Call.{the-type as call-type}
+use Rattle.calls.specs.Reads.{asCall, Unticked, Other, Within, ReadsCall, read-call}
 use Rattle.lines.specs.declared.Intake.{Intake}
 use Rattle.lines.specs.declared.Taken.{Taken}
 use Rattle.lines.specs.declared.Next.the-variants.{Line}
 use Rattle.lines.specs.Intake.{nextOf, Behind}
 use Rattle.lines.specs.Places.{partOf}
 use Rattle.script.specs.Told.{no-tick}
-use Rattle.acts.specs.Script.{Made, Brings, brings-none, brings-then, brings-line, brings-more, line-behind, line-short, none-waits, made-read, made-asked}
+use Rattle.acts.specs.Makes.{Made}
+use Rattle.acts.specs.Script.{Brings, brings-none, brings-then, brings-line, brings-more, line-behind, line-short, none-waits, made-read, made-asked}
 use Rattle.runs.specs.Runs.{Stops}
 use borrow.Author.Needs.{needs}
 use Rattle.runs.proofs.answer.Statement.{statement}
@@ -26,7 +30,8 @@ use Rattle.runs.proofs.answer.Tie as tie
 -- ---- what a line request makes of the controller
 
 asked : {c : Controller} (bytes : List ℕ) {call : read.Call} {n room : ℕ} {old new : List ℕ} (r : Requested) → call ≡ C.Request n room → length old ≡ room → Replies c (take n bytes) old new r → Made c (asCall bytes call) (r .next)
-asked {c} bytes {n = n} {room = room} r e f h = subst (λ (k : read.Call). Made c (asCall bytes k) (r .next)) (sym e) (made-asked bytes n room r f h)
+unfolding asCall
+asked {c} bytes r e f h = subst (λ (k : read.Call). Made c (asCall bytes k) (r .next)) (sym e) (made-asked f r h)
 
 -- a line request's bytes and its reply have room
 roomy : {call : read.Call} {n room : ℕ} → call ≡ C.Request n room → Within call → (n ≤ 2048) × (room ≤ 64)
@@ -41,6 +46,19 @@ part-length spare part k h e = omega (arith, e, length-append part (drop k spare
 step : (input : List ℕ) (held : Intake) (t : Taken) → t ≡ nextOf held input → {first c d : Controller} {start : Intake} {from to : ℕ} {call : read.Call} {old new : List ℕ}
     → Brings first start input c held → t .next ≡ Line from to → ReadsCall (take (to - from) (drop from input)) old new call → 2048 ≤ length old → Made c (asCall new call) d → Brings first start input d (t .intake)
 step input held t e g n r h m = brings-line input held t e g n (made-read r h (line-short input held t e n) m)
+
+-- no tick and no line request
+abbrev others : List ℕ
+others = 0 ∷ 2 ∷ 3 ∷ 4 ∷ 5 ∷ 6 ∷ []
+
+unasked : (call : read.Call) → OneOf others (tagOf call-type call) → Unticked call → Other call
+unasked (C.Tick x i) h u = u
+unasked (C.Request n room) h u = absurd (miss others 1 tt h)
+unasked (C.Modbus n room) h u = tt
+unasked (C.Order o) h u = tt
+unasked (C.Item i) h u = tt
+unasked (C.Bytes v n k) h u = tt
+unasked C.Unknown h u = tt
 
 -- ---- the loop
 
@@ -101,8 +119,7 @@ returns-2 c =
       stops = record {
         made = λ d m. step _ _ _ next (ticked (c .before .before .before .before .before .before .before .before .before .before .before .before .before .before .before)) line (read .ensures) (omega (arith, inv .2, c .before .before .before .before .before .before .before .before .before .before .before .before .before .before .before .before .before .before .before .before .before .before .pre .1 .0)) m;
         within = read .ensures .within;
-        noTick = no-tick _ _ (c .before .before .before .before .before .before .before .before .before .before .before .before .before .before .before .ticks .ensures .none) (ap (λ (t : Taken). t .next) (sym next) ∙ line) _ (read .result) (read-call (read .ensures) (omega (arith, inv .2, c .before .before .before .before .before .before .before .before .before .before .before .before .before .before .before .before .before .before .before .before .before .before .pre .1 .0)) (line-short _ _ _ next line));
-        noLine = c .match2 .keys2;
+        other = unasked (read .result) (c .match2 .keys2) (no-tick _ _ (c .before .before .before .before .before .before .before .before .before .before .before .before .before .before .before .ticks .ensures .none) (ap (λ (t : Taken). t .next) (sym next) ∙ line) _ (read .result) (read-call (read .ensures) (omega (arith, inv .2, c .before .before .before .before .before .before .before .before .before .before .before .before .before .before .before .before .before .before .before .before .before .before .pre .1 .0)) (line-short _ _ _ next line)));
         less = omega (arith, inv .1, further (c .before .before .before .before .before .before));
       };
     }
