@@ -141,17 +141,17 @@ pub feed-with-spec : {M : Type 1} → statement M
 feed-with-spec =
     tie.close
     (tie.spec
-    Inv-loop μ-loop loop-holds (λ c. search needs) (λ c. search needs) (λ c κs. search needs) (λ c. search needs) (λ c. search needs)
+    Inv-loop μ-loop loop-holds (λ c. search needs) (λ c. c .match .keys1) (λ c κs. tt) (λ c. c .match2 .keys1) (λ c. c .match2 .keys2)
     (λ c. search needs) (λ c. search needs) returns
     (λ c. lies-unheard (c .before) .order) (λ c. lies-unheard (c .before) .order) (λ c. let b = lies-unheard (c .before) in omega (arith, b .inside))
     (λ c. search needs) (λ c. search needs) (λ c. search needs) unheard-requires add-len
     (λ c. let b = lies-unheard (c .before .before .before .before .before .before .before .before) in omega (arith, b .inside, b .place, b .ahead)) loop-again
-    (λ c κs. search needs) (λ c. search needs) (λ c κs. c .before .before .before .before .before .before .before .loop .inv .0 .carries .sound) (λ c κs. search needs)
+    (λ c κs. tt) (λ c. c .match3 .keys1) (λ c κs. c .before .before .before .before .before .before .before .loop .inv .0 .carries .sound) (λ c κs. tt)
     (λ c. let w = c .before .before .before .before .before .before .before .before .before .before .loop .inv .0 in omega (arith, w .room, w .long)) (λ c. let w = c .before .before .before .before .before .before .before .before .before .before .loop .inv .0 in omega (arith, w .room, w .long)) (λ c. search needs)
     (λ c κs. c .before .before .before .before .before .before .before .before .before .before .before .loop .inv .0 .carries .runs) add-len-2
     (λ c. let less = tick-ahead _ _ (sight (c .before .before .before .before .before .before .before .before .before)) in omega (arith, less)) loop-again-2
-    (λ c. search needs) (λ c κs. search needs) (λ c. search needs) (λ c. search needs) (λ c. search needs) (λ c. search needs) returns-2
-    (λ c. lies (c .before) .order) (λ c. lies (c .before) .order) (λ c. let b = lies (c .before) in omega (arith, b .inside)) (λ c κs. search needs)
-    other-requires (λ c κs. search needs) (λ c κs. search needs)
+    (λ c. c .match3 .keys2) (λ c κs. tt) (λ c. c .match4 .keys1) (λ c. c .match4 .keys2) (λ c. search needs) (λ c. search needs) returns-2
+    (λ c. lies (c .before) .order) (λ c. lies (c .before) .order) (λ c. let b = lies (c .before) in omega (arith, b .inside)) (λ c κs. tt)
+    other-requires (λ c κs. tt) (λ c κs. tt)
     (λ c. let b = lies (c .before .before .before .before .before .before .before .before .before .before .before) in omega (arith, b .inside, b .place, b .ahead)) loop-again-3
     (λ c. search needs) (λ c. search needs) returns-3)

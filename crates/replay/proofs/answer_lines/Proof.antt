@@ -48,7 +48,7 @@ answer-lines-spec =
     tie.close
     (tie.spec
     Inv-loop μ-loop (λ c. (brings-none (c .before .before .before .before .pre .0), refl, refl, refl))
-    answer-requires (λ c. search needs) (λ c. search needs) (λ c κs. tt)
+    answer-requires (λ c. c .match .keys1) (λ c. c .match .keys2) (λ c κs. tt)
     (λ c. search needs) (λ c. search needs) (λ c. search needs) returns
     answer-requires-2
     (λ c. ran-pending (c .before .before .before .before .before .before .before .before .before .before .before .before .before .before .before .before .before .before .before .before .answer .result) (c .before .before .before .before .before .before .before .before .before .before .stop .given .1) (c .before .before .before .before .before .before .before .before .before .before .before .before .before .before .before .before .before .before .before .before .answer .ensures) .less) loop-again)
