@@ -16,14 +16,14 @@ unfolding Within
 requested-requires c κs =
     let pre = c .before .before .before .before .pre in
     let w = subst Within (c .before .call .given .1) (pre .1 .1 .0) in
-    (pre .0, (omega (arith, w .0, pre .1 .1 .1), w .1))
+    (pre .0, (omega (arith, w .0, w .1, pre .1 .1 .1), w .1))
 
 polled-requires : tie.Need-polled-requires
 unfolding Within
 polled-requires c κs =
     let pre = c .before .before .before .before .pre in
     let w = subst Within (c .before .call2 .given .1) (pre .1 .1 .0) in
-    (pre .0, (omega (arith, w .0, pre .1 .1 .1), w .1))
+    (pre .0, (omega (arith, w .0, w .1, pre .1 .1 .1), w .1))
 
 pub other-spec : {M : Type 1} → statement M
 unfolding asCall madeBy eventsIn run saidTo saysAct
