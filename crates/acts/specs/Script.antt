@@ -5,12 +5,14 @@ use Prim.Native.Nat.{ℕ, _-_, _≤_}
 use native.Mathlib.Omega.{arith}
 use lib.IntN.{ℤ}
 use lib.ListN.{length, take, drop, length-take, length-replicate}
-use Rattle.laws.specs.Decimal.{Parsed}
+use Rattle.laws.specs.Decimal.{Parsed, good}
 use Rattle.controller.specs.declared.Controller.{Controller}
 use Rattle.controller.specs.declared.Ticked.{Ticked}
 use Rattle.controller.specs.declared.Requested.{Requested}
+use Rattle.controller.specs.declared.Polled.{Polled}
 use Rattle.controller.specs.Line.{requestOf}
-use Rattle.controller.specs.Says.{Ticks, Replies}
+use Rattle.controller.specs.Modbus.{modbusOf}
+use Rattle.controller.specs.Says.{Ticks, Replies, Polls}
 use Rattle.controller.specs.Sound.{Sound}
 use Rattle.series.specs.Events.{run, eventOf}
 use Rattle.lines.specs.declared.Intake.{Intake}
@@ -19,18 +21,12 @@ use Rattle.lines.specs.declared.Next.{Next}
 use Rattle.lines.specs.declared.Next.the-variants.{Line, More}
 use Rattle.lines.specs.Places.{partOf}
 use Rattle.lines.specs.Intake.{comes, nextOf, handed, Behind, Waits, NextStands, Steps, next-steps}
-use Rattle.calls.specs.Call.{Call, callOf}
+use Rattle.calls.specs.Call.{Call, request, modbus, callOf}
 use Rattle.calls.specs.declared.Call as read
 use Rattle.calls.specs.declared.Call.the-variants as C
-use Rattle.calls.specs.Reads.{asCall, Within, ReadsCall, read-call}
-use Rattle.acts.specs.Acts.{Ask, blank, askOf, askBy, eventsIn, lent, madeBy}
-use Rattle.acts.specs.Makes.{Acts, lent-read}
-use Rattle.acts.specs.declared.Acted.{Acted}
-
--- the next controller is what a call makes of it
-pub record Made (c : Controller) (p : Parsed Call) (d : Controller) : Type 0 where
-  pub next : d ≡ madeBy c p
-  pub sound : Sound d
+use Rattle.calls.specs.Reads.{asCall, ReadsCall, read-call}
+use Rattle.acts.specs.Acts.{blank, callEvents, eventsIn, madeBy}
+use Rattle.acts.specs.Makes.{Made}
 
 -- the controller after lines, one after another
 unfoldable pub madeByAll : Controller → List (List ℕ) → Controller
@@ -44,28 +40,24 @@ pub record Brings (first : Controller) (start : Intake) (input : List ℕ) (c : 
 
 -- ---- a call that was read
 
--- with 64 bytes for a reply, it is made as its line asks
-pub made-call : (c : Controller) (call : read.Call) (bytes : List ℕ) {old new : List ℕ} {r : Acted} → Within call → 64 ≤ length old
-    → Acts c (lent (length old) (askBy (asCall bytes call))) old new r → Made c (asCall bytes call) (r .next)
-unfolding madeBy
-made-call c call bytes {old} w h p = record { next = p .makes .next ∙ ap (λ (a : Ask). run c (eventsIn a)) (lent-read (length old) bytes call w h); sound = p .makes .sound }
-
 -- a tick that a program makes by itself
 pub made-tick : {c : Controller} (bytes : List ℕ) {x : ℤ} {i : ℕ} (r : Ticked) → Ticks c x i r → Made c (asCall bytes (C.Tick x i)) (r .next)
-unfolding madeBy asCall askBy askOf eventsIn run eventOf
+unfolding madeBy asCall eventsIn callEvents run eventOf
 made-tick bytes r h = record { next = h .next; sound = h .sound }
 
 pub made-ticked : {c : Controller} (bytes : List ℕ) {call : read.Call} {x y : ℤ} {i : ℕ} (r : Ticked) → call ≡ C.Tick x i → y ≡ x → Ticks c y i r → Made c (asCall bytes call) (r .next)
 made-ticked {c} bytes {i = i} r e f h =
     subst (λ (k : read.Call). Made c (asCall bytes k) (r .next)) (sym e) (made-tick bytes r (subst (λ (z : ℤ). Ticks c z i r) f h))
 
--- and a line request, with the room that it asks for
-pub made-asked : {c : Controller} (bytes : List ℕ) {old new : List ℕ} (n room : ℕ) (r : Requested) → length old ≡ room → Replies c (take n bytes) old new r → Made c (asCall bytes (C.Request n room)) (r .next)
-unfolding madeBy asCall askBy askOf eventsIn run eventOf blank
-made-asked {c} bytes n room r e h = record {
-  next = h .next ∙ ap (λ (k : ℕ). requestOf c (take n bytes) k .next) (e ∙ sym (length-replicate {A = ℕ} room 0xA5));
-  sound = h .sound;
-}
+-- a line request and a MODBUS frame, with the room that they ask for
+module _ {c : Controller} {s old new : List ℕ} {room : ℕ} (e : length old ≡ room) where
+  pub made-asked : (r : Requested) → Replies c s old new r → Made c (good (request s room) []) (r .next)
+  unfolding madeBy eventsIn callEvents run eventOf blank
+  made-asked r h = record { next = h .next ∙ ap (λ (k : ℕ). requestOf c s k .next) (e ∙ sym (length-replicate {A = ℕ} room 0xA5)); sound = h .sound }
+
+  pub made-polled : (r : Polled) → Polls c s old new r → Made c (good (modbus s room) []) (r .next)
+  unfolding madeBy eventsIn callEvents run eventOf blank
+  made-polled r h = record { next = h .next ∙ ap (λ (k : ℕ). modbusOf c s k .next) (e ∙ sym (length-replicate {A = ℕ} room 0xA5)); sound = h .sound }
 
 -- and a line of a fitting length, read with room for its bytes, is its call
 pub made-read : {c d : Controller} {call : read.Call} {line old new : List ℕ} → ReadsCall line old new call → 2048 ≤ length old → length line ≤ 4095

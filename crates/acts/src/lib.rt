@@ -1,8 +1,7 @@
 // What a call makes of the controller, and what it answers.
 use calls::Call;
+use calls::Order;
 use controller::Controller;
-use controller::PollAnswer;
-use controller::RequestAnswer;
 use controller::ResetAnswer;
 use controller::RestartAnswer;
 use controller::SetAnswer;
@@ -10,25 +9,25 @@ use counters::Counters;
 use reasons::Reason;
 use settings::Settings;
 ghost use mathlib.Core.Path.{_≡_};
-ghost use mathlib.Core.Bool.{true, false};
-ghost use Prim.Native.Nat.{min};
+ghost use mathlib.Core.List.{[]};
+ghost use Prim.Native.Nat.{_≤_};
 ghost use lib.ListN.{length, take};
+ghost use Rattle.laws.specs.Decimal.{good};
 ghost use Rattle.controller.specs.Sound.{Sound};
-ghost use Rattle.series.specs.Events as events;
-ghost use Rattle.calls.specs.Reads.{asCall};
-ghost use Rattle.acts.specs.Acts.{event, counters, why, askBy, blank, lent, beside};
-ghost use Rattle.acts.specs.Makes.{inUse, Makes, Acts};
+ghost use Rattle.calls.specs.Call.{order, request, modbus};
+ghost use Rattle.calls.specs.Reads.{asCall, Unticked, Within};
+ghost use Rattle.calls.specs.declared.Order.the-variants.{Restart};
+ghost use Rattle.acts.specs.Makes.{Made, inUse, Acts};
 
-// What a call of the box other than a tick answers; a call that needs no box and a line that is no call have no answer here.
+// What an order answers; that a frame was served, whose reply goes nowhere; that a call needs no box; or that a line is no call.
 pub enum Answer {
     Link,
     Set(SetAnswer),
     Reset(ResetAnswer),
     Counters(Counters),
     Restart(RestartAnswer),
-    Request(RequestAnswer),
-    Modbus(PollAnswer),
     Why(Reason),
+    Frame,
     Aside,
     Unknown,
 }
@@ -37,77 +36,6 @@ pub enum Answer {
 pub struct Acted {
     pub next: Controller,
     pub answer: Answer,
-}
-
-// The lesser of two numbers.
-fn lesser(a: usize, b: usize) -> usize
-    ensures { λ r. ⌜ r ≡ min a b ⌝ }
-{
-    if a <= b { a } else { b }
-}
-
-// The link start, set or cleared.
-fn link(c: Controller, on: bool) -> Acted
-    requires { ⌜ Sound c ⌝ }
-    ensures { λ r. ⌜ Makes c (event (events.link on)) r ⌝ }
-{
-    let next = c.link(on);
-    Acted {
-        next,
-        answer: Answer::Link,
-    }
-}
-
-// New settings.
-fn settings(c: Controller, set: Settings) -> Acted
-    requires { ⌜ Sound c ⌝ }
-    ensures { λ r. ⌜ Makes c (event (events.settings set)) r ⌝ }
-{
-    let set_to = c.settings(set);
-    let next = set_to.next;
-    let answer = set_to.answer;
-    Acted {
-        next,
-        answer: Answer::Set(answer),
-    }
-}
-
-// A counter reset.
-fn reset(c: Controller) -> Acted
-    requires { ⌜ Sound c ⌝ }
-    ensures { λ r. ⌜ Makes c (event events.reset) r ⌝ }
-{
-    let reset_to = c.reset();
-    let next = reset_to.next;
-    let answer = reset_to.answer;
-    Acted {
-        next,
-        answer: Answer::Reset(answer),
-    }
-}
-
-// Count and total.
-fn counters(c: Controller) -> Acted
-    requires { ⌜ Sound c ⌝ }
-    ensures { λ r. ⌜ Makes c counters r ⌝ }
-{
-    let kept = c.counters();
-    Acted {
-        next: c,
-        answer: Answer::Counters(kept),
-    }
-}
-
-// Why an output is as it is.
-fn why(c: Controller, output: u8) -> Acted
-    requires { ⌜ Sound c ⌝ }
-    ensures { λ r. ⌜ Makes c (why output) r ⌝ }
-{
-    let reason = reasons::why(c, output);
-    Acted {
-        next: c,
-        answer: Answer::Why(reason),
-    }
 }
 
 // A refused restart leaves the old controller in use.
@@ -124,7 +52,7 @@ fn in_use(answer: RestartAnswer, old: Controller, new: Controller) -> Controller
 // A restart.
 fn restart(c: Controller, set: Settings, count: u32, total: u32) -> Acted
     requires { ⌜ Sound c ⌝ }
-    ensures { λ r. ⌜ Makes c (event (events.restart set count total)) r ⌝ }
+    ensures { λ r. ⌜ Acts c (good (order (Restart set count total)) []) r ⌝ }
 {
     let restarted = Controller::restart(set, count, total);
     let answer = restarted.answer;
@@ -136,51 +64,92 @@ fn restart(c: Controller, set: Settings, count: u32, total: u32) -> Acted
     }
 }
 
-// A line request on the first n bytes, with so much of the reply buffer as it asks for.
-fn request(c: Controller, n: usize, room: usize, bytes: &[u8], reply: &mut [u8]) -> Acted
+// What an order makes of the controller, and its answer.
+pub fn order(c: Controller, ordered: Order) -> Acted
     requires { ⌜ Sound c ⌝ }
-    ensures { λ r. ⌜ Acts c (event (events.request (take n (now (bytes .entry))) (take (length (now (reply .entry))) (blank room)))) (now (reply .entry)) (now (reply .exit)) r ⌝ }
+    ensures { λ r. ⌜ Acts c (good (order ordered) []) r ⌝ }
 {
-    let size = lesser(n, bytes.len());
-    let most = lesser(reply.len(), room);
-    let requested = c.request(&bytes[..size], &mut reply[..most]);
-    let next = requested.next;
-    let answer = requested.answer;
-    Acted {
-        next,
-        answer: Answer::Request(answer),
+    match ordered {
+        Order::Link(on) => Acted {
+            next: c.link(on),
+            answer: Answer::Link,
+        },
+        Order::Settings(set) => {
+            let configured = c.settings(set);
+            let next = configured.next;
+            let answer = configured.answer;
+            Acted {
+                next,
+                answer: Answer::Set(answer),
+            }
+        }
+        Order::Reset => {
+            let cleared = c.reset();
+            let next = cleared.next;
+            let answer = cleared.answer;
+            Acted {
+                next,
+                answer: Answer::Reset(answer),
+            }
+        }
+        Order::Counters => Acted {
+            next: c,
+            answer: Answer::Counters(c.counters()),
+        },
+        Order::Restart(set, count, total) => restart(c, set, count, total),
+        Order::Why(output) => Acted {
+            next: c,
+            answer: Answer::Why(reasons::why(c, output)),
+        },
     }
 }
 
-// A MODBUS frame of the first n bytes, with so much of the reply buffer as it asks for.
-fn modbus(c: Controller, n: usize, room: usize, bytes: &[u8], reply: &mut [u8]) -> Acted
-    requires { ⌜ Sound c ⌝ }
-    ensures { λ r. ⌜ Acts c (event (events.modbus (take n (now (bytes .entry))) (take (length (now (reply .entry))) (blank room)))) (now (reply .entry)) (now (reply .exit)) r ⌝ }
+// Bytes for a reply that goes nowhere.
+fn no_reply() -> [u8; 64]
+    ensures { λ r. ⌜ 64 ≡ length r ⌝ }
 {
-    let size = lesser(n, bytes.len());
-    let part = lesser(reply.len(), room);
-    let polled = c.modbus(&bytes[..size], &mut reply[..part]);
-    let next = polled.next;
-    let answer = polled.answer;
-    Acted {
-        next,
-        answer: Answer::Modbus(answer),
-    }
+    [0u8; 64]
 }
 
-// What a call makes of the controller, and its answer, ticks and line requests left out; a frame's bytes are the first of `bytes`, and its reply stands at the start of `reply`.
-pub fn rest(c: Controller, call: Call, bytes: &[u8], reply: &mut [u8]) -> Acted
-    requires { ⌜ Sound c ⌝ }
-    ensures { λ r. ⌜ Acts c (beside true (lent (length (now (reply .entry))) (askBy (asCall (now (bytes .entry)) call)))) (now (reply .entry)) (now (reply .exit)) r ⌝ }
+// The controller after a line request on the first n bytes.
+fn requested(c: Controller, n: usize, room: usize, bytes: &[u8]) -> Controller
+    requires sound { ⌜ Sound c ⌝ }
+    requires room { ⌜ (n ≤ length (now bytes)) × (room ≤ 64) ⌝ }
+    ensures { λ r. ⌜ Made c (good (request (take n (now (bytes .entry))) room) []) r ⌝ }
+{
+    let mut reply = no_reply();
+    let requested = c.request(&bytes[..n], &mut reply[..room]);
+    requested.next
+}
+
+// The controller after a MODBUS frame of the first n bytes.
+fn polled(c: Controller, n: usize, room: usize, bytes: &[u8]) -> Controller
+    requires sound { ⌜ Sound c ⌝ }
+    requires room { ⌜ (n ≤ length (now bytes)) × (room ≤ 64) ⌝ }
+    ensures { λ r. ⌜ Made c (good (modbus (take n (now (bytes .entry))) room) []) r ⌝ }
+{
+    let mut reply = no_reply();
+    let polled = c.modbus(&bytes[..n], &mut reply[..room]);
+    polled.next
+}
+
+// What any call other than a tick makes of the controller, and its answer; a frame's bytes are the first of `bytes`.
+pub fn other(c: Controller, call: Call, bytes: &[u8]) -> Acted
+    requires sound { ⌜ Sound c ⌝ }
+    requires call { ⌜ Unticked call ⌝ }
+    requires within { ⌜ Within call × (2048 ≤ length (now bytes)) ⌝ }
+    ensures { λ r. ⌜ Acts c (asCall (now (bytes .entry)) call) r ⌝ }
 {
     match call {
-        Call::Link(on) => link(c, on),
-        Call::Settings(set) => settings(c, set),
-        Call::Reset => reset(c),
-        Call::Counters => counters(c),
-        Call::Restart(set, count, total) => restart(c, set, count, total),
-        Call::Modbus(n, room) => modbus(c, n as usize, room as usize, bytes, reply),
-        Call::Why(output) => why(c, output),
+        Call::Request(n, room) => Acted {
+            next: requested(c, n as usize, room as usize, bytes),
+            answer: Answer::Frame,
+        },
+        Call::Modbus(n, room) => Acted {
+            next: polled(c, n as usize, room as usize, bytes),
+            answer: Answer::Frame,
+        },
+        Call::Order(ordered) => order(c, ordered),
         Call::Unknown => Acted {
             next: c,
             answer: Answer::Unknown,
@@ -190,15 +159,4 @@ pub fn rest(c: Controller, call: Call, bytes: &[u8], reply: &mut [u8]) -> Acted
             answer: Answer::Aside,
         },
     }
-}
-
-// The same with line requests, and ticks left out.
-pub fn other(c: Controller, call: Call, bytes: &[u8], reply: &mut [u8]) -> Acted
-    requires { ⌜ Sound c ⌝ }
-    ensures { λ r. ⌜ Acts c (beside false (lent (length (now (reply .entry))) (askBy (asCall (now (bytes .entry)) call)))) (now (reply .entry)) (now (reply .exit)) r ⌝ }
-{
-    if let Call::Request(n, room) = call {
-        return request(c, n as usize, room as usize, bytes, reply);
-    }
-    rest(c, call, bytes, reply)
 }

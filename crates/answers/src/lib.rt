@@ -1,64 +1,111 @@
-// The text of an answer to a call of a script.
+// The answer to a call that is no tick and no line request.
 use acts::Answer;
 use calls::Call;
+use controller::Controller;
+use pieces::Words;
+ghost use mathlib.Core.List.{[]};
 ghost use Prim.Native.Nat.{_≤_};
-ghost use lib.ListN.{length};
+ghost use lib.ListN.{length, take};
+ghost use Rattle.laws.specs.Decimal.{good};
+ghost use Rattle.controller.specs.Sound.{Sound};
+ghost use Rattle.calls.specs.Call.{modbus};
+ghost use Rattle.calls.specs.Reads.{asCall, Other, Within};
+ghost use Rattle.acts.specs.Makes.{Made};
 
-// The room of the buffer that a call asks for.
-fn room_of(call: Call) -> usize {
-    match call {
-        Call::Modbus(_, room) => room as usize,
-        Call::WriteFrame(_, room) => room as usize,
-        Call::WriteLine(_, room) => room as usize,
-        Call::Hours(_, room) => room as usize,
-        _ => 0,
-    }
+// The controller after the call, and the place after the text of its answer.
+pub struct Answered {
+    pub controller: Controller,
+    pub len: usize,
 }
 
-// The buffer that a MODBUS frame is lent, at the start of `spare`.
-pub fn lend(call: Call, spare: &mut [u8]) {
-    if let Call::Modbus(_, room) = call {
-        pieces::lend(spare, room as usize);
-    }
-}
-
-// The box's reply, with the buffer that it was lent.
-fn put_reply(out: &mut [u8], call: Call, said: Answer, spare: &[u8]) -> usize {
-    let n = pieces::within(room_of(call), spare);
-    pieces::shown(out, 0, boxed::words(said), &spare[..n])
-}
-
-// The answer of a writer or reader on the bytes of its call, with the buffer that it is lent.
-fn put_aside(out: &mut [u8], call: Call, bytes: &[u8], spare: &mut [u8]) -> usize {
-    let size = pieces::within(calls::size_of(call), bytes);
-    let room = room_of(call);
-    pieces::lend(spare, room);
-    let n = pieces::within(room, spare);
-    asides::answer(out, call, &bytes[..size], &mut spare[..n])
-}
-
-// The text of the answer to a call.
-fn put_answer(out: &mut [u8], call: Call, said: Answer, bytes: &[u8], spare: &mut [u8]) -> usize {
+// The text of an order's answer.
+fn put_order(out: &mut [u8], said: Answer) -> usize {
     match said {
-        Answer::Aside => put_aside(out, call, bytes, spare),
-        Answer::Modbus(_) => put_reply(out, call, said, spare),
         Answer::Why(reason) => boxed::causes::line(out, reason),
         _ => pieces::line(out, 0, boxed::words(said)),
     }
 }
 
-// The text of the answer to a call with its bytes, put at `at`; the buffer that it was lent is the start of `spare`. It answers the place after the text.
-pub fn say(
-    out: &mut [u8],
-    at: usize,
-    call: Call,
-    said: Answer,
+// A MODBUS frame of the first n bytes; the buffer that it is lent, the start of `spare`, is shown whole.
+fn poll(
+    c: Controller,
+    n: usize,
+    room: usize,
     bytes: &[u8],
     spare: &mut [u8],
-) -> usize
-    ensures { λ r. ⌜ r ≤ length (now (out .exit)) ⌝ }
+    out: &mut [u8],
+) -> Answered
+    requires sound { ⌜ Sound c ⌝ }
+    requires room { ⌜ (n ≤ length (now bytes)) × (room ≤ length (now spare)) ⌝ }
+    ensures { λ r. ⌜ Made c (good (modbus (take n (now (bytes .entry))) room) []) (r .controller) ⌝ }
+{
+    pieces::lend(spare, room);
+    let polled = c.modbus(&bytes[..n], &mut spare[..room]);
+    let said = polled.answer;
+    let controller = polled.next;
+    let n = pieces::within(room, spare);
+    let len = pieces::shown(out, 0, boxed::modbus(said), &spare[..n]);
+    Answered { controller, len }
+}
+
+// The text of the answer to a call that needs no box; ? where the line is no call.
+fn put_aside(out: &mut [u8], call: Call, bytes: &[u8], spare: &mut [u8]) -> usize {
+    match call {
+        Call::Item(item) => asides::item(out, item, spare),
+        Call::Bytes(made, n, number) => {
+            let size = pieces::within(n as usize, bytes);
+            asides::bytes(out, made, number, &bytes[..size], spare)
+        }
+        _ => pieces::line(out, 0, Words::none(b'?')),
+    }
+}
+
+// The call is made, and its answer put at the start of `out`.
+fn put(c: Controller, call: Call, bytes: &[u8], spare: &mut [u8], out: &mut [u8]) -> Answered
+    requires sound { ⌜ Sound c ⌝ }
+    requires call { ⌜ Other call × Within call ⌝ }
+    requires room { ⌜ (2048 ≤ length (now bytes)) × (64 ≤ length (now spare)) ⌝ }
+    ensures { λ r. ⌜ Made c (asCall (now (bytes .entry)) call) (r .controller) ⌝ }
+{
+    match call {
+        Call::Modbus(n, room) => poll(c, n as usize, room as usize, bytes, spare, out),
+        Call::Order(order) => {
+            let acted = acts::order(c, order);
+            let said = acted.answer;
+            let controller = acted.next;
+            let len = put_order(out, said);
+            Answered { controller, len }
+        }
+        _ => Answered {
+            controller: c,
+            len: put_aside(out, call, bytes, spare),
+        },
+    }
+}
+
+// The place so many bytes after another, at most the buffer's end.
+fn place_after(out: &[u8], at: usize, len: usize) -> usize {
+    let from = pieces::within(at, out);
+    from + pieces::within(len, &out[from..])
+}
+
+// The call is made on the first of `bytes`, and its answer put at `at`; the buffer that it is lent is the start of `spare`.
+pub fn answer(
+    c: Controller,
+    call: Call,
+    bytes: &[u8],
+    spare: &mut [u8],
+    out: &mut [u8],
+    at: usize,
+) -> Answered
+    requires sound { ⌜ Sound c ⌝ }
+    requires call { ⌜ Other call × Within call ⌝ }
+    requires room { ⌜ (2048 ≤ length (now bytes)) × (64 ≤ length (now spare)) ⌝ }
+    ensures { λ r. ⌜ Made c (asCall (now (bytes .entry)) call) (r .controller) ⌝ }
 {
     let from = pieces::within(at, out);
-    let len = put_answer(&mut out[from..], call, said, bytes, spare);
-    from + pieces::within(len, &out[from..])
+    let answered = put(c, call, bytes, spare, &mut out[from..]);
+    let len = place_after(out, from, answered.len);
+    let controller = answered.controller;
+    Answered { controller, len }
 }

@@ -1,7 +1,8 @@
 // The text of the answers of the writers and readers, which need no box.
 mod hours;
 
-use calls::Call;
+use calls::Item;
+use calls::Use;
 use entry::Wrote;
 use field::Field;
 use field::Got;
@@ -13,6 +14,7 @@ use journal::Form;
 use journal::Line;
 use journal::One;
 use pieces::Words;
+ghost use Rattle.io.specs.Counts.{Counts};
 
 // W: a frame written into a buffer.
 fn write_frame(body: &[u8], buffer: &mut [u8]) -> Words {
@@ -125,47 +127,57 @@ fn read_line(form: Form, bytes: &[u8]) -> Words {
     }
 }
 
-// What a writer answers; ? where the call is none of them.
-fn write(call: Call, bytes: &[u8], buffer: &mut [u8]) -> Words {
-    match call {
-        Call::WriteFrame(_, _) => write_frame(bytes, buffer),
-        Call::WriteLine(line, _) => write_line(line, buffer),
-        Call::Hours(_, _) => hours::print(bytes, buffer),
-        _ => Words::none(b'?'),
-    }
+// The buffer of so much room that a writer is lent, at the start of `spare`: how many bytes it has.
+fn lent(spare: &mut [u8], room: u32) -> usize
+    ensures { λ r. ⌜ Counts r (now (spare .exit)) ⌝ }
+{
+    pieces::lend(spare, room as usize);
+    pieces::within(room as usize, spare)
 }
 
-// The answer of a writer, with the whole of its buffer.
-fn written(out: &mut [u8], call: Call, bytes: &[u8], buffer: &mut [u8]) -> usize {
-    let said = write(call, bytes, buffer);
+// The answer of the line's writer, with the whole of its buffer.
+fn put_line(out: &mut [u8], line: Line, buffer: &mut [u8]) -> usize {
+    let said = write_line(line, buffer);
     pieces::shown(out, 0, said, buffer)
 }
 
-// The answer of a reader that shows no bytes; ? where the line is no call.
-fn read_words(call: Call, bytes: &[u8]) -> Words {
-    match call {
-        Call::ReadField(four) => read_field(four),
-        Call::ReadLine(form, _) => read_line(form, bytes),
-        _ => Words::none(b'?'),
+// The answer of the frame's writer, with the whole of its buffer.
+fn put_frame(out: &mut [u8], body: &[u8], buffer: &mut [u8]) -> usize {
+    let said = write_frame(body, buffer);
+    pieces::shown(out, 0, said, buffer)
+}
+
+// The hour program's answer, with the whole of its buffer.
+fn put_hours(out: &mut [u8], journal: &[u8], buffer: &mut [u8]) -> usize {
+    let said = hours::print(journal, buffer);
+    pieces::shown(out, 0, said, buffer)
+}
+
+// The answer to an item; a writer's buffer is the start of `spare`.
+pub fn item(out: &mut [u8], item: Item, spare: &mut [u8]) -> usize {
+    match item {
+        Item::Weight(w) => write_field(out, w),
+        Item::Field(four) => pieces::line(out, 0, read_field(four)),
+        Item::Line(line, room) => {
+            let n = lent(spare, room);
+            put_line(out, line, &mut spare[..n])
+        }
     }
 }
 
-// The answer of a reader, of the weight's writer, and of one hour; ? where the line is no call.
-fn read(out: &mut [u8], call: Call, bytes: &[u8]) -> usize {
-    match call {
-        Call::ReadFrame(_) => read_frame(out, bytes),
-        Call::WriteField(w) => write_field(out, w),
-        Call::Hour(_, hour) => hours::ask(out, bytes, hour),
-        _ => pieces::line(out, 0, read_words(call, bytes)),
-    }
-}
-
-// The answer to a call that needs no box, on its bytes and with a buffer of its room.
-pub fn answer(out: &mut [u8], call: Call, bytes: &[u8], buffer: &mut [u8]) -> usize {
-    match call {
-        Call::WriteFrame(_, _) => written(out, call, bytes, buffer),
-        Call::WriteLine(_, _) => written(out, call, bytes, buffer),
-        Call::Hours(_, _) => written(out, call, bytes, buffer),
-        _ => read(out, call, bytes),
+// The answer to bytes and the number behind them; a writer's buffer is the start of `spare`.
+pub fn bytes(out: &mut [u8], made: Use, number: u32, bytes: &[u8], spare: &mut [u8]) -> usize {
+    match made {
+        Use::WriteFrame => {
+            let n = lent(spare, number);
+            put_frame(out, bytes, &mut spare[..n])
+        }
+        Use::ReadFrame => read_frame(out, bytes),
+        Use::ReadLine(form) => pieces::line(out, 0, read_line(form, bytes)),
+        Use::Hour => hours::ask(out, bytes, number),
+        Use::Hours => {
+            let n = lent(spare, number);
+            put_hours(out, bytes, &mut spare[..n])
+        }
     }
 }

@@ -141,7 +141,7 @@ fn request(answer: RequestAnswer) -> Words {
 }
 
 // P length, or R number.
-fn modbus(answer: PollAnswer) -> Words {
+pub fn modbus(answer: PollAnswer) -> Words {
     match answer {
         PollAnswer::Sent(len) => Words::one(b'P', len as u64),
         PollAnswer::R17 => Words::one(b'R', 17),
@@ -149,7 +149,7 @@ fn modbus(answer: PollAnswer) -> Words {
     }
 }
 
-// What the box answered by a letter and numbers; ? where it answered otherwise.
+// What an order was answered, by a letter and numbers; ? where it was answered otherwise.
 pub fn words(said: Answer) -> Words {
     match said {
         Answer::Link => Words::none(b'A'),
@@ -157,7 +157,6 @@ pub fn words(said: Answer) -> Words {
         Answer::Reset(cleared) => reset(cleared),
         Answer::Counters(kept) => Words::two(b'Q', kept.count as u64, kept.total as u64),
         Answer::Restart(restarted) => restart(restarted),
-        Answer::Modbus(polled) => modbus(polled),
         _ => Words::none(b'?'),
     }
 }

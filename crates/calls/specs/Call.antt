@@ -7,37 +7,27 @@ use lib.IntN.{ℤ}
 use lib.ListN.{length, getD, drop, set, replicate}
 use Rattle.laws.specs.Pick.{pick}
 use Rattle.laws.specs.Decimal.{Parsed, good, bad}
-use Rattle.settings.specs.declared.Settings.{Settings}
-use Rattle.field.specs.declared.Field.{Field}
-use Rattle.field.specs.declared.Weight.{Weight}
 use Rattle.field.specs.Field.{four, weight}
-use Rattle.journal.specs.declared.Form.{Form}
 use Rattle.journal.specs.declared.Form.the-variants.{Old, New}
-use Rattle.journal.specs.declared.Line.{Line}
 use Rattle.journal.specs.declared.Line.the-variants.{Dose, On}
 use Rattle.text.specs.Scan.{TAB, expect, onGood, fieldAt}
 use Rattle.operands.specs.Numbers.{signedField, setWith}
 use Rattle.operands.specs.Bytes.{leadingBytes}
+use Rattle.calls.specs.declared.Order.{Order}
+use Rattle.calls.specs.declared.Order.the-variants.{Link, Settings, Reset, Counters, Restart, Why}
+use Rattle.calls.specs.declared.Item.{Item}
+use Rattle.calls.specs.declared.Item.the-variants.{Weight, Field, Line}
+use Rattle.calls.specs.declared.Use.{Use}
+use Rattle.calls.specs.declared.Use.the-variants.{WriteFrame, ReadFrame, ReadLine, Hour, Hours}
 
--- every call of the box and of its writers and readers
+-- the call of a line: a tick, a request or a MODBUS frame with the room of the reply buffer, an order, or what a writer or reader is given; bytes go with a number: the room of a buffer or an hour, else 0
 pub data Call : Type 0 where
   tick : ℤ → ℕ → Call
-  link : Bool → Call
-  settings : Settings → Call
-  reset : Call
-  counters : Call
-  restart : Settings → ℕ → ℕ → Call
   request : List ℕ → ℕ → Call
   modbus : List ℕ → ℕ → Call
-  why : ℕ → Call
-  writeFrame : List ℕ → ℕ → Call
-  readFrame : List ℕ → Call
-  writeField : Weight → Call
-  readField : Field → Call
-  writeLine : Line → ℕ → Call
-  readLine : Form → List ℕ → Call
-  hour : List ℕ → ℕ → Call
-  hours : List ℕ → ℕ → Call
+  order : Order → Call
+  item : Item → Call
+  bytes : Use → List ℕ → ℕ → Call
 
 -- ---- fields: one tab before each
 
@@ -72,11 +62,11 @@ tickAt l = onGood (signedField l) (λ x rest. onGood (fieldAt 255 rest) (λ i re
 
 -- L 0 or 1
 unfoldable pub linkAt : List ℕ → Parsed Call
-linkAt l = onGood (flagField l) (λ on rest. good (link on) rest)
+linkAt l = onGood (flagField l) (λ on rest. good (order (Link on)) rest)
 
 -- Y output
 unfoldable pub whyAt : List ℕ → Parsed Call
-whyAt l = onGood (fieldAt 255 l) (λ k rest. good (why k) rest)
+whyAt l = onGood (fieldAt 255 l) (λ k rest. good (order (Why k)) rest)
 
 -- one number more, or none where the line ends
 unfoldable pub orLast : Call → (ℕ → Call) → List ℕ → Parsed Call
@@ -85,21 +75,21 @@ orLast without behind (b ∷ bs) = onGood (fieldAt greatest32 (b ∷ bs)) (λ n 
 
 -- S SET: 17 settings and the product; a line that ends before the product has product 0
 unfoldable pub settingsAt : List ℕ → Parsed Call
-settingsAt l = onGood (numbersField 17 l) (λ vs rest. orLast (settings (setWith vs 0)) (λ product. settings (setWith vs product)) rest)
+settingsAt l = onGood (numbersField 17 l) (λ vs rest. orLast (order (Settings (setWith vs 0))) (λ product. order (Settings (setWith vs product))) rest)
 
 -- N SET count total; a line of one number less has no product: 17 settings with product 0, count and total
 unfoldable pub restartAt : List ℕ → Parsed Call
 restartAt l =
     onGood (numbersField 19 l) (λ vs rest.
-    orLast (restart (setWith vs 0) (getD vs 17 0) (getD vs 18 0)) (λ total. restart (setWith vs (getD vs 17 0)) (getD vs 18 0) total) rest)
+    orLast (order (Restart (setWith vs 0) (getD vs 17 0) (getD vs 18 0))) (λ total. order (Restart (setWith vs (getD vs 17 0)) (getD vs 18 0) total)) rest)
 
 -- B, M, W and j: bytes, and the room of a buffer; u: bytes, and an hour
 unfoldable pub roomAt : ℕ → (List ℕ → ℕ → Call) → List ℕ → Parsed Call
-roomAt most call l = onGood (bytesField l) (λ bytes rest. onGood (fieldAt most rest) (λ n rest'. good (call bytes n) rest'))
+roomAt most call l = onGood (bytesField l) (λ s rest. onGood (fieldAt most rest) (λ n rest'. good (call s n) rest'))
 
 -- X, l and m: bytes
-unfoldable pub bytesCall : (List ℕ → Call) → List ℕ → Parsed Call
-bytesCall call l = onGood (bytesField l) (λ bytes rest. good (call bytes) rest)
+unfoldable pub bytesCall : (List ℕ → ℕ → Call) → List ℕ → Parsed Call
+bytesCall call l = onGood (bytesField l) (λ s rest. good (call s 0) rest)
 
 -- G weight stable over point
 unfoldable pub writeFieldAt : List ℕ → Parsed Call
@@ -107,23 +97,23 @@ writeFieldAt l =
     onGood (signedField l) (λ w rest.
     onGood (flagField rest) (λ stable rest'.
     onGood (flagField rest') (λ over rest''.
-    onGood (fieldAt 255 rest'') (λ point rest'''. good (writeField (weight w stable over point)) rest'''))))
+    onGood (fieldAt 255 rest'') (λ point rest'''. good (item (Weight (weight w stable over point))) rest'''))))
 
 -- K four bytes
 unfoldable pub readFieldAt : List ℕ → Parsed Call
 readFieldAt l =
-    onGood (bytesField l) (λ bytes rest.
-    pick (eqb (length bytes) 4) (good (readField (four (getD bytes 0 0) (getD bytes 1 0) (getD bytes 2 0) (getD bytes 3 0))) rest) bad)
+    onGood (bytesField l) (λ s rest.
+    pick (eqb (length s) 4) (good (item (Field (four (getD s 0 0) (getD s 1 0) (getD s 2 0) (getD s 3 0)))) rest) bad)
 
 -- D hour count amount settled product room
 unfoldable pub doseAt : List ℕ → Parsed Call
 doseAt l =
     onGood (numbersField 5 l) (λ vs rest.
-    onGood (fieldAt 64 rest) (λ room rest'. good (writeLine (Dose (getD vs 0 0) (getD vs 1 0) (getD vs 2 0) (getD vs 3 0) (getD vs 4 0)) room) rest'))
+    onGood (fieldAt 64 rest) (λ room rest'. good (item (Line (Dose (getD vs 0 0) (getD vs 1 0) (getD vs 2 0) (getD vs 3 0) (getD vs 4 0)) room)) rest'))
 
 -- H hour room
 unfoldable pub onAt : List ℕ → Parsed Call
-onAt l = onGood (fieldAt greatest32 l) (λ h rest. onGood (fieldAt 64 rest) (λ room rest'. good (writeLine (On h) room) rest'))
+onAt l = onGood (fieldAt greatest32 l) (λ h rest. onGood (fieldAt 64 rest) (λ room rest'. good (item (Line (On h) room)) rest'))
 
 -- the letter says which call
 unfoldable pub callBy : ℕ → List ℕ → Parsed Call
@@ -135,9 +125,9 @@ callBy letter l =
     -- S
     (pick (eqb letter 83) (settingsAt l)
     -- C
-    (pick (eqb letter 67) (good reset l)
+    (pick (eqb letter 67) (good (order Reset) l)
     -- Q
-    (pick (eqb letter 81) (good counters l)
+    (pick (eqb letter 81) (good (order Counters) l)
     -- N
     (pick (eqb letter 78) (restartAt l)
     -- B
@@ -147,9 +137,9 @@ callBy letter l =
     -- Y
     (pick (eqb letter 89) (whyAt l)
     -- W
-    (pick (eqb letter 87) (roomAt 600 writeFrame l)
+    (pick (eqb letter 87) (roomAt 600 (bytes WriteFrame) l)
     -- X
-    (pick (eqb letter 88) (bytesCall readFrame l)
+    (pick (eqb letter 88) (bytesCall (bytes ReadFrame) l)
     -- G
     (pick (eqb letter 71) (writeFieldAt l)
     -- K
@@ -159,13 +149,13 @@ callBy letter l =
     -- H
     (pick (eqb letter 72) (onAt l)
     -- l
-    (pick (eqb letter 108) (bytesCall (readLine Old) l)
+    (pick (eqb letter 108) (bytesCall (bytes (ReadLine Old)) l)
     -- m
-    (pick (eqb letter 109) (bytesCall (readLine New) l)
+    (pick (eqb letter 109) (bytesCall (bytes (ReadLine New)) l)
     -- u
-    (pick (eqb letter 117) (roomAt greatest32 hour l)
+    (pick (eqb letter 117) (roomAt greatest32 (bytes Hour) l)
     -- j
-    (pick (eqb letter 106) (roomAt 2000 hours l)
+    (pick (eqb letter 106) (roomAt 2000 (bytes Hours) l)
     bad))))))))))))))))))
 
 -- nothing follows the last field

@@ -8,11 +8,20 @@ use Rattle.laws.specs.Pick.{pick}
 use Rattle.laws.specs.Decimal.{Parsed, good, bad}
 use Rattle.journal.specs.declared.Form.the-variants.{Old, New}
 use Rattle.operands.specs.Bytes.{carried}
-use Rattle.calls.specs.Call.{Call, request, modbus, writeFrame, readFrame, readLine, hour, hours, greatest32, atEnd}
+use Rattle.calls.specs.Call.{Call, request, modbus, bytes, greatest32, atEnd}
 use Rattle.calls.specs.Reads.{asCall, sizeOf, Within}
 use Rattle.calls.specs.declared.Call as declared
 use Rattle.calls.specs.declared.Call.the-variants.{Unknown}
 use Rattle.calls.specs.declared.Numbers.{Numbers}
+use Rattle.calls.specs.declared.Use.{Use}
+use Rattle.calls.specs.declared.Use.the-variants.{WriteFrame, ReadFrame, ReadLine, Hour, Hours}
+
+-- what a letter makes of bytes
+unfoldable pub useOf : ℕ → Use
+useOf letter =
+    pick (eqb letter 87) WriteFrame
+    (pick (eqb letter 106) Hours
+    (pick (eqb letter 88) ReadFrame (pick (eqb letter 108) (ReadLine Old) (pick (eqb letter 109) (ReadLine New) Hour))))
 
 -- the numbers of a row, and the bytes of s that follow them
 pub record Counts (s : List ℕ) (rule : Parsed (List ℕ)) (r : Numbers) : Type 0 where
@@ -20,19 +29,10 @@ pub record Counts (s : List ℕ) (rule : Parsed (List ℕ)) (r : Numbers) : Type
 
 -- the call of a letter that takes bytes, and the greatest number that it takes behind them
 unfoldable pub roomCall : ℕ → List ℕ → ℕ → Call
-roomCall letter bytes n =
-    pick (eqb letter 66) (request bytes n)
-    (pick (eqb letter 77) (modbus bytes n)
-    (pick (eqb letter 87) (writeFrame bytes n)
-    (pick (eqb letter 106) (hours bytes n)
-    (pick (eqb letter 88) (readFrame bytes) (pick (eqb letter 108) (readLine Old bytes) (pick (eqb letter 109) (readLine New bytes) (hour bytes n)))))))
+roomCall letter s n = pick (eqb letter 66) (request s n) (pick (eqb letter 77) (modbus s n) (bytes (useOf letter) s n))
 
 unfoldable pub roomMost : ℕ → ℕ
 roomMost letter = pick (eqb letter 66) 64 (pick (eqb letter 77) 64 (pick (eqb letter 87) 600 (pick (eqb letter 106) 2000 greatest32)))
-
--- and of one that takes bytes alone
-abbrev pub aloneCall : ℕ → List ℕ → Call
-aloneCall letter bytes = roomCall letter bytes 0
 
 -- a call where the line ends at a place
 pub record Ended (s : List ℕ) (end : ℕ) (call r : declared.Call) : Type 0 where
@@ -46,6 +46,6 @@ pub record Asks (s : List ℕ) (rule : Parsed Call) (r : declared.Call) : Type 0
 
 -- the answer is a call of the first n bytes and a number
 pub record Carries (call : List ℕ → ℕ → Call) (n number : ℕ) (r : declared.Call) : Type 0 where
-  pub reads : (bytes : List ℕ) → good (call (take n bytes) number) [] ≡ asCall bytes r
+  pub reads : (s : List ℕ) → good (call (take n s) number) [] ≡ asCall s r
   pub size : sizeOf r ≡ n
   pub within : Within r

@@ -14,50 +14,28 @@ use Rattle.laws.specs.Over.{over}
 use Rattle.laws.specs.Decimal.{Parsed, good, bad}
 use Rattle.paper.specs.Answer.{same}
 use Rattle.text.specs.ScanLaws.{bad-good}
-use Rattle.calls.specs.Call.{Call, tick, link, settings, reset, counters, restart, request, modbus, why, writeFrame, readFrame, writeField, readField, writeLine, readLine, hour, hours, callOf}
+use Rattle.calls.specs.Call.{Call, tick, request, modbus, order, item, bytes, callOf}
 use Rattle.calls.specs.declared.Call as declared
 use Rattle.calls.specs.declared.Call.the-variants as C
 
 -- the call that an answer of the reader stands for; its bytes are the first of `bytes`
 unfoldable pub asCall : List ℕ → declared.Call → Parsed Call
-asCall bytes (C.Tick x i) = good (tick x i) []
-asCall bytes (C.Link on) = good (link on) []
-asCall bytes (C.Settings set) = good (settings set) []
-asCall bytes C.Reset = good reset []
-asCall bytes C.Counters = good counters []
-asCall bytes (C.Restart set count total) = good (restart set count total) []
-asCall bytes (C.Request n room) = good (request (take n bytes) room) []
-asCall bytes (C.Modbus n room) = good (modbus (take n bytes) room) []
-asCall bytes (C.Why k) = good (why k) []
-asCall bytes (C.WriteFrame n room) = good (writeFrame (take n bytes) room) []
-asCall bytes (C.ReadFrame n) = good (readFrame (take n bytes)) []
-asCall bytes (C.WriteField w) = good (writeField w) []
-asCall bytes (C.ReadField f) = good (readField f) []
-asCall bytes (C.WriteLine l room) = good (writeLine l room) []
-asCall bytes (C.ReadLine f n) = good (readLine f (take n bytes)) []
-asCall bytes (C.Hour n h) = good (hour (take n bytes) h) []
-asCall bytes (C.Hours n room) = good (hours (take n bytes) room) []
-asCall bytes C.Unknown = bad
+asCall s (C.Tick x i) = good (tick x i) []
+asCall s (C.Request n room) = good (request (take n s) room) []
+asCall s (C.Modbus n room) = good (modbus (take n s) room) []
+asCall s (C.Order o) = good (order o) []
+asCall s (C.Item i) = good (item i) []
+asCall s (C.Bytes u n k) = good (bytes u (take n s) k) []
+asCall s C.Unknown = bad
 
 -- the answer of the reader that stands for a call, and the bytes that the call carries
 unfoldable pub parts : Parsed Call → declared.Call × List ℕ
 parts (good (tick x i) rest) = (C.Tick x i, [])
-parts (good (link on) rest) = (C.Link on, [])
-parts (good (settings set) rest) = (C.Settings set, [])
-parts (good reset rest) = (C.Reset, [])
-parts (good counters rest) = (C.Counters, [])
-parts (good (restart set count total) rest) = (C.Restart set count total, [])
 parts (good (request s room) rest) = (C.Request (length s) room, s)
 parts (good (modbus s room) rest) = (C.Modbus (length s) room, s)
-parts (good (why k) rest) = (C.Why k, [])
-parts (good (writeFrame s room) rest) = (C.WriteFrame (length s) room, s)
-parts (good (readFrame s) rest) = (C.ReadFrame (length s), s)
-parts (good (writeField w) rest) = (C.WriteField w, [])
-parts (good (readField f) rest) = (C.ReadField f, [])
-parts (good (writeLine l room) rest) = (C.WriteLine l room, [])
-parts (good (readLine f s) rest) = (C.ReadLine f (length s), s)
-parts (good (hour s h) rest) = (C.Hour (length s) h, s)
-parts (good (hours s room) rest) = (C.Hours (length s) room, s)
+parts (good (order o) rest) = (C.Order o, [])
+parts (good (item i) rest) = (C.Item i, [])
+parts (good (bytes u s k) rest) = (C.Bytes u (length s) k, s)
 parts bad = (C.Unknown, [])
 
 abbrev pub bytesIn : Parsed Call → List ℕ
@@ -66,22 +44,11 @@ bytesIn p = parts p .1
 -- how many bytes an answer carries
 unfoldable pub sizeOf : declared.Call → ℕ
 sizeOf (C.Tick x i) = 0
-sizeOf (C.Link on) = 0
-sizeOf (C.Settings set) = 0
-sizeOf C.Reset = 0
-sizeOf C.Counters = 0
-sizeOf (C.Restart set count total) = 0
 sizeOf (C.Request n room) = n
 sizeOf (C.Modbus n room) = n
-sizeOf (C.Why k) = 0
-sizeOf (C.WriteFrame n room) = n
-sizeOf (C.ReadFrame n) = n
-sizeOf (C.WriteField w) = 0
-sizeOf (C.ReadField f) = 0
-sizeOf (C.WriteLine l room) = 0
-sizeOf (C.ReadLine f n) = n
-sizeOf (C.Hour n h) = n
-sizeOf (C.Hours n room) = n
+sizeOf (C.Order o) = 0
+sizeOf (C.Item i) = 0
+sizeOf (C.Bytes u n k) = n
 sizeOf C.Unknown = 0
 
 abbrev pub Sizes : declared.Call → ℕ → Type 0
@@ -94,26 +61,35 @@ size-determined call p q = same p q
 unfoldable pub readIn : ℕ → List ℕ → Parsed Call
 readIn room l = pick (leb 2048 room && leb (length l) 4095) (callOf l) bad
 
--- the bytes lie in a buffer of 2,048, and a buffer's room is at most what the call takes
+-- the bytes lie in a buffer of 2,048, and a reply has at most 64
 unfoldable pub Within : declared.Call → Type 0
 Within (C.Tick x i) = Unit {0}
-Within (C.Link on) = Unit {0}
-Within (C.Settings set) = Unit {0}
-Within C.Reset = Unit {0}
-Within C.Counters = Unit {0}
-Within (C.Restart set count total) = Unit {0}
 Within (C.Request n room) = (n ≤ 2048) × (room ≤ 64)
 Within (C.Modbus n room) = (n ≤ 2048) × (room ≤ 64)
-Within (C.Why k) = Unit {0}
-Within (C.WriteFrame n room) = (n ≤ 2048) × (room ≤ 600)
-Within (C.ReadFrame n) = n ≤ 2048
-Within (C.WriteField w) = Unit {0}
-Within (C.ReadField f) = Unit {0}
-Within (C.WriteLine l room) = room ≤ 64
-Within (C.ReadLine f n) = n ≤ 2048
-Within (C.Hour n h) = n ≤ 2048
-Within (C.Hours n room) = (n ≤ 2048) × (room ≤ 2000)
+Within (C.Order o) = Unit {0}
+Within (C.Item i) = Unit {0}
+Within (C.Bytes u n k) = n ≤ 2048
 Within C.Unknown = Unit {0}
+
+-- every call but a tick
+abbrev pub Unticked : declared.Call → Type 0
+Unticked (C.Tick x i) = ⊥
+Unticked (C.Request n room) = Unit {0}
+Unticked (C.Modbus n room) = Unit {0}
+Unticked (C.Order o) = Unit {0}
+Unticked (C.Item i) = Unit {0}
+Unticked (C.Bytes u n k) = Unit {0}
+Unticked C.Unknown = Unit {0}
+
+-- and every call but a tick and a line request
+abbrev pub Other : declared.Call → Type 0
+Other (C.Tick x i) = ⊥
+Other (C.Request n room) = ⊥
+Other (C.Modbus n room) = Unit {0}
+Other (C.Order o) = Unit {0}
+Other (C.Item i) = Unit {0}
+Other (C.Bytes u n k) = Unit {0}
+Other C.Unknown = Unit {0}
 
 -- the answer is the line's call; its bytes stand at the buffer's start, the rest of which is as it was: all of it where the line is no call
 pub record ReadsCall (l old new : List ℕ) (r : declared.Call) : Type 0 where
@@ -132,22 +108,11 @@ pub record Known (r : declared.Call) : Type 0 where
 pub known : (r : declared.Call) → Known r
 unfolding asCall parts sizeOf Within
 known (C.Tick x i) = record { bytes = λ b. refl; same = λ a b e. refl; few = λ w. omega arith; none = λ b e. refl; back = λ b i. refl }
-known (C.Link on) = record { bytes = λ b. refl; same = λ a b e. refl; few = λ w. omega arith; none = λ b e. refl; back = λ b i. refl }
-known (C.Settings set) = record { bytes = λ b. refl; same = λ a b e. refl; few = λ w. omega arith; none = λ b e. refl; back = λ b i. refl }
-known C.Reset = record { bytes = λ b. refl; same = λ a b e. refl; few = λ w. omega arith; none = λ b e. refl; back = λ b i. refl }
-known C.Counters = record { bytes = λ b. refl; same = λ a b e. refl; few = λ w. omega arith; none = λ b e. refl; back = λ b i. refl }
-known (C.Restart set count total) = record { bytes = λ b. refl; same = λ a b e. refl; few = λ w. omega arith; none = λ b e. refl; back = λ b i. refl }
 known (C.Request n room) = record { bytes = λ b. refl; same = λ a b e. ap (λ (s : List ℕ). good (request s room) []) e; few = λ w. w .0; none = λ b e. bad-good (sym e); back = λ b i. ap (λ (m : ℕ). C.Request m room) (length-take-le n b i) }
 known (C.Modbus n room) = record { bytes = λ b. refl; same = λ a b e. ap (λ (s : List ℕ). good (modbus s room) []) e; few = λ w. w .0; none = λ b e. bad-good (sym e); back = λ b i. ap (λ (m : ℕ). C.Modbus m room) (length-take-le n b i) }
-known (C.Why k) = record { bytes = λ b. refl; same = λ a b e. refl; few = λ w. omega arith; none = λ b e. refl; back = λ b i. refl }
-known (C.WriteFrame n room) = record { bytes = λ b. refl; same = λ a b e. ap (λ (s : List ℕ). good (writeFrame s room) []) e; few = λ w. w .0; none = λ b e. bad-good (sym e); back = λ b i. ap (λ (m : ℕ). C.WriteFrame m room) (length-take-le n b i) }
-known (C.ReadFrame n) = record { bytes = λ b. refl; same = λ a b e. ap (λ (s : List ℕ). good (readFrame s) []) e; few = λ w. w; none = λ b e. bad-good (sym e); back = λ b i. ap (λ (m : ℕ). C.ReadFrame m) (length-take-le n b i) }
-known (C.WriteField w) = record { bytes = λ b. refl; same = λ a b e. refl; few = λ w. omega arith; none = λ b e. refl; back = λ b i. refl }
-known (C.ReadField f) = record { bytes = λ b. refl; same = λ a b e. refl; few = λ w. omega arith; none = λ b e. refl; back = λ b i. refl }
-known (C.WriteLine l room) = record { bytes = λ b. refl; same = λ a b e. refl; few = λ w. omega arith; none = λ b e. refl; back = λ b i. refl }
-known (C.ReadLine f n) = record { bytes = λ b. refl; same = λ a b e. ap (λ (s : List ℕ). good (readLine f s) []) e; few = λ w. w; none = λ b e. bad-good (sym e); back = λ b i. ap (λ (m : ℕ). C.ReadLine f m) (length-take-le n b i) }
-known (C.Hour n h) = record { bytes = λ b. refl; same = λ a b e. ap (λ (s : List ℕ). good (hour s h) []) e; few = λ w. w; none = λ b e. bad-good (sym e); back = λ b i. ap (λ (m : ℕ). C.Hour m h) (length-take-le n b i) }
-known (C.Hours n room) = record { bytes = λ b. refl; same = λ a b e. ap (λ (s : List ℕ). good (hours s room) []) e; few = λ w. w .0; none = λ b e. bad-good (sym e); back = λ b i. ap (λ (m : ℕ). C.Hours m room) (length-take-le n b i) }
+known (C.Order o) = record { bytes = λ b. refl; same = λ a b e. refl; few = λ w. omega arith; none = λ b e. refl; back = λ b i. refl }
+known (C.Item i) = record { bytes = λ b. refl; same = λ a b e. refl; few = λ w. omega arith; none = λ b e. refl; back = λ b i. refl }
+known (C.Bytes u n k) = record { bytes = λ b. refl; same = λ a b e. ap (λ (s : List ℕ). good (bytes u s k) []) e; few = λ w. w; none = λ b e. bad-good (sym e); back = λ b i. ap (λ (m : ℕ). C.Bytes u m k) (length-take-le n b i) }
 known C.Unknown = record { bytes = λ b. refl; same = λ a b e. refl; few = λ w. omega arith; none = λ b e. refl; back = λ b i. refl }
 
 -- ---- what a caller of the reader knows

@@ -1,5 +1,8 @@
 // Each kind of line, read behind its letter.
 use crate::Call;
+use crate::Item;
+use crate::Order;
+use crate::Use;
 use crate::fields;
 use field::Field;
 use field::Weight;
@@ -13,7 +16,7 @@ ghost use Prim.Native.Nat.{_≤_};
 ghost use lib.ListN.{length, drop};
 ghost use Rattle.calls.specs.Call.{tickAt, linkAt, whyAt, settingsAt, restartAt, roomAt, bytesCall, writeFieldAt, readFieldAt, doseAt, onAt};
 ghost use Rattle.calls.specs.Reads.{sizeOf};
-ghost use Rattle.calls.specs.Reading.{aloneCall, roomCall, roomMost, Ended, Asks, Carries};
+ghost use Rattle.calls.specs.Reading.{roomCall, roomMost, Ended, Asks, Carries};
 
 // The call, where nothing of the line follows it.
 pub(crate) fn ended(line: &[u8], end: usize, call: Call) -> Call
@@ -45,7 +48,7 @@ pub(crate) fn link(line: &[u8]) -> Call
     let Num::Good(on, end) = text::field_at(line, 1, 1) else {
         return Call::Unknown;
     };
-    ended(line, end, Call::Link(on == 1))
+    ended(line, end, Call::Order(Order::Link(on == 1)))
 }
 
 // Y output
@@ -55,7 +58,7 @@ pub(crate) fn why(line: &[u8]) -> Call
     let Num::Good(output, end) = text::field_at(line, 1, 255) else {
         return Call::Unknown;
     };
-    ended(line, end, Call::Why(output as u8))
+    ended(line, end, Call::Order(Order::Why(output as u8)))
 }
 
 // S SET; without a product it is 0.
@@ -68,12 +71,16 @@ pub(crate) fn set(line: &[u8]) -> Call
     }
     let v = numbers.values;
     if line.len() <= numbers.next {
-        return Call::Settings(operands::set_of(v, 0));
+        return Call::Order(Order::Settings(operands::set_of(v, 0)));
     }
     let Num::Good(product, end) = text::field_at(line, numbers.next, GREATEST) else {
         return Call::Unknown;
     };
-    ended(line, end, Call::Settings(operands::set_of(v, product)))
+    ended(
+        line,
+        end,
+        Call::Order(Order::Settings(operands::set_of(v, product))),
+    )
 }
 
 // N SET count total; without a product it is 0.
@@ -86,7 +93,7 @@ pub(crate) fn restart(line: &[u8]) -> Call
     }
     let v = numbers.values;
     if line.len() <= numbers.next {
-        return Call::Restart(operands::set_of(v, 0), v[17], v[18]);
+        return Call::Order(Order::Restart(operands::set_of(v, 0), v[17], v[18]));
     }
     let Num::Good(total, end) = text::field_at(line, numbers.next, GREATEST) else {
         return Call::Unknown;
@@ -94,7 +101,7 @@ pub(crate) fn restart(line: &[u8]) -> Call
     ended(
         line,
         end,
-        Call::Restart(operands::set_of(v, v[17]), v[18], total),
+        Call::Order(Order::Restart(operands::set_of(v, v[17]), v[18], total)),
     )
 }
 
@@ -106,12 +113,12 @@ fn room_call(letter: u8, n: u32, number: u32) -> Call
     match letter {
         b'B' => Call::Request(n, number),
         b'M' => Call::Modbus(n, number),
-        b'W' => Call::WriteFrame(n, number),
-        b'j' => Call::Hours(n, number),
-        b'X' => Call::ReadFrame(n),
-        b'l' => Call::ReadLine(Form::Old, n),
-        b'm' => Call::ReadLine(Form::New, n),
-        _ => Call::Hour(n, number),
+        b'W' => Call::Bytes(Use::WriteFrame, n, number),
+        b'j' => Call::Bytes(Use::Hours, n, number),
+        b'X' => Call::Bytes(Use::ReadFrame, n, number),
+        b'l' => Call::Bytes(Use::ReadLine(Form::Old), n, number),
+        b'm' => Call::Bytes(Use::ReadLine(Form::New), n, number),
+        _ => Call::Bytes(Use::Hour, n, number),
     }
 }
 
@@ -134,7 +141,7 @@ pub(crate) fn room(line: &[u8], letter: u8, most: u32) -> Call
 // X, l and m: bytes alone.
 pub(crate) fn alone(line: &[u8], letter: u8) -> Call
     requires { ⌜ length (now line) ≤ 4095 ⌝ }
-    ensures { λ r. ⌜ Asks (now (line .entry)) (bytesCall (aloneCall letter) (drop 1 (now (line .entry)))) r ⌝ }
+    ensures { λ r. ⌜ Asks (now (line .entry)) (bytesCall (roomCall letter) (drop 1 (now (line .entry)))) r ⌝ }
 {
     if text::byte_at(line, 1) != text::TAB {
         return Call::Unknown;
@@ -165,7 +172,7 @@ pub(crate) fn weight(line: &[u8]) -> Call
         over: over == 1,
         point: point as u8,
     };
-    ended(line, end, Call::WriteField(weight))
+    ended(line, end, Call::Item(Item::Weight(weight)))
 }
 
 // K four bytes
@@ -184,7 +191,7 @@ pub(crate) fn four(line: &[u8]) -> Call
         high: fields::byte_of(line, 2),
         con: fields::byte_of(line, 3),
     };
-    ended(line, 10, Call::ReadField(field))
+    ended(line, 10, Call::Item(Item::Field(field)))
 }
 
 // D hour count amount settled product room
@@ -206,7 +213,7 @@ pub(crate) fn dose(line: &[u8]) -> Call
         settled: v[3],
         product: v[4],
     };
-    ended(line, end, Call::WriteLine(dose, room))
+    ended(line, end, Call::Item(Item::Line(dose, room)))
 }
 
 // H hour room
@@ -219,5 +226,5 @@ pub(crate) fn on(line: &[u8]) -> Call
     let Num::Good(room, end) = text::field_at(line, after, 64) else {
         return Call::Unknown;
     };
-    ended(line, end, Call::WriteLine(Line::On { hour }, room))
+    ended(line, end, Call::Item(Item::Line(Line::On { hour }, room)))
 }

@@ -1,7 +1,7 @@
 -- Lines put into a part of a lent buffer, and what a counted tick writes. Assumes nothing.
 use mathlib.Core.Path.{_≡_, refl, sym, ap, _∙_, subst}
-use mathlib.Core.Bool.{Bool, true, false, _&&_}
-use mathlib.Core.List.{List, [], _∷_, _++_, append-nil}
+use mathlib.Core.Bool.{true}
+use mathlib.Core.List.{List, [], _∷_, _++_}
 use Prim.Native.Nat.{ℕ, _+_, _-_, _≤_, _<_}
 use native.Mathlib.Nat.{add-assoc, add-zero}
 use native.Mathlib.Omega.{arith}
@@ -10,12 +10,14 @@ use denote.Enum.Declared.{tagOf}
 use lib.Dec.{eqb}
 use lib.ListN.{length, length-append}
 use lib.Seq.{sets}
-use borrow.Author.Tests.{le-leb, le-ltb, lt-ltb, eq-eqb, ne-eqb}
+use borrow.Author.Tests.{le-leb, lt-leb, le-ltb, lt-ltb, eq-eqb}
 use borrow.Rule.Slice.PartMut.{midOf, putMid}
 use Rattle.laws.specs.Pick.{pick, pick-t, pick-f, pick-map}
 use Rattle.laws.specs.Over.{over, sets-append, sets-over}
 use Rattle.laws.specs.Decimal.{numberAt, decimal, digitsOf, glyph}
 use Rattle.laws.specs.DecimalLaws.{decimal-small}
+use Rattle.text.specs.Scan.{leads, Scans}
+use Rattle.text.specs.declared.Num.{Num}
 use Rattle.paper.specs.Answer.{Answer, done, told, inRoom, leaves, Fills}
 use Rattle.paper.specs.AnswerLaws.{refused-done}
 use Rattle.journal.specs.Line.{versionText, textOf, inRange, writeOf, writeVersionOf}
@@ -23,16 +25,16 @@ use Rattle.journal.specs.LineLaws.{text-most, write-fits}
 use Rattle.journal.specs.Journal.{linesText}
 use Rattle.journal.specs.declared.Form.the-variants.{New}
 use Rattle.journal.specs.declared.Line.{Line}
-use Rattle.journal.specs.declared.Line.the-variants.{On}
 use Rattle.entry.specs.Says.{saysWrote}
 use Rattle.entry.specs.declared.Wrote.{Wrote}
 use Rattle.entry.specs.declared.Wrote.the-variants as W
-use Rattle.clock.specs.Clock.{ticksAnHour, greatestHour, Note, note, refusalText, refuse, firstOf, closing, nextHour, withTicks, oneMore, counts, passedBy, Runs}
-use Rattle.clock.specs.Marking.{sizeOf, Prints, Adds, Writes, prints-writes, writes-as, writes-none, fitsLine, Does, Passes}
-use Rattle.clock.specs.Keeps.{passed-runs, roomed-is, roomed-none, Uncounted, restarted, lost, other}
+use Rattle.clock.specs.Clock.{ticksAnHour, greatestHour, Note, note, withStage, refusalText, refuse, firstOf, closing, nextHour, oneMore, counts, heardBy, passedBy, Runs}
+use Rattle.clock.specs.Marking.{sizeOf, Prints, Adds, Writes, prints-writes, writes-as, writes-none, roomed, fitsLine, Writable, Does, Opens, Marks, Passes}
+use Rattle.clock.specs.Keeps.{heard-runs, first-runs, fitted-is, passed-runs, roomed-is, Uncounted, restarted, lost, other}
 use Rattle.clock.specs.Part.{put-part, part-length}
 use Rattle.clock.specs.declared.Heard.{Heard}
 use Rattle.clock.specs.declared.Heard.the-variants.{Ticked, Dosed, Restarted, Lost, Other}
+use Rattle.clock.specs.declared.Stage.the-variants.{Over}
 use Rattle.clock.specs.declared.Clock.{Clock}
 use Rattle.clock.specs.declared.Marked.{Marked}
 use Rattle.clock.proofs.Heard.{the-type as heard-type}
@@ -62,29 +64,25 @@ line-put old sub at l w range room e f =
     }
 
 -- the V line
-pub version-put : {old new : List ℕ} {r : ℕ} (w : Wrote) → 64 ≤ length old → r ≡ sizeOf w → Fills (saysWrote w) (writeVersionOf (length old)) old new → Prints 4 old 0 versionText new r
+pub version-writes : {next : Clock} {old new : List ℕ} {r : ℕ} (w : Wrote) → 64 ≤ length old → r ≡ sizeOf w → Fills (saysWrote w) (writeVersionOf (length old)) old new
+    → Writes (note next versionText) old new (record { next = next; len = r })
 unfolding writeVersionOf inRoom versionText
-version-put {old} w room e f =
+version-writes {old = old} w room e f =
     let is = wrote w (pick-t _ _ _ (le-leb 4 (length old) (omega arith))) f in
-    record { left = is .1 ∙ sym (sets-over old (86 ∷ 9 ∷ 50 ∷ 10 ∷ []) (omega arith)); next = e ∙ is .0; short = omega arith }
+    record { next = refl; left = is .1; len = e ∙ is .0 }
 
 -- ---- a refusal
 
-ten : decimal 10 ≡ 49 ∷ 48 ∷ []
-unfolding decimal digitsOf glyph pick
-ten = refl
-
 refusal-text : (n : ℕ) → n < 10 → refusalText n ≡ 82 ∷ 9 ∷ 49 ∷ 48 ∷ 9 ∷ (48 + n) ∷ 10 ∷ []
-unfolding refusalText
-refusal-text n h =
-    ap (λ (d : List ℕ). 82 ∷ 9 ∷ (decimal 10 ++ 9 ∷ (d ++ 10 ∷ []))) (decimal-small n h)
-    ∙ ap (λ (d : List ℕ). 82 ∷ 9 ∷ (d ++ 9 ∷ (48 + n) ∷ 10 ∷ [])) ten
+unfolding refusalText decimal digitsOf glyph pick
+refusal-text n h = ap (λ (d : List ℕ). 82 ∷ 9 ∷ (decimal 10 ++ 9 ∷ (d ++ 10 ∷ []))) (decimal-small n h)
 
-pub refusal-put : (old : List ℕ) (n : ℕ) → n < 10 → Prints 7 old 0 (refusalText n) (sets old 0 (82 ∷ 9 ∷ 49 ∷ 48 ∷ 9 ∷ (48 + n) ∷ 10 ∷ [])) 7
-refusal-put old n h =
+pub refusal-writes : (k : Clock) (old : List ℕ) (n : ℕ) → n < 10 → 64 ≤ length old
+    → Writes (refuse n k) old (sets old 0 (82 ∷ 9 ∷ 49 ∷ 48 ∷ 9 ∷ (48 + n) ∷ 10 ∷ [])) (record { next = withStage Over k; len = 7 })
+unfolding refuse
+refusal-writes k old n h room =
     let e = refusal-text n h in
-    let size : length (refusalText n) ≡ 7 = ap length e in
-    record { left = ap (sets old 0) (sym e); next = omega (arith, size); short = omega (arith, size) }
+    record { next = refl; left = sets-over old (82 ∷ 9 ∷ 49 ∷ 48 ∷ 9 ∷ (48 + n) ∷ 10 ∷ []) (omega arith) ∙ ap (λ (l : List ℕ). over l old) (sym e); len = ap length (sym e) }
 
 -- ---- one tick more
 
@@ -95,21 +93,10 @@ adds-text {next} {at = at} {r} {old} {new = new} e p = subst (λ (m : Note). Add
 pub adds-none : {next : Clock} {n : Note} (at : ℕ) (old : List ℕ) → n ≡ note next [] → Adds at n old old (record { next = next; len = at })
 adds-none at old e = adds-text e (record { left = refl; next = sym (add-zero at); short = omega arith })
 
-pub more-same : (k : Clock) → (k .ticks + 1 ≡ ticksAnHour → ⊥) → oneMore k [] ≡ note (withTicks (k .ticks + 1) k) []
-unfolding oneMore linesText
-more-same k h = pick-f _ _ _ (ne-eqb (k .ticks + 1) ticksAnHour h)
-
-more-next : (k : Clock) → k .ticks + 1 ≡ ticksAnHour → oneMore k [] ≡ note (nextHour k) (linesText New (closing k))
+-- the hour's last tick
+pub more-next : (k : Clock) {ls : List Line} → k .ticks + 1 ≡ ticksAnHour → closing k ≡ ls → oneMore k [] ≡ note (nextHour k) (linesText New ls)
 unfolding oneMore
-more-next k h = pick-t _ _ _ (eq-eqb (k .ticks + 1) ticksAnHour h)
-
-pub more-broken : (k : Clock) → k .ticks + 1 ≡ ticksAnHour → (k .whole && k .known) ≡ false → oneMore k [] ≡ note (nextHour k) []
-unfolding closing linesText
-more-broken k h e = more-next k h ∙ ap (λ (ls : List Line). note (nextHour k) (linesText New ls)) (pick-f _ _ _ e)
-
-pub more-closed : (k : Clock) → k .ticks + 1 ≡ ticksAnHour → (k .whole && k .known) ≡ true → oneMore k [] ≡ note (nextHour k) (textOf New (On (k .hour)))
-unfolding closing linesText
-more-closed k h e = more-next k h ∙ ap (λ (ls : List Line). note (nextHour k) (linesText New ls)) (pick-t _ _ _ e) ∙ ap (note (nextHour k)) (append-nil (textOf New (On (k .hour))))
+more-next k h e = pick-t _ _ _ (eq-eqb (k .ticks + 1) ticksAnHour h) ∙ ap (λ (ls : List Line). note (nextHour k) (linesText New ls)) e
 
 -- ---- a counted tick
 
@@ -174,7 +161,16 @@ passes k h e = record { next = e; runs = λ s. subst Runs (sym e) (passed-runs k
 module _ {old : List ℕ} {n : Note} (k : Clock) where
   -- with too little room nothing is noted
   pub does-none : Runs k → length old < 64 → Does k n old old (record { next = k; len = 0 })
-  does-none s room = record { writes = writes-none (sym (roomed-none (length old) k n room)); runs = s }
+  unfolding roomed
+  does-none s room = record { writes = writes-none (sym (pick-f _ _ _ (lt-leb 64 (length old) room))); runs = s }
 
   pub does : {m : Note} {new : List ℕ} {r : Marked} → 64 ≤ length old → n ≡ m → Runs (m .next) → Writes m old new r → Does k n old new r
   does room e s w = record { writes = writes-as (roomed-is (length old) k _ room ∙ e) w; runs = subst Runs (sym (w .next)) s }
+
+-- by the number that was read of the first line
+pub opens : {old new : List ℕ} {r : Marked} {n : Note} {num num' : Num} (k : Clock) (line : List ℕ) → Runs k → 64 ≤ length old
+    → Scans line (numberAt greatestHour line) num → num ≡ num' → firstOf k (leads line num') ≡ n → Writes n old new r → Opens k line old new r
+opens k line s room y e f w = does k room refl (first-runs k line s) (writes-as (ap (firstOf k) (y .reads ∙ ap (leads line) e) ∙ f) w)
+
+pub marks : {old new : List ℕ} {r : Marked} {n : Note} (k : Clock) (h : Heard) → Runs k → 64 ≤ length old → Writable h → heardBy k h ≡ n → Writes n old new r → Marks k h old new r
+marks k h s room fits e w = does k room (fitted-is k h fits) (heard-runs k h s) (writes-as e w)

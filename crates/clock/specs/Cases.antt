@@ -25,33 +25,24 @@ at h n w k = record { stage = Recording; hour = h; ticks = n; whole = w; known =
 abbrev first : List ℕ → Note
 first l = firstOf startOf (numberAt greatestHour l)
 
--- R, 10, 1
-abbrev notFirst : Note
-notFirst = note (record { stage = Over; hour = 0; ticks = 0; whole = true; known = true }) (82 ∷ 9 ∷ 49 ∷ 48 ∷ 9 ∷ 49 ∷ 10 ∷ [])
-
--- the first line: the hour of the first tick, alone on its line, begins the journal with V 2; none, a leading zero, something behind it and eight digits are not
+-- the first line: the hour of the first tick, alone on its line, begins the journal with V 2; with a leading zero it is R10 with line 1
 pub first-lines :
     (first (48 ∷ []) ≡ note (at 0 0 true true) (86 ∷ 9 ∷ 50 ∷ 10 ∷ []))
-    × (first (57 ∷ 57 ∷ 57 ∷ 57 ∷ 57 ∷ 57 ∷ 57 ∷ []) ≡ note (at 9999999 0 true true) (86 ∷ 9 ∷ 50 ∷ 10 ∷ []))
-    × (first [] ≡ notFirst)
-    × (first (48 ∷ 53 ∷ []) ≡ notFirst)
-    × (first (53 ∷ 9 ∷ []) ≡ notFirst)
-    × (first (49 ∷ 48 ∷ 48 ∷ 48 ∷ 48 ∷ 48 ∷ 48 ∷ 48 ∷ []) ≡ notFirst)
+    × (first (48 ∷ 53 ∷ []) ≡ note (record { stage = Over; hour = 0; ticks = 0; whole = true; known = true }) (82 ∷ 9 ∷ 49 ∷ 48 ∷ 9 ∷ 49 ∷ 10 ∷ []))
 unfolding clocks
-first-lines = (refl, refl, refl, refl, refl, refl)
+first-lines = (refl, refl)
 
 -- dose 8 of 480, not settled, of product 7
 abbrev dose : Record
 dose = record { count = 8; amount = 480; settled = 0; product = 7 }
 
--- a dose is written with the hour of its tick; the last tick of an hour writes its H, after its D; then the next hour begins
+-- the last tick of an hour writes its H, after its D, which has the hour of its tick; then the next hour begins
 pub hours-closed :
-    (heardBy (at 5 1 true true) (Dosed dose) ≡ note (at 5 2 true true) (68 ∷ 9 ∷ 53 ∷ 9 ∷ 56 ∷ 9 ∷ 52 ∷ 56 ∷ 48 ∷ 9 ∷ 48 ∷ 9 ∷ 55 ∷ 10 ∷ []))
-    × (heardBy (at 5 449998 true true) Ticked ≡ note (at 5 449999 true true) [])
+    (heardBy (at 5 449998 true true) Ticked ≡ note (at 5 449999 true true) [])
     × (heardBy (at 5 449999 true true) Ticked ≡ note (at 6 0 true true) (72 ∷ 9 ∷ 53 ∷ 10 ∷ []))
     × (heardBy (at 5 449999 true true) (Dosed dose) ≡ note (at 6 0 true true) (68 ∷ 9 ∷ 53 ∷ 9 ∷ 56 ∷ 9 ∷ 52 ∷ 56 ∷ 48 ∷ 9 ∷ 48 ∷ 9 ∷ 55 ∷ 10 ∷ 72 ∷ 9 ∷ 53 ∷ 10 ∷ []))
 unfolding clocks
-hours-closed = (refl, refl, refl, refl)
+hours-closed = (refl, refl, refl)
 
 -- a line that is no call breaks its hour, and every later one until a restart is accepted; a restart before an hour's first tick leaves it whole, one after it does not
 pub hours-broken :

@@ -2,12 +2,12 @@
 use mathlib.Core.Path.{_≡_, refl, sym, _∙_}
 use mathlib.Core.Bool.{true, false}
 use mathlib.Core.List.{List, [], _∷_}
-use Prim.Native.Nat.{ℕ, _+_, _≤_, _<_}
+use Prim.Native.Nat.{ℕ, _+_, _≤_}
 use native.Mathlib.Omega.{arith}
 use lib.Dec.{eqb, ltb}
 use lib.ListN.{length}
-use borrow.Author.Tests.{eqb-false, ltb-false, le-leb, lt-leb}
-use Rattle.laws.specs.Pick.{pick-t, pick-f, pick-if}
+use borrow.Author.Tests.{eqb-false, ltb-false, le-leb}
+use Rattle.laws.specs.Pick.{pick-t, pick-if}
 use Rattle.laws.specs.Decimal.{Parsed, good, bad, numberAt}
 use Rattle.laws.specs.DecimalLaws.{number-only}
 use Rattle.journal.specs.Line.{inRange, productMost}
@@ -51,12 +51,6 @@ refuse-runs : (n : ℕ) (k : Clock) → Runs k → Runs (refuse n k .next)
 unfolding refuse withStage
 refuse-runs n k s = record { ticks = s .ticks; hour = s .hour }
 
-number-runs : (k : Clock) (p : Parsed ℕ) → Runs k → ((h : ℕ) (rest : List ℕ) → p ≡ good h rest → h ≤ greatestHour) → Runs (firstOf k p .next)
-unfolding firstOf withStage withHour
-number-runs k (good h []) s most = record { ticks = s .ticks; hour = omega (arith, most h [] refl) }
-number-runs k (good h (b ∷ bs)) s most = refuse-runs 1 k s
-number-runs k bad s most = refuse-runs 1 k s
-
 -- one tick more of an hour, and the hour that follows
 pub ticks-runs : (k : Clock) → Runs k → eqb (k .ticks + 1) ticksAnHour ≡ false → Runs (withTicks (k .ticks + 1) k)
 unfolding withTicks
@@ -91,17 +85,19 @@ heard-runs k Other s = s
 
 -- the first line is a number of at most 9,999,999 or none
 pub first-runs : (k : Clock) (l : List ℕ) → Runs k → Runs (firstOf k (numberAt greatestHour l) .next)
-first-runs k l s = number-runs k (numberAt greatestHour l) s (λ h rest e. number-only greatestHour l h rest e .1)
+unfolding firstOf withStage withHour
+first-runs k l s = go (numberAt greatestHour l) refl
+  where
+    go : (p : Parsed ℕ) → numberAt greatestHour l ≡ p → Runs (firstOf k p .next)
+    go (good h []) e = record { ticks = s .ticks; hour = omega (arith, number-only greatestHour l h [] e .1) }
+    go (good h (b ∷ bs)) e = refuse-runs 1 k s
+    go bad e = refuse-runs 1 k s
 
 -- ---- with room for a line
 
 pub roomed-is : (room : ℕ) (k : Clock) (n : Note) → 64 ≤ room → roomed room k n ≡ n
 unfolding roomed
 roomed-is room k n h = pick-t _ _ _ (le-leb 64 room h)
-
-pub roomed-none : (room : ℕ) (k : Clock) (n : Note) → room < 64 → roomed room k n ≡ note k []
-unfolding roomed
-roomed-none room k n h = pick-f _ _ _ (lt-leb 64 room h)
 
 -- and with a dose that can be written, the call does what the line adds
 pub fitted-is : (k : Clock) (h : Heard) → Writable h → fitted k h ≡ heardBy k h

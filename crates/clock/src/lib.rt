@@ -9,10 +9,9 @@ ghost use mathlib.Core.Bool.{true};
 ghost use mathlib.Core.List.{[], _∷_};
 ghost use Prim.Native.Nat.{_+_, _≤_, _<_};
 ghost use lib.ListN.{length};
-ghost use Rattle.laws.specs.Decimal.{numberAt};
-ghost use Rattle.journal.specs.Line.{versionText, textOf, inRange};
+ghost use Rattle.journal.specs.Line.{textOf, inRange};
 ghost use Rattle.journal.specs.declared.Form.the-variants.{New};
-ghost use Rattle.clock.specs.Clock.{greatestHour, refusalText, refuse, firstOf, doseIn, oneMore, counts, restartedBy, heardBy, Runs};
+ghost use Rattle.clock.specs.Clock.{greatestHour, refuse, doseIn, oneMore, counts, restartedBy, Runs};
 ghost use Rattle.clock.specs.Marking.{Starts, sizeOf, Prints, Adds, fitsLine, Writable, Writes, Opens, Marks, Passes};
 
 // Before the first line, recording, or over after a refusal.
@@ -55,10 +54,10 @@ const TICKS: u32 = 450000;
 // So many bytes hold all that a line adds.
 pub const ENOUGH: usize = 64;
 
-// R, 10 and the line of a refusal.
-fn put_refusal(out: &mut [u8], line: u8) -> usize
+// The one line of a refusal, R, 10 and the line, and nothing more.
+fn refuse(k: Clock, line: u8, out: &mut [u8]) -> Marked
     requires { ⌜ (line < 10) × (64 ≤ length (now out)) ⌝ }
-    ensures { λ r. ⌜ Prints 7 (now (out .entry)) 0 (refusalText line) (now (out .exit)) r ⌝ }
+    ensures { λ n. ⌜ Writes (refuse line k) (now (out .entry)) (now (out .exit)) n ⌝ }
 {
     out[0] = b'R';
     out[1] = 9;
@@ -67,21 +66,12 @@ fn put_refusal(out: &mut [u8], line: u8) -> usize
     out[4] = 9;
     out[5] = 48 + line;
     out[6] = 10;
-    7
-}
-
-// The one line of a refusal, and nothing more.
-fn refuse(k: Clock, line: u8, out: &mut [u8]) -> Marked
-    requires { ⌜ (line < 10) × (64 ≤ length (now out)) ⌝ }
-    ensures { λ n. ⌜ Writes (refuse line k) (now (out .entry)) (now (out .exit)) n ⌝ }
-{
-    let len = put_refusal(out, line);
     Marked {
         next: Clock {
             stage: Stage::Over,
             ..k
         },
-        len,
+        len: 7,
     }
 }
 
@@ -93,36 +83,6 @@ fn size_of(wrote: Wrote) -> usize
         Wrote::Line(len) => len,
         Wrote::R10 => 0,
         Wrote::R8 => 0,
-    }
-}
-
-// The V line, with which the journal begins.
-fn put_version(out: &mut [u8]) -> usize
-    requires { ⌜ 64 ≤ length (now out) ⌝ }
-    ensures { λ r. ⌜ Prints 4 (now (out .entry)) 0 versionText (now (out .exit)) r ⌝ }
-{
-    size_of(entry::write_version(out))
-}
-
-// The first hour alone on a line.
-fn first_hour(k: Clock, line: &[u8], out: &mut [u8]) -> Marked
-    requires { ⌜ 64 ≤ length (now out) ⌝ }
-    ensures { λ n. ⌜ Writes (firstOf k (numberAt greatestHour (now (line .entry)))) (now (out .entry)) (now (out .exit)) n ⌝ }
-{
-    let Num::Good(hour, end) = text::number_at(line, 0, GREATEST_HOUR) else {
-        return refuse(k, 1, out);
-    };
-    if end < line.len() {
-        return refuse(k, 1, out);
-    }
-    let len = put_version(out);
-    Marked {
-        next: Clock {
-            stage: Stage::Recording,
-            hour,
-            ..k
-        },
-        len,
     }
 }
 
@@ -172,20 +132,7 @@ fn ticked(k: Clock, out: &mut [u8]) -> Marked
     one_more(k, 0, out)
 }
 
-// The D line of a dose.
-fn dose_line(hour: u32, dose: Record) -> Line
-    ensures { λ r. ⌜ r ≡ doseIn hour dose ⌝ }
-{
-    Line::Dose {
-        hour,
-        count: dose.count,
-        amount: dose.amount,
-        settled: dose.settled,
-        product: dose.product,
-    }
-}
-
-// A counted tick that completed a dose.
+// A counted tick that completed a dose: its D line comes first.
 fn dosed(k: Clock, dose: Record, out: &mut [u8]) -> Marked
     requires { ⌜ Runs k × Writable (Heard.Dosed dose) × (64 ≤ length (now out)) ⌝ }
     ensures { λ n. ⌜ Writes (counts k (doseIn (k .hour) dose ∷ [])) (now (out .entry)) (now (out .exit)) n ⌝ }
@@ -193,7 +140,13 @@ fn dosed(k: Clock, dose: Record, out: &mut [u8]) -> Marked
     if GREATEST_HOUR < k.hour {
         return refuse(k, 0, out);
     }
-    let line = dose_line(k.hour, dose);
+    let line = Line::Dose {
+        hour: k.hour,
+        count: dose.count,
+        amount: dose.amount,
+        settled: dose.settled,
+        product: dose.product,
+    };
     let at = put_line(out, 0, line);
     one_more(k, at, out)
 }
@@ -207,21 +160,6 @@ fn restarted(k: Clock) -> Clock
         whole,
         known: true,
         ..k
-    }
-}
-
-// What a line adds, by what it was.
-fn by_heard(k: Clock, heard: Heard, out: &mut [u8]) -> Marked
-    requires { ⌜ Runs k × Writable heard × (64 ≤ length (now out)) ⌝ }
-    ensures { λ n. ⌜ Writes (heardBy k heard) (now (out .entry)) (now (out .exit)) n ⌝ }
-{
-    match heard {
-        Heard::Ticked => ticked(k, out),
-        Heard::Dosed(dose) => dosed(k, dose, out),
-        _ => Marked {
-            next: k.passed(heard),
-            len: 0,
-        },
     }
 }
 
@@ -258,7 +196,7 @@ impl Clock {
         }
     }
 
-    // What the first line adds, where 64 bytes are lent.
+    // What the first line adds, where 64 bytes are lent: the V line, with which the journal begins, if it is an hour alone.
     pub fn first(self, line: &[u8], out: &mut [u8]) -> Marked
         requires { ⌜ Runs self ⌝ }
         ensures { λ r. ⌜ Opens self (now (line .entry)) (now (out .entry)) (now (out .exit)) r ⌝ }
@@ -266,7 +204,21 @@ impl Clock {
         if out.len() < ENOUGH {
             return Marked { next: self, len: 0 };
         }
-        first_hour(self, line, out)
+        let Num::Good(hour, end) = text::number_at(line, 0, GREATEST_HOUR) else {
+            return refuse(self, 1, out);
+        };
+        if end < line.len() {
+            return refuse(self, 1, out);
+        }
+        let len = size_of(entry::write_version(out));
+        Marked {
+            next: Clock {
+                stage: Stage::Recording,
+                hour,
+                ..self
+            },
+            len,
+        }
     }
 
     // What a line of a script adds, by what it was, where 64 bytes are lent and a dose can be written.
@@ -280,7 +232,14 @@ impl Clock {
         if !fits(heard) {
             return Marked { next: self, len: 0 };
         }
-        by_heard(self, heard, out)
+        match heard {
+            Heard::Ticked => ticked(self, out),
+            Heard::Dosed(dose) => dosed(self, dose, out),
+            _ => Marked {
+                next: self.passed(heard),
+                len: 0,
+            },
+        }
     }
 
     // What a line that is no counted tick leaves: an accepted restart, no call, or any other call; it adds nothing.

@@ -48,7 +48,10 @@ use Rattle.series.specs.Records.{records-append}
 use Rattle.series.specs.Lines.{amountsOf, hourWith}
 use Rattle.lines.specs.Lines.{linesOf}
 use Rattle.calls.specs.Call.{Call, callOf}
-use Rattle.acts.specs.Acts.{Ask, event, counters, why, nothing, unknown, askBy, eventsIn, madeBy, saidAt, saidTo}
+use Rattle.calls.specs.Call as calls
+use Rattle.calls.specs.declared.Order.{Order}
+use Rattle.calls.specs.declared.Order.the-variants as O
+use Rattle.acts.specs.Acts.{blank, orderEvents, callEvents, eventsIn, madeBy, saidOf, saidTo}
 use Rattle.clock.specs.Clock.{ticksAnHour, greatestHour, Note, note, withStage, withHour, withTicks, withWhole, withKnown, refusalText, refuse, firstOf, doseIn, closing, nextHour, oneMore, counts, restartedBy, lostBy, heardBy, passedBy, Runs}
 use Rattle.recorder.specs.Recording.{heardDoses, heardTick, heardRestart, heardSaid, heardOf, noteBy, noteOf, boxBy, nextOf, startOf, notesOf, recordOf}
 use Rattle.clock.specs.Clock as clock
@@ -144,7 +147,7 @@ dosesIn (Other ∷ hs) = dosesIn hs
 -- the events of a script: a line makes one call of a series, or none
 unfoldable pub eventsOf : List (List ℕ) → List Event
 eventsOf [] = []
-eventsOf (l ∷ ls) = eventsIn (askBy (callOf l)) ++ eventsOf ls
+eventsOf (l ∷ ls) = eventsIn (callOf l) ++ eventsOf ls
 
 -- a tick tells of one dose or of none
 one-dose : (product : ℕ) (after : Counters) (d : dosing.Dose) → dosesIn (heardDoses (recordsOf product after d) ∷ []) ≡ recordsOf product after d
@@ -173,27 +176,24 @@ restart-none (done x) = refl
 restart-none (refused n vs) = refl
 restart-none (fault n vs) = refl
 
-event-doses : (c : Controller) (e : Event) → Sound c → dosesIn (heardSaid (saidAt c e) ∷ []) ≡ recordsAt c e
-unfolding dosesIn heardSaid saidAt recordsAt
-event-doses c (tick x i) s = tick-doses c x i s
-event-doses c (link on) s = refl
-event-doses c (request b reply) s = refl
-event-doses c (modbus b reply) s = refl
-event-doses c (settings set) s = refl
-event-doses c reset s = refl
-event-doses c (restart set count total) s = restart-none _
+order-doses : (c : Controller) (o : Order) → dosesIn (heardSaid (saidOf c o) ∷ []) ≡ records c (orderEvents o)
+unfolding dosesIn heardSaid saidOf orderEvents records recordsAt
+order-doses c (O.Link on) = refl
+order-doses c (O.Settings set) = refl
+order-doses c O.Reset = refl
+order-doses c O.Counters = refl
+order-doses c (O.Restart set count total) = restart-none _
+order-doses c (O.Why k) = refl
 
-ask-doses : (c : Controller) (a : Ask) → Sound c → dosesIn (heardSaid (saidTo c a) ∷ []) ≡ records c (eventsIn a)
-unfolding dosesIn heardSaid saidTo eventsIn records
-ask-doses c (event e) s = event-doses c e s ∙ sym (append-nil (recordsAt c e))
-ask-doses c counters s = refl
-ask-doses c (why k) s = refl
-ask-doses c nothing s = refl
-ask-doses c unknown s = refl
-
-line-doses : (c : Controller) (p : Parsed Call) → Sound c → dosesIn (heardOf c p ∷ []) ≡ records c (eventsIn (askBy p))
-unfolding heardOf
-line-doses c p s = ask-doses c (askBy p) s
+line-doses : (c : Controller) (p : Parsed Call) → Sound c → dosesIn (heardOf c p ∷ []) ≡ records c (eventsIn p)
+unfolding heardOf dosesIn heardSaid saidTo eventsIn callEvents records recordsAt
+line-doses c (good (calls.tick x i) rest) s = tick-doses c x i s ∙ sym (append-nil (recordsIn (tickOf c x i .answer)))
+line-doses c (good (calls.request b room) rest) s = refl
+line-doses c (good (calls.modbus b room) rest) s = refl
+line-doses c (good (calls.order o) rest) s = order-doses c o
+line-doses c (good (calls.item i) rest) s = refl
+line-doses c (good (calls.bytes u b n) rest) s = refl
+line-doses c bad s = refl
 
 doses-cons : (h : Heard) (hs : List Heard) → dosesIn (h ∷ hs) ≡ dosesIn (h ∷ []) ++ dosesIn hs
 unfolding dosesIn
@@ -210,7 +210,7 @@ doses-are (l ∷ script) c s =
     let p = callOf l in
     doses-cons (heardOf c p) (heardAll (madeBy c p) script)
     ∙ ap₂ (λ (a b : List Record). a ++ b) (line-doses c p s) (doses-are script (madeBy c p) (made-sound c p s))
-    ∙ sym (records-append (eventsIn (askBy p)) (eventsOf script) c)
+    ∙ sym (records-append (eventsIn p) (eventsOf script) c)
 
 -- ---- the doses of one product are those completed while it was set
 
@@ -235,13 +235,28 @@ onlyOf p Restarted = Restarted
 onlyOf p Lost = Lost
 onlyOf p Other = Other
 
-ask-product : (c : Controller) (a : Ask) → Sound c → AllOf (c .set .product) (records c (eventsIn a))
-unfolding eventsIn records AllOf
-ask-product c (event e) s = rw append-nil (event-product c e s)
-ask-product c counters s = tt
-ask-product c (why k) s = tt
-ask-product c nothing s = tt
-ask-product c unknown s = tt
+event-only : (c : Controller) (e : Event) → Sound c → AllOf (c .set .product) (records c (e ∷ []))
+unfolding records
+event-only c e s = rw append-nil (event-product c e s)
+
+order-product : (c : Controller) (o : Order) → Sound c → AllOf (c .set .product) (records c (orderEvents o))
+unfolding orderEvents records AllOf
+order-product c (O.Link on) s = event-only c (link on) s
+order-product c (O.Settings set) s = event-only c (settings set) s
+order-product c O.Reset s = event-only c reset s
+order-product c O.Counters s = tt
+order-product c (O.Restart set count total) s = event-only c (restart set count total) s
+order-product c (O.Why k) s = tt
+
+line-product : (c : Controller) (p : Parsed Call) → Sound c → AllOf (c .set .product) (records c (eventsIn p))
+unfolding eventsIn callEvents records AllOf
+line-product c (good (calls.tick x i) rest) s = event-only c (tick x i) s
+line-product c (good (calls.request b room) rest) s = event-only c (request b (blank room)) s
+line-product c (good (calls.modbus b room) rest) s = event-only c (modbus b (blank room)) s
+line-product c (good (calls.order o) rest) s = order-product c o s
+line-product c (good (calls.item i) rest) s = tt
+line-product c (good (calls.bytes u b n) rest) s = tt
+line-product c bad s = tt
 
 set-only : (p : ℕ) (c : Controller) (h : Heard) → AllOf (c .set .product) (dosesIn (h ∷ [])) → whileSet p c h ≡ onlyOf p h
 unfolding whileSet onlyOf dosesIn AllOf
@@ -257,7 +272,7 @@ while-only [] p c s = refl
 while-only (l ∷ script) p c s =
     let call = callOf l in
     ap₂ (λ (h : Heard) (hs : List Heard). h ∷ hs)
-    (set-only p c (heardOf c call) (subst (AllOf (c .set .product)) (sym (line-doses c call s)) (ask-product c (askBy call) s)))
+    (set-only p c (heardOf c call) (subst (AllOf (c .set .product)) (sym (line-doses c call s)) (line-product c call s)))
     (while-only script p (madeBy c call) (made-sound c call s))
 
 less-only : (p : ℕ) (h : Heard) (n : ℕ) → less (onlyOf p h) n ≡ less h n

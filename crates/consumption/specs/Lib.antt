@@ -1,1 +1,3 @@
 pub mod Consumption
+pub mod Readable
+pub mod Blocks

@@ -1,14 +1,16 @@
 -- An input that comes in blocks: what is carried from read to read, the line that is handed over next, and that over any blocks the lines are those of the whole input. Assumes nothing.
 use mathlib.Core.Path.{_≡_, refl, sym, ap, _∙_, subst}
-use mathlib.Core.Bool.{Bool, true, false, _||_, true≢false}
+use mathlib.Core.Bool.{Bool, true, false, _||_}
 use mathlib.Core.List.{List, [], _∷_, _++_, append-assoc}
 use Prim.Native.Nat.{ℕ, suc, _+_, _-_, _≤_, _<_}
 use native.Mathlib.Omega.{arith}
 use lib.Dec.{ltb}
 use lib.ListN.{length, take, drop, length-take, length-drop, length-append, length-replicate, drop-of-length-le}
-use lib.Seq.{length-take-le, take-take, drop-drop}
+use lib.Seq.{length-take-le, take-take, take-at, drop-drop}
 use borrow.Author.Tests.{ltb-true, ltb-false, lt-ltb}
 use Rattle.laws.specs.Pick.{pick, pick-t, pick-f, pick-if, pick-all}
+use Rattle.laws.specs.Bools.{or-left, or-right}
+use Rattle.laws.specs.Over.{over}
 use Rattle.paper.specs.Answer.{same}
 use Rattle.text.specs.Scan.{LF}
 use Rattle.lines.specs.declared.Intake.{Intake}
@@ -16,7 +18,7 @@ use Rattle.lines.specs.declared.Taken.{Taken}
 use Rattle.lines.specs.declared.Next.{Next}
 use Rattle.lines.specs.declared.Next.the-variants.{Line, More}
 use Rattle.lines.specs.Lines.{linesFrom, linesOf, begunOf, tooLong, asked, Plain, lines-begun, lines-whole, lines-long}
-use Rattle.lines.specs.Places.{plainLength, endOf, partOf, part-held, Carries, carry-part, plain-taken, plain-within, plain-line, plain-begun}
+use Rattle.lines.specs.Places.{plainLength, endOf, partOf, part-held, Carries, plain-taken, plain-within, plain-line, plain-begun}
 
 -- ---- what is carried
 
@@ -112,11 +114,7 @@ overlong-is i end l e = go (i .long)
 
 overlong-short : (i : Intake) (end : ℕ) → overlong i end ≡ false → (i .long ≡ false) × (end - i .at ≤ 4095)
 unfolding overlong
-overlong-short i end h = go (i .long) h
-  where
-    go : (b : Bool) → (b || ltb 4095 (end - i .at)) ≡ false → (b ≡ false) × (end - i .at ≤ 4095)
-    go true k = absurd (true≢false k)
-    go false k = (refl, ltb-false 4095 (end - i .at) k)
+overlong-short i end h = let far = ltb 4095 (end - i .at) in (or-left (i .long) far h, ltb-false 4095 (end - i .at) (or-right (i .long) far h))
 
 long-begun : 4095 < length (begunOf true)
 unfolding begunOf
@@ -136,14 +134,11 @@ module _ (i : Intake) (buffer : List ℕ) where
   abbrev end : ℕ
   end = i .at + plainLength rest
 
-  line-size : length line ≡ end - i .at
-  line-size = omega (arith, length-take-le (plainLength rest) rest (plain-within rest))
-
   line-part : end ≤ length held → partOf (pick (overlong i end) end (i .at)) end buffer ≡ asked (begunOf (i .long) ++ line)
   unfolding partOf asked begunOf
   line-part h =
       let x = begunOf (i .long) ++ line in
-      let is = overlong-is i end line line-size in
+      let is = overlong-is i end line (omega (arith, length-take-le (plainLength rest) rest (plain-within rest))) in
       pick-if (λ (from : ℕ). take (end - from) (drop from buffer) ≡ pick (tooLong x) [] x) (overlong i end)
       (λ e. let none : end - end ≡ 0 = omega arith in ap (λ (n : ℕ). take n (drop end buffer)) none ∙ sym (pick-t (tooLong x) [] x (sym is ∙ e)))
       (λ e.
@@ -222,8 +217,10 @@ comes-start buffer future = refl
 
 -- what is pending can be carried to the start
 pub carry-pending : (i : Intake) {old new : List ℕ} {r : ℕ} → Carries (i .at) (i .have) old new r → take r new ≡ pending i old
-unfolding pending
-carry-pending i {old} p = carry-part p ∙ sym (part-held (i .at) (i .have) old)
+unfolding pending over
+carry-pending i {old} {r = r} p =
+    let part = partOf (i .at) (i .have) old in
+    ap (take r) (p .left) ∙ take-at part (drop (length part) old) r (sym (p .len)) ∙ sym (part-held (i .at) (i .have) old)
 
 -- a read only moves bytes from what follows to what is pending
 pub comes-read : (i j : Intake) (old new got future : List ℕ) → pending j new ≡ pending i old ++ got → j .long ≡ i .long

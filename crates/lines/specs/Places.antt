@@ -3,11 +3,12 @@ use mathlib.Core.Path.{_≡_, refl, sym, ap, _∙_, subst}
 use mathlib.Core.Bool.{Bool, true, false}
 use mathlib.Core.List.{List, [], _∷_, _++_}
 use Prim.Native.Nat.{ℕ, zero, suc, _+_, _-_, _≤_, _<_, min}
+use native.Mathlib.Nat.{zero-min, min-zero, suc-min-suc}
 use native.Mathlib.Omega.{arith}
-use lib.Dec.{leb, eqb}
-use lib.ListN.{length, getD, take, drop, length-take, length-drop, length-append, take-append-drop}
-use lib.Seq.{take-all, take-nil, take-at, drop-cons}
-use borrow.Author.Tests.{leb-true, leb-false, eqb-true, eqb-false}
+use lib.Dec.{eqb}
+use lib.ListN.{length, take, drop, length-take, length-drop, length-append}
+use lib.Seq.{take-all, take-nil}
+use borrow.Author.Tests.{eqb-true, eqb-false}
 use Rattle.laws.specs.Pick.{pick, pick-all}
 use Rattle.laws.specs.Over.{over}
 use Rattle.paper.specs.Answer.{same}
@@ -40,22 +41,16 @@ unfolding plainLength
 plain-within [] = omega arith
 plain-within (b ∷ bs) = pick-all (λ (n : ℕ). n ≤ suc (length bs)) (eqb b LF) (omega arith) (omega (arith, plain-within bs))
 
-plain-stop : (l : List ℕ) → plainLength l < length l → getD l (plainLength l) 0 ≡ LF
-unfolding plainLength pick
-plain-stop [] h = absurd (omega arith)
-plain-stop (b ∷ bs) h = go (eqb b LF) refl h (plain-stop bs)
-  where
-    go : (t : Bool) → eqb b LF ≡ t → pick t 0 (suc (plainLength bs)) < suc (length bs) → (plainLength bs < length bs → getD bs (plainLength bs) 0 ≡ LF)
-        → getD (b ∷ bs) (pick t 0 (suc (plainLength bs))) 0 ≡ LF
-    go true e k p = eqb-true b LF e
-    go false e k p = p (omega arith)
-
 -- the first line, its LF, and what follows it
 pub plain-line : (l : List ℕ) → plainLength l < length l → l ≡ take (plainLength l) l ++ LF ∷ drop (suc (plainLength l)) l
-plain-line l h =
-    let n = plainLength l in
-    sym (take-append-drop n l)
-    ∙ ap (λ (r : List ℕ). take n l ++ r) (drop-cons l n 0 h ∙ ap (λ (b : ℕ). b ∷ drop (suc n) l) (plain-stop l h))
+unfolding plainLength pick
+plain-line [] h = absurd (omega arith)
+plain-line (b ∷ bs) h = go (eqb b LF) refl h (plain-line bs)
+  where
+    go : (t : Bool) → eqb b LF ≡ t → pick t 0 (suc (plainLength bs)) < suc (length bs) → (plainLength bs < length bs → bs ≡ take (plainLength bs) bs ++ LF ∷ drop (suc (plainLength bs)) bs)
+        → b ∷ bs ≡ take (pick t 0 (suc (plainLength bs))) (b ∷ bs) ++ LF ∷ drop (pick t 0 (suc (plainLength bs))) bs
+    go true e k p = ap (λ (x : ℕ). x ∷ bs) (eqb-true b LF e)
+    go false e k p = ap (λ (r : List ℕ). b ∷ r) (p (omega arith))
 
 -- or no line at all
 pub plain-begun : (l : List ℕ) → length l ≤ plainLength l → Plain l
@@ -77,17 +72,9 @@ part-held (suc from) (suc to) (x ∷ xs) = let less : to - from ≡ suc to - suc
 
 -- no more bytes are taken than there are
 pub take-least : (n : ℕ) (l : List ℕ) → take (min n (length l)) l ≡ take n l
-take-least n l = go (leb n (length l)) refl
-  where
-    go : (t : Bool) → leb n (length l) ≡ t → take (min n (length l)) l ≡ take n l
-    go true e =
-        let fits = leb-true n (length l) e in
-        let m : min n (length l) ≡ n = omega arith in
-        ap (λ (j : ℕ). take j l) m
-    go false e =
-        let more = leb-false n (length l) e in
-        let m : min n (length l) ≡ length l = omega arith in
-        ap (λ (j : ℕ). take j l) m ∙ take-all (length l) l (omega arith) ∙ sym (take-all n l (omega arith))
+take-least zero l = rw zero-min
+take-least (suc n) [] = rw min-zero
+take-least (suc n) (x ∷ xs) = rw suc-min-suc (ap (λ (r : List ℕ). x ∷ r) (take-least n xs))
 
 pub part-least : (from to : ℕ) (l : List ℕ) → partOf from (min to (length l)) l ≡ partOf from to l
 part-least from to l = sym (part-held from (min to (length l)) l) ∙ ap (drop from) (take-least to l) ∙ part-held from to l
@@ -101,11 +88,7 @@ pub record Carries (from to : ℕ) (old new : List ℕ) (r : ℕ) : Type 0 where
 pub carry-determined : {from to r s : ℕ} {old new new' : List ℕ} → Carries from to old new r → Carries from to old new' s → (r ≡ s) × (new ≡ new')
 carry-determined p q = (same (p .len) (q .len), same (p .left) (q .left))
 
--- the bytes that were moved are the part, and no more than there are
-pub carry-part : {from to r : ℕ} {old new : List ℕ} → Carries from to old new r → take r new ≡ partOf from to old
-unfolding over
-carry-part {from} {to} {r} {old} {new} p = ap (take r) (p .left) ∙ take-at (partOf from to old) (drop (length (partOf from to old)) old) r (sym (p .len))
-
+-- no more bytes are moved than there are, and the buffer keeps its length
 pub carry-inside : {from to r : ℕ} {old new : List ℕ} → Carries from to old new r → (r ≤ length old) × (length new ≡ length old)
 unfolding partOf over
 carry-inside {from} {to} {r} {old} {new} p =

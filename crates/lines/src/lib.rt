@@ -1,10 +1,10 @@
 // An input that comes in blocks: the next whole line of what is held, and the bytes that are carried over to the next block.
 ghost use mathlib.Core.Path.{_≡_};
 ghost use mathlib.Core.Bool.{false};
-ghost use Prim.Native.Nat.{_+_, _≤_, min};
+ghost use Prim.Native.Nat.{_+_, _≤_};
 ghost use lib.ListN.{length};
 ghost use Rattle.lines.specs.Places.{endOf, Carries};
-ghost use Rattle.lines.specs.Intake.{overlong, HoldsNothing, HandsOver};
+ghost use Rattle.lines.specs.Intake.{HoldsNothing, HandsOver};
 
 // What is carried from read to read: the bytes of the buffer from `at` to `have` are not done with; `long` says that the line that they go on is too long already.
 pub struct Intake {
@@ -83,13 +83,6 @@ fn line_end(block: &[u8], at: usize) -> usize
     i
 }
 
-// The smaller of two.
-fn least(a: usize, b: usize) -> usize
-    ensures { λ r. ⌜ r ≡ min a b ⌝ }
-{
-    if a < b { a } else { b }
-}
-
 impl Intake {
     // Nothing is held.
     pub fn start() -> Intake
@@ -102,24 +95,13 @@ impl Intake {
         }
     }
 
-    // Whether the line that goes on to `end` is too long.
-    fn overlong(self, end: usize) -> bool
-        requires { ⌜ self .at ≤ end ⌝ }
-        ensures { λ r. ⌜ r ≡ overlong self end ⌝ }
-    {
-        if self.long {
-            return true;
-        }
-        LONGEST < end - self.at
-    }
-
     // The next whole line of what is held, or that more has to be read.
     pub fn next_line(self, buffer: &[u8]) -> Taken
         ensures { λ r. ⌜ HandsOver self (now (buffer .entry)) r ⌝ }
     {
-        let have = least(self.have, buffer.len());
+        let have = text::least(self.have, buffer.len());
         let end = line_end(&buffer[..have], self.at);
-        let over = self.overlong(end);
+        let over = self.long | (LONGEST < end - self.at);
         if have <= end {
             if over {
                 return Taken {
@@ -161,7 +143,7 @@ impl Intake {
 pub fn carry(buffer: &mut [u8], from: usize, to: usize) -> usize
     ensures { λ r. ⌜ Carries from to (now (buffer .entry)) (now (buffer .exit)) r ⌝ }
 {
-    let end = least(to, buffer.len());
+    let end = text::least(to, buffer.len());
     let mut i = from;
     let mut n: usize = 0;
     while i < end {

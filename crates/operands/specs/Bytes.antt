@@ -1,16 +1,17 @@
 -- The bytes of a line: its first field, two digits a byte. Assumes nothing.
-use mathlib.Core.Path.{_≡_, refl, ap, _∙_}
+use mathlib.Core.Path.{_≡_, refl, sym, ap, _∙_, subst}
 use mathlib.Core.Bool.{Bool, true, false, _&&_, _||_}
 use mathlib.Core.List.{List, [], _∷_}
 use Prim.Native.Nat.{ℕ, zero, suc, _+_, _-_, _*_, _≤_, _<_}
 use native.Mathlib.Omega.{arith}
 use native.Mathlib.Decide.{decLt}
 use lib.Dec.{leb}
-use lib.ListN.{length, getD, drop, length-drop}
-use Rattle.laws.specs.Pick.{pick, pick-t, pick-f}
+use lib.ListN.{length, getD, drop, drop-of-length-le}
+use Rattle.laws.specs.Pick.{pick, pick-t, pick-f, pick-if}
 use Rattle.laws.specs.Bools.{and-left, and-right}
 use Rattle.laws.specs.Decimal.{isDigit}
 use Rattle.paper.specs.Answer.{same}
+use Rattle.text.specs.ScanLaws.{from-place}
 use Rattle.operands.specs.Parsing.{from-byte}
 
 -- 0..9 and A..F
@@ -50,25 +51,20 @@ count-determined s p q = same p q
 module _ (s : List ℕ) (p : ℕ) where
   pub lead-end : length s ≤ p + 1 → leadingBytes (drop p s) ≡ []
   unfolding leadingBytes
-  lead-end h = short (drop p s) (omega (arith, length-drop p s))
-    where
-      short : (l : List ℕ) → length l ≤ 1 → leadingBytes l ≡ []
-      short [] h = refl
-      short (a ∷ []) h = refl
-      short (a ∷ b ∷ l) h = absurd (omega arith)
+  lead-end h =
+      from-place (λ l. leadingBytes l ≡ []) s p (λ i. ap (λ (r : List ℕ). leadingBytes (getD s p 0 ∷ r)) (drop-of-length-le s {i = p + 1} h)) (λ z. refl)
 
-  pub lead-is : p + 1 < length s → leadingBytes (drop p s) ≡ pick (isHex (getD s p 0) && isHex (getD s (p + 1) 0)) (two (getD s p 0) (getD s (p + 1) 0) ∷ leadingBytes (drop (p + 2) s)) []
+  lead-is : p + 1 < length s → leadingBytes (drop p s) ≡ pick (isHex (getD s p 0) && isHex (getD s (p + 1) 0)) (two (getD s p 0) (getD s (p + 1) 0) ∷ leadingBytes (drop (p + 2) s)) []
   unfolding leadingBytes
   lead-is h =
       let z : p + 1 + 1 ≡ p + 2 = omega arith in
       ap leadingBytes (from-byte s p (omega arith) ∙ ap (λ (r : List ℕ). getD s p 0 ∷ r) (from-byte s (p + 1) h ∙ ap (λ (i : ℕ). getD s (p + 1) 0 ∷ drop i s) z))
 
-  module _ (h : p + 1 < length s) where
-    pub lead-two : isHex (getD s p 0) ≡ true → isHex (getD s (p + 1) 0) ≡ true → standing s p ≡ suc (standing s (p + 2))
-    lead-two e f = ap length (lead-is h ∙ pick-t _ _ _ (ap (λ (t : Bool). t && isHex (getD s (p + 1) 0)) e ∙ f))
+  pub lead-two : p + 1 < length s → isHex (getD s p 0) ≡ true → isHex (getD s (p + 1) 0) ≡ true → standing s p ≡ suc (standing s (p + 2))
+  lead-two h e f = ap length (lead-is h ∙ pick-t _ _ _ (ap (λ (t : Bool). t && isHex (getD s (p + 1) 0)) e ∙ f))
 
-    pub lead-none : (isHex (getD s p 0) && isHex (getD s (p + 1) 0)) ≡ false → standing s p ≡ 0
-    lead-none e = ap length (lead-is h ∙ pick-f _ _ _ e)
+  pub lead-none : p + 1 < length s → (isHex (getD s p 0) && isHex (getD s (p + 1) 0)) ≡ false → standing s p ≡ 0
+  lead-none h e = ap length (lead-is h ∙ pick-f _ _ _ e)
 
 -- ---- the k-th of them
 
@@ -82,15 +78,12 @@ pub record Digits (s : List ℕ) (q v : ℕ) : Type 0 where
 digits-first : (s : List ℕ) (p : ℕ) → 0 < standing s p
     → Digits s p (two (getD s p 0) (getD s (p + 1) 0)) × (leadingBytes (drop p s) ≡ two (getD s p 0) (getD s (p + 1) 0) ∷ leadingBytes (drop (p + 2) s))
 digits-first s p h =
+    let v = two (getD s p 0) (getD s (p + 1) 0) in
+    let P : List ℕ → Type 0 = λ r. 0 < length r → Digits s p v × (r ≡ v ∷ leadingBytes (drop (p + 2) s)) in
     elim (decLt (p + 1) (length s)) [
-      | yes l ↦ go l (isHex (getD s p 0) && isHex (getD s (p + 1) 0)) refl
+      | yes l ↦ subst P (sym (lead-is s p l)) (pick-if P _ (λ e k. (record { inside = l; high = and-left _ (isHex (getD s (p + 1) 0)) e; low = and-right (isHex (getD s p 0)) _ e; value = refl }, refl)) (λ e k. absurd (omega arith))) h
       | no l ↦ absurd (omega (arith, ap length (lead-end s p (omega arith))))
     ]
-  where
-    go : p + 1 < length s → (t : Bool) → (isHex (getD s p 0) && isHex (getD s (p + 1) 0)) ≡ t
-        → Digits s p (two (getD s p 0) (getD s (p + 1) 0)) × (leadingBytes (drop p s) ≡ two (getD s p 0) (getD s (p + 1) 0) ∷ leadingBytes (drop (p + 2) s))
-    go l true e = (record { inside = l; high = and-left (isHex (getD s p 0)) (isHex (getD s (p + 1) 0)) e; low = and-right (isHex (getD s p 0)) (isHex (getD s (p + 1) 0)) e; value = refl }, lead-is s p l ∙ pick-t (isHex (getD s p 0) && isHex (getD s (p + 1) 0)) (two (getD s p 0) (getD s (p + 1) 0) ∷ leadingBytes (drop (p + 2) s)) [] e)
-    go l false e = absurd (omega (arith, lead-none s p l e))
 
 pub digits-at : (k : ℕ) (s : List ℕ) (p : ℕ) → k < standing s p → Digits s (p + 2 * k) (getD (leadingBytes (drop p s)) k 0)
 digits-at zero s p h = let f = digits-first s p h in let z : p + 2 * 0 ≡ p = omega arith in rw (z, f .1) (f .0)
@@ -102,8 +95,8 @@ digits-at (suc k) s p h =
 -- at most half of the line's bytes
 pub carried-half : (s : List ℕ) → 2 * length (carried s) ≤ length s
 unfolding carried
-carried-half s = go (standing s 2) refl
-  where
-    go : (n : ℕ) → n ≡ standing s 2 → 2 * n ≤ length s
-    go zero e = omega arith
-    go (suc k) e = omega (arith, digits-at k s 2 (omega arith) .inside)
+carried-half s =
+    elim (decLt 0 (standing s 2)) [
+      | yes l ↦ omega (arith, digits-at (standing s 2 - 1) s 2 (omega arith) .inside)
+      | no l ↦ omega arith
+    ]

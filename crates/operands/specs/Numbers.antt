@@ -1,17 +1,16 @@
 -- A number that may be below 0, read at a place of a line, and a row of numbers as settings. Assumes nothing.
-use mathlib.Core.Path.{_≡_, refl, sym, ap, _∙_}
+use mathlib.Core.Path.{_≡_, refl, sym, _∙_}
 use mathlib.Core.List.{List, [], _∷_}
 use Prim.Native.Nat.{ℕ, zero, suc, _≤_}
-use native.Mathlib.Omega.{arith}
 use lib.Dec.{eqb}
 use lib.IntN.{ℤ, pos, negℤ}
-use lib.ListN.{length, getD, drop, length-drop}
+use lib.ListN.{length, getD, drop}
 use Rattle.laws.specs.Pick.{pick}
 use Rattle.laws.specs.Decimal.{Parsed, good, bad, numberAt}
 use Rattle.paper.specs.Answer.{same}
 use Rattle.settings.specs.declared.Settings.{Settings}
 use Rattle.text.specs.Scan.{TAB, expect}
-use Rattle.text.specs.ScanLaws.{bad-good}
+use Rattle.text.specs.ScanLaws.{bad-good, good-one}
 use Rattle.operands.specs.declared.Signed.{Signed}
 use Rattle.operands.specs.declared.Signed.the-variants as S
 
@@ -58,7 +57,6 @@ setWith row product =
     }
 
 -- what the reader answers: the value, and the bytes of s that follow it
-
 abbrev pub leadsSigned : List ℕ → Signed → Parsed ℤ
 leadsSigned s (S.Good v next) = good v (drop next s)
 leadsSigned s S.Bad = bad
@@ -80,11 +78,7 @@ pub signed-determined : (s : List ℕ) (at : ℕ) {a b : Signed} → ReadsSigned
 signed-determined s at {a} {b} p q = go a b (sym (p .reads) ∙ q .reads) (p .inside) (q .inside)
   where
     go : (a b : Signed) → leadsSigned s a ≡ leadsSigned s b → signedEnd a ≤ length s → signedEnd b ≤ length s → a ≡ b
-    go (S.Good v m) (S.Good w n) e h k =
-        let x : v ≡ w = cc in
-        let d : drop m s ≡ drop n s = cc in
-        let y : m ≡ n = omega (arith, ap length d, length-drop m s, length-drop n s) in
-        rw (x, y)
+    go (S.Good v m) (S.Good w n) e h k = let o = good-one s m n e h k in rw (o .0, o .1)
     go (S.Good v m) S.Bad e h k = bad-good (sym e)
     go S.Bad (S.Good w n) e h k = bad-good e
     go S.Bad S.Bad e h k = refl

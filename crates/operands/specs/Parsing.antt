@@ -7,7 +7,7 @@ use lib.Dec.{eqb}
 use lib.ListN.{length, getD, drop}
 use lib.Seq.{drop-cons}
 use Rattle.laws.specs.Pick.{pick, pick-if}
-use Rattle.laws.specs.Decimal.{Parsed, good, bad, numberAt}
+use Rattle.laws.specs.Decimal.{Parsed, good, bad}
 use Rattle.laws.specs.DecimalLaws.{number-only}
 use Rattle.text.specs.Scan.{onGood, expect, fieldAt, leads, Scans}
 use Rattle.text.specs.ScanLaws.{bad-good}
@@ -29,13 +29,10 @@ pub num : {s : List ℕ} {rule : Parsed ℕ} {r r' : Num} → Scans s rule r →
 num {s} y e = y .reads ∙ ap (leads s) e
 
 -- a number is at most the greatest that is read
-pub number-most : (most : ℕ) (l : List ℕ) {v : ℕ} {rest : List ℕ} → numberAt most l ≡ good v rest → v ≤ most
-number-most most l {v} {rest} e = number-only most l v rest e .1
-
 pub field-most : (most : ℕ) (l : List ℕ) {v : ℕ} {rest : List ℕ} → fieldAt most l ≡ good v rest → v ≤ most
 unfolding fieldAt expect pick
 field-most most [] e = bad-good e
-field-most most (x ∷ xs) {v} {rest} e = pick-if (λ (p : Parsed ℕ). p ≡ good v rest → v ≤ most) (eqb x 9) (λ t e. number-most most xs e) (λ t e. bad-good e) e
+field-most most (x ∷ xs) {v} {rest} e = pick-if (λ (p : Parsed ℕ). p ≡ good v rest → v ≤ most) (eqb x 9) (λ t e. number-only most xs v rest e .1) (λ t e. bad-good e) e
 
 pub from-byte : (s : List ℕ) (at : ℕ) → at < length s → drop at s ≡ getD s at 0 ∷ drop (at + 1) s
 from-byte s at h = rw (add-one, drop-cons s at 0)

@@ -71,13 +71,7 @@ pub fn set_of(row: [u32; 19], product: u32) -> Settings
 fn is_hex(b: u8) -> bool
     ensures { λ r. ⌜ r ≡ isHex b ⌝ }
 {
-    if text::is_digit(b) {
-        return true;
-    }
-    if b < 65 {
-        return false;
-    }
-    b <= 70
+    text::is_digit(b) | ((65 <= b) & (b <= 70))
 }
 
 // Whether the 8 bytes from `at` on are hexadecimal digits: all are looked at, which a compiler does at once.

@@ -1,6 +1,5 @@
 -- What a line was, from the contracts of the reader and of what acts, and what it adds. Assumes nothing.
 use mathlib.Core.Path.{_≡_, refl, sym, ap, _∙_, subst}
-use mathlib.Core.Bool.{false}
 use mathlib.Core.List.{List, [], _∷_}
 use Prim.Native.Nat.{ℕ, _≤_}
 use types.Run.{OneOf, miss}
@@ -17,14 +16,12 @@ use Rattle.controller.specs.declared.Fault.the-variants as F
 use Rattle.controller.specs.Sound.{Sound}
 use Rattle.controller.specs.Says.{saysTick, Ticks}
 use Rattle.controller.specs.Tick.{saysFault}
-use Rattle.series.specs.Events.{run}
 use Rattle.laws.specs.Decimal.{good}
 use Rattle.calls.specs.Call.{tick, callOf}
 use Rattle.calls.specs.Reads.{asCall, ReadsCall, read-call}
 use Rattle.calls.specs.declared.Call as read
-use Rattle.calls.proofs.Call.{the-type as call-type}
-use Rattle.acts.specs.Acts.{Ask, askOf, askBy, eventsIn, madeBy, saidAt, saidTo, lent, beside}
-use Rattle.acts.specs.Makes.{saysAct, Acts, unticked, others-whole, lent-read}
+use Rattle.acts.specs.Acts.{madeBy, saidTo}
+use Rattle.acts.specs.Makes.{saysAct, Acts}
 use Rattle.acts.specs.Script.{made-tick}
 use Rattle.acts.specs.declared.Acted.{Acted}
 use Rattle.acts.specs.declared.Answer as acts
@@ -52,7 +49,7 @@ fault-heard F.F21 = refl
 
 -- an answer that is neither a restart's nor that the line is no call
 abbrev others : List ℕ
-others = 0 ∷ 1 ∷ 2 ∷ 3 ∷ 5 ∷ 6 ∷ 7 ∷ 8 ∷ []
+others = 0 ∷ 1 ∷ 2 ∷ 3 ∷ 5 ∷ 6 ∷ 7 ∷ []
 
 pub other-answer : (a : acts.Answer) → OneOf others (tagOf answer-type a) → H.Other ≡ heardSaid (saysAct a)
 unfolding heardSaid saysAct
@@ -61,11 +58,10 @@ other-answer (A.Set a) h = refl
 other-answer (A.Reset a) h = refl
 other-answer (A.Counters n) h = refl
 other-answer (A.Restart a) h = absurd (miss others 4 tt h)
-other-answer (A.Request a) h = refl
-other-answer (A.Modbus a) h = refl
 other-answer (A.Why a) h = refl
+other-answer A.Frame h = refl
 other-answer A.Aside h = refl
-other-answer A.Unknown h = absurd (miss others 9 tt h)
+other-answer A.Unknown h = absurd (miss others 8 tt h)
 
 -- ---- a line before or after recording
 
@@ -94,20 +90,18 @@ pub record Heard-as (c : Controller) (l : List ℕ) (d : Controller) (h : Heard)
 
 -- a tick
 pub sighted-heard : {l : List ℕ} {c : Controller} {x : ℤ} {i : ℕ} {h : Heard} (r : Ticked) → callOf l ≡ good (tick x i) [] → SFits w32 x → Ticks c (toZ w32 (ofZ w32 x)) i r → h ≡ heardTick (saysTick (r .answer)) → Heard-as c l (r .next) h
-unfolding heardOf heardSaid saidTo saidAt asCall askBy askOf
+unfolding heardOf heardSaid saidTo asCall
 sighted-heard {c = c} {i = i} r call fits told e =
     let t = subst (λ (x : ℤ). Ticks c x i r) (toZ-ofZ fits) told in
     record { box = made-tick [] r t .next ∙ ap (madeBy c) (sym call); heard = e ∙ ap heardTick (t .says) ∙ ap (heardOf c) (sym call) }
 
 -- any other call
-module _ {l old new : List ℕ} {c : Controller} (room : 2048 ≤ length old) (short : length l ≤ 4095) where
-  pub other-heard : {reply left : List ℕ} {h : Heard} (call : read.Call) (r : Acted) → 64 ≤ length reply → OneOf unticked (tagOf call-type call) → ReadsCall l old new call
-      → Acts c (beside false (lent (length reply) (askBy (asCall new call)))) reply left r → Hears (r .answer) h → Heard-as c l (r .next) h
-  unfolding madeBy heardOf
-  other-heard {reply} call r enough k p a e =
-      let makes = others-whole new call k a .makes in
-      let asks = lent-read (length reply) new call (p .within) enough ∙ ap askBy (read-call p room short) in
-      record { box = makes .next ∙ ap (λ (ask : Ask). run c (eventsIn ask)) asks; heard = e .is ∙ ap heardSaid (makes .says ∙ ap (saidTo c) asks) }
+pub other-heard : {l old new : List ℕ} {c : Controller} {h : Heard} {call : read.Call} {r : Acted} → 2048 ≤ length old → length l ≤ 4095 → ReadsCall l old new call
+    → Acts c (asCall new call) r → Hears (r .answer) h → Heard-as c l (r .next) h
+unfolding heardOf
+other-heard {c = c} room short p a e =
+    let call = read-call p room short in
+    record { box = a .made .next ∙ ap (madeBy c) call; heard = e .is ∙ ap heardSaid (a .says ∙ ap (saidTo c) call) }
 
 -- and what it adds while recording
 module _ {c d : Controller} {l : List ℕ} {h : Heard} (k : Clock) (s : k .stage ≡ Recording) (e : Heard-as c l d h) where

@@ -2,7 +2,7 @@
 use mathlib.Core.Path.{_≡_, refl}
 use mathlib.Core.List.{List, [], _∷_}
 use Prim.Native.Nat.{ℕ}
-use Rattle.laws.specs.Decimal.{Parsed}
+use Rattle.laws.specs.Decimal.{Parsed, good, bad}
 use Rattle.paper.specs.Answer.{Answer, done, refused, fault}
 use Rattle.controller.specs.declared.Controller.{Controller}
 use Rattle.counters.specs.declared.Record.{Record}
@@ -11,10 +11,12 @@ use Rattle.controller.specs.Sound.{Sound}
 use Rattle.controller.specs.Keeps.{fresh-sound}
 use Rattle.counters.specs.Laws.{AllRecordable}
 use Rattle.controller.specs.Promises.{tick-recordable}
-use Rattle.series.specs.Events.{Event, tick, link, request, modbus, settings, reset, restart, run}
+use Rattle.series.specs.Events.{Event, eventOf, run}
 use Rattle.series.specs.Kept.{event-sound}
-use Rattle.calls.specs.Call.{Call, callOf}
-use Rattle.acts.specs.Acts.{Ask, event, counters, why, nothing, unknown, askBy, eventsIn, madeBy, saidAt, saidTo}
+use Rattle.calls.specs.Call.{Call, tick, request, modbus, order, item, bytes, callOf}
+use Rattle.calls.specs.declared.Order.{Order}
+use Rattle.calls.specs.declared.Order.the-variants as O
+use Rattle.acts.specs.Acts.{eventsIn, madeBy, saidOf, saidTo}
 use Rattle.clock.specs.Clock.{Runs}
 use Rattle.clock.specs.Marking.{fitsLine, Writable}
 use Rattle.clock.specs.Keeps.{recordable-writable, start-runs, first-runs, heard-runs, Uncounted, restarted, other}
@@ -25,17 +27,14 @@ use Rattle.recorder.specs.declared.Recorder.{Recorder}
 
 -- ---- the controller
 
-ask-sound : (c : Controller) (a : Ask) → Sound c → Sound (run c (eventsIn a))
-unfolding eventsIn run
-ask-sound c (event e) s = event-sound c e s
-ask-sound c counters s = s
-ask-sound c (why k) s = s
-ask-sound c nothing s = s
-ask-sound c unknown s = s
+run-sound : (c : Controller) (es : List Event) → Sound c → Sound (run c es)
+unfolding run
+run-sound c [] s = s
+run-sound c (e ∷ es) s = run-sound (eventOf c e) es (event-sound c e s)
 
 pub made-sound : (c : Controller) (p : Parsed Call) → Sound c → Sound (madeBy c p)
 unfolding madeBy
-made-sound c p s = ask-sound c (askBy p) s
+made-sound c p s = run-sound c (eventsIn p) s
 
 -- every line leaves a sound controller
 box-sound : (stage : Stage) (c : Controller) (l : List ℕ) → Sound c → Sound (boxBy stage c l)
@@ -70,28 +69,25 @@ restart-uncounted (done x) = restarted
 restart-uncounted (refused n vs) = other
 restart-uncounted (fault n vs) = other
 
-event-writable : (c : Controller) (e : Event) → Sound c → Writable (heardSaid (saidAt c e))
-unfolding heardSaid saidAt fitsLine
-event-writable c (tick x i) s = tick-writable (tickOf c x i .answer) (λ t e. tick-recordable c x i t s e)
-event-writable c (link on) s = refl
-event-writable c (request b reply) s = refl
-event-writable c (modbus b reply) s = refl
-event-writable c (settings set) s = refl
-event-writable c reset s = refl
-event-writable c (restart set count total) s = restart-writable _
-
-ask-writable : (c : Controller) (a : Ask) → Sound c → Writable (heardSaid (saidTo c a))
-unfolding heardSaid saidTo fitsLine
-ask-writable c (event e) s = event-writable c e s
-ask-writable c counters s = refl
-ask-writable c (why k) s = refl
-ask-writable c nothing s = refl
-ask-writable c unknown s = refl
+order-writable : (c : Controller) (o : Order) → Writable (heardSaid (saidOf c o))
+unfolding heardSaid saidOf fitsLine
+order-writable c (O.Link on) = refl
+order-writable c (O.Settings set) = refl
+order-writable c O.Reset = refl
+order-writable c O.Counters = refl
+order-writable c (O.Restart set count total) = restart-writable _
+order-writable c (O.Why k) = refl
 
 -- the D line of a dose that is heard is never refused
 pub heard-writable : (c : Controller) (p : Parsed Call) → Sound c → Writable (heardOf c p)
-unfolding heardOf
-heard-writable c p s = ask-writable c (askBy p) s
+unfolding heardOf heardSaid saidTo fitsLine
+heard-writable c (good (tick x i) rest) s = tick-writable (tickOf c x i .answer) (λ t e. tick-recordable c x i t s e)
+heard-writable c (good (request b room) rest) s = refl
+heard-writable c (good (modbus b room) rest) s = refl
+heard-writable c (good (order o) rest) s = order-writable c o
+heard-writable c (good (item i) rest) s = refl
+heard-writable c (good (bytes u b n) rest) s = refl
+heard-writable c bad s = refl
 
 -- ---- the clock
 

@@ -2,5 +2,4 @@ pub mod Recording
 pub mod Noting
 pub mod Keeps
 pub mod Feed
-pub mod Readable
 pub mod Cases

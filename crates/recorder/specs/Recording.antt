@@ -10,7 +10,7 @@ use Rattle.controller.specs.Calls.{freshOf}
 use Rattle.controller.specs.Sound.{Sound}
 use Rattle.lines.specs.Lines.{linesOf}
 use Rattle.calls.specs.Call.{Call, callOf}
-use Rattle.acts.specs.Acts.{Said, ticked, linked, taken, cleared, counted, restarted, replied, polled, explained, aside, unread, askBy, saidTo, madeBy}
+use Rattle.acts.specs.Acts.{Said, ticked, linked, taken, cleared, counted, restarted, explained, framed, aside, unread, saidTo, madeBy}
 use Rattle.clock.specs.Clock.{greatestHour, Note, note, firstOf, heardBy, Runs}
 use Rattle.clock.specs.Clock as clock
 use Rattle.clock.specs.declared.Heard.{Heard}
@@ -45,15 +45,14 @@ heardSaid (taken a) = Other
 heardSaid (cleared a) = Other
 heardSaid (counted n) = Other
 heardSaid (restarted a) = heardRestart a
-heardSaid (replied a) = Other
-heardSaid (polled a) = Other
 heardSaid (explained a) = Other
+heardSaid framed = Other
 heardSaid aside = Other
 -- a line that is no call may have been a tick, a restart or a set
 heardSaid unread = Lost
 
 unfoldable pub heardOf : Controller → Parsed Call → Heard
-heardOf c p = heardSaid (saidTo c (askBy p))
+heardOf c p = heardSaid (saidTo c p)
 
 -- ---- a line of the script, its LF left out
 

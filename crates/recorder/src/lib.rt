@@ -83,17 +83,10 @@ fn unheard(k: Clock, line: &[u8], out: &mut [u8]) -> Marked
     }
 }
 
-// Line after line, with buffers for the bytes of a line and for its reply.
-fn feed_with(
-    r: Recorder,
-    intake: Intake,
-    input: &[u8],
-    bytes: &mut [u8],
-    reply: &mut [u8],
-    out: &mut [u8],
-) -> Fed
+// Line after line, with a buffer for the bytes of a line.
+fn feed_with(r: Recorder, intake: Intake, input: &[u8], bytes: &mut [u8], out: &mut [u8]) -> Fed
     requires carries { ⌜ Carries r ⌝ }
-    requires room { ⌜ (2048 ≤ length (now bytes)) × (64 ≤ length (now reply)) ⌝ }
+    requires room { ⌜ 2048 ≤ length (now bytes) ⌝ }
     ensures { λ f. ⌜ Feeds r intake (now (input .entry)) (now (out .entry)) (now (out .exit)) f ⌝ }
 {
     let mut c = r.controller;
@@ -155,7 +148,7 @@ fn feed_with(
             };
         };
         let call = calls::read(&input[from..to], bytes);
-        let acted = acts::other(c, call, bytes, reply);
+        let acted = acts::other(c, call, bytes);
         c = acted.next;
         let answer = acted.answer;
         k = k.passed(by_answer(answer));
@@ -177,13 +170,6 @@ fn no_bytes() -> [u8; 2048]
     [0u8; 2048]
 }
 
-// Bytes for a reply that is not printed.
-fn no_reply() -> [u8; 64]
-    ensures { λ r. ⌜ r ≡ replicate 64 0 ⌝ }
-{
-    [0u8; 64]
-}
-
 impl Recorder {
     // Before the first line: a fresh controller.
     pub fn start() -> Recorder
@@ -202,6 +188,5 @@ pub fn feed(r: Recorder, intake: Intake, input: &[u8], out: &mut [u8]) -> Fed
     ensures { λ f. ⌜ Feeds r intake (now (input .entry)) (now (out .entry)) (now (out .exit)) f ⌝ }
 {
     let mut bytes = no_bytes();
-    let mut reply = no_reply();
-    feed_with(r, intake, input, &mut bytes, &mut reply, out)
+    feed_with(r, intake, input, &mut bytes, out)
 }

@@ -41,11 +41,9 @@ fn answer_lines(
                 intake: held,
             };
         };
-        answers::lend(call, spare);
-        let acted = acts::rest(c, call, bytes, spare);
-        let said = acted.answer;
-        c = acted.next;
-        len = answers::say(out, run.len, call, said, bytes, spare);
+        let answered = answers::answer(c, call, bytes, spare, out, run.len);
+        c = answered.controller;
+        len = answered.len;
     }
 }
 

@@ -8,7 +8,7 @@ use script::Sighted;
 ghost use Prim.Native.Nat.{_≤_};
 ghost use lib.ListN.{length};
 ghost use Rattle.controller.specs.Sound.{Sound};
-ghost use Rattle.runs.specs.Runs.{Ran};
+ghost use Rattle.runs.specs.Runs.{Reaches, Ran};
 
 // Why a run stops: at a call that is no tick and no line request, whose bytes stand at the start of the lent buffer, or for more input.
 pub enum Stop {
@@ -45,6 +45,49 @@ fn with_room(out: &[u8], len: usize) -> usize
     end
 }
 
+// How far ticks came: the controller, what is pending, and the end of the answers.
+struct Reached {
+    controller: Controller,
+    intake: Intake,
+    len: usize,
+}
+
+// Answers the ticks that stand next, behind the first `at` bytes of `out`.
+fn ticks(old: Controller, intake: Intake, input: &[u8], out: &mut [u8], at: usize) -> Reached
+    requires { ⌜ Sound old ⌝ }
+    ensures { λ r. ⌜ Reaches old intake (now (input .entry)) r ⌝ }
+{
+    let mut c = old;
+    let mut held = intake;
+    let mut len = with_room(out, at);
+    loop {
+        let sighted = script::tick_next(held, input);
+        let Sighted::Tick {
+            sample,
+            inputs,
+            next,
+        } = sighted
+        else {
+            return Reached {
+                controller: c,
+                intake: held,
+                len,
+            };
+        };
+        let have = held.have;
+        held = Intake {
+            at: next,
+            have,
+            long: false,
+        };
+        let ticked = c.tick(sample, inputs);
+        let said = ticked.answer;
+        c = ticked.next;
+        let end = boxed::say_tick(out, len, said);
+        len = with_room(out, end);
+    }
+}
+
 // Answers the whole lines of what is held, behind the first `at` bytes of `out`, up to one that is no tick and no line request.
 pub fn answer(
     old: Controller,
@@ -63,26 +106,11 @@ pub fn answer(
     let mut held = intake;
     let mut len = at;
     loop {
-        len = with_room(out, len);
-        let sighted = script::tick_next(held, input);
-        if let Sighted::Tick {
-            sample,
-            inputs,
-            next,
-        } = sighted {
-            let have = held.have;
-            held = Intake {
-                at: next,
-                have,
-                long: false,
-            };
-            let ticked = c.tick(sample, inputs);
-            let said = ticked.answer;
-            c = ticked.next;
-            len = boxed::say_tick(out, len, said);
-            continue;
-        }
-        let taken = held.next_line(input);
+        let reached = ticks(c, held, input, out, len);
+        c = reached.controller;
+        len = reached.len;
+        let waiting = reached.intake;
+        let taken = waiting.next_line(input);
         let next = taken.next;
         held = taken.intake;
         let Next::Line { from, to } = next else {

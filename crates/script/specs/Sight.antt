@@ -12,7 +12,7 @@ use Rattle.lines.specs.declared.Next.{Next}
 use Rattle.lines.specs.declared.Next.the-variants.{Line, More}
 use Rattle.lines.specs.Places.{partOf}
 use Rattle.lines.specs.Intake.{nextOf}
-use Rattle.calls.specs.Call.{Call, tick, link, settings, reset, counters, restart, request, modbus, why, writeFrame, readFrame, writeField, readField, writeLine, readLine, hour, hours, tickAt, callOf}
+use Rattle.calls.specs.Call.{Call, tick, request, modbus, order, item, bytes, tickAt, callOf}
 use Rattle.script.specs.declared.Sighted.{Sighted}
 use Rattle.script.specs.declared.Sighted.the-variants as S
 
@@ -25,22 +25,11 @@ pub data Seen : Type 0 where
 
 unfoldable pub ifTick : Call → Seen
 ifTick (tick x i) = seen x i
-ifTick (link on) = unseen
-ifTick (settings set) = unseen
-ifTick reset = unseen
-ifTick counters = unseen
-ifTick (restart set count total) = unseen
 ifTick (request s room) = unseen
 ifTick (modbus s room) = unseen
-ifTick (why k) = unseen
-ifTick (writeFrame s room) = unseen
-ifTick (readFrame s) = unseen
-ifTick (writeField w) = unseen
-ifTick (readField f) = unseen
-ifTick (writeLine l room) = unseen
-ifTick (readLine f s) = unseen
-ifTick (hour s h) = unseen
-ifTick (hours s room) = unseen
+ifTick (order o) = unseen
+ifTick (item i) = unseen
+ifTick (bytes u s n) = unseen
 
 unfoldable pub onlyTick : Parsed Call → Seen
 onlyTick (good call rest) = ifTick call

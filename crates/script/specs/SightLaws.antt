@@ -147,9 +147,9 @@ never-room : (most : ℕ) (call : List ℕ → ℕ → Call) → ((s : List ℕ)
 unfolding roomAt
 never-room most call h l = never-on _ _ (λ s rest. never-on _ _ (λ n rest'. never-good (call s n) (h s n) rest'))
 
-never-bytes : (call : List ℕ → Call) → ((s : List ℕ) → ifTick (call s) ≡ unseen) → (l : List ℕ) → Never (bytesCall call l)
+never-bytes : (call : List ℕ → ℕ → Call) → ((s : List ℕ) → ifTick (call s 0) ≡ unseen) → (l : List ℕ) → Never (bytesCall call l)
 unfolding bytesCall
-never-bytes call h l = never-on _ _ (λ s rest. never-good (call s) (h s) rest)
+never-bytes call h l = never-on _ _ (λ s rest. never-good (call s 0) (h s) rest)
 
 never-letter : (b : ℕ) (l : List ℕ) → eqb b 84 ≡ false → Never (callBy b l)
 unfolding callBy linkAt settingsAt restartAt whyAt writeFieldAt readFieldAt doseAt onAt ifTick onlyTick atEnd

@@ -4,8 +4,6 @@ use mathlib.Core.Bool.{false}
 use mathlib.Core.List.{List, [], _∷_}
 use Prim.Native.Nat.{ℕ, _+_, _≤_, _<_}
 use native.Mathlib.Omega.{arith}
-use types.Run.{OneOf, hit}
-use denote.Enum.Declared.{tagOf}
 use lib.Dec.{ltb}
 use lib.IntN.{ℤ}
 use lib.ListN.{length, take}
@@ -17,11 +15,10 @@ use Rattle.lines.specs.declared.Next.{Next}
 use Rattle.lines.specs.declared.Next.the-variants.{Line, More}
 use Rattle.lines.specs.Places.{endOf, partOf}
 use Rattle.lines.specs.Intake.{overlong, lineTo, nextOf, Behind, NextStands, next-steps}
-use Rattle.calls.specs.Call.{Call, tick, link, settings, reset, counters, restart, request, modbus, why, writeFrame, readFrame, writeField, readField, writeLine, readLine, hour, hours, callBy, atEnd, callOf}
+use Rattle.calls.specs.Call.{Call, tick, request, modbus, order, item, bytes, atEnd, callBy, callOf}
 use Rattle.calls.specs.declared.Call as read
 use Rattle.calls.specs.declared.Call.the-variants as C
-use Rattle.calls.proofs.Call.{the-type as call-type}
-use Rattle.calls.specs.Reads.{asCall}
+use Rattle.calls.specs.Reads.{asCall, Unticked}
 use Rattle.script.specs.Sight.{Seen, seen, unseen, ifTick, onlyTick, placed, handedTick, sightOf}
 use Rattle.script.specs.declared.Sighted.{Sighted}
 use Rattle.script.specs.declared.Sighted.the-variants as S
@@ -34,22 +31,11 @@ unseen-seen e = let z : _≡_ {A = ℕ} 0 1 = cc in let f : ⊥ = omega arith in
 if-tick : (call : Call) {x : ℤ} {k : ℕ} → ifTick call ≡ seen x k → call ≡ tick x k
 unfolding ifTick
 if-tick (tick x i) e = cc
-if-tick (link on) e = unseen-seen e
-if-tick (settings set) e = unseen-seen e
-if-tick reset e = unseen-seen e
-if-tick counters e = unseen-seen e
-if-tick (restart set count total) e = unseen-seen e
 if-tick (request s room) e = unseen-seen e
 if-tick (modbus s room) e = unseen-seen e
-if-tick (why k) e = unseen-seen e
-if-tick (writeFrame s room) e = unseen-seen e
-if-tick (readFrame s) e = unseen-seen e
-if-tick (writeField w) e = unseen-seen e
-if-tick (readField f) e = unseen-seen e
-if-tick (writeLine l room) e = unseen-seen e
-if-tick (readLine f s) e = unseen-seen e
-if-tick (hour s h) e = unseen-seen e
-if-tick (hours s room) e = unseen-seen e
+if-tick (order o) e = unseen-seen e
+if-tick (item i) e = unseen-seen e
+if-tick (bytes u s n) e = unseen-seen e
 
 ended-tick : (p : Parsed Call) {x : ℤ} {k : ℕ} → onlyTick (atEnd p) ≡ seen x k → atEnd p ≡ good (tick x k) []
 unfolding atEnd onlyTick
@@ -107,30 +93,15 @@ module _ (i : Intake) (input : List ℕ) where
 
 -- ---- no tick
 
--- every other call
-abbrev pub unticked : List ℕ
-unticked = 1 ∷ 2 ∷ 3 ∷ 4 ∷ 5 ∷ 6 ∷ 7 ∷ 8 ∷ 9 ∷ 10 ∷ 11 ∷ 12 ∷ 13 ∷ 14 ∷ 15 ∷ 16 ∷ 17 ∷ []
-
-untick : (bytes : List ℕ) (call : read.Call) → onlyTick (asCall bytes call) ≡ unseen → OneOf unticked (tagOf call-type call)
+untick : (s : List ℕ) (call : read.Call) → onlyTick (asCall s call) ≡ unseen → Unticked call
 unfolding onlyTick asCall ifTick
-untick bytes (C.Tick x i) e = unseen-seen (sym e)
-untick bytes (C.Link on) e = hit unticked 1 tt
-untick bytes (C.Settings set) e = hit unticked 2 tt
-untick bytes C.Reset e = hit unticked 3 tt
-untick bytes C.Counters e = hit unticked 4 tt
-untick bytes (C.Restart set count total) e = hit unticked 5 tt
-untick bytes (C.Request n room) e = hit unticked 6 tt
-untick bytes (C.Modbus n room) e = hit unticked 7 tt
-untick bytes (C.Why k) e = hit unticked 8 tt
-untick bytes (C.WriteFrame n room) e = hit unticked 9 tt
-untick bytes (C.ReadFrame n) e = hit unticked 10 tt
-untick bytes (C.WriteField w) e = hit unticked 11 tt
-untick bytes (C.ReadField f) e = hit unticked 12 tt
-untick bytes (C.WriteLine l room) e = hit unticked 13 tt
-untick bytes (C.ReadLine f n) e = hit unticked 14 tt
-untick bytes (C.Hour n h) e = hit unticked 15 tt
-untick bytes (C.Hours n room) e = hit unticked 16 tt
-untick bytes C.Unknown e = hit unticked 17 tt
+untick s (C.Tick x i) e = unseen-seen (sym e)
+untick s (C.Request n room) e = tt
+untick s (C.Modbus n room) e = tt
+untick s (C.Order o) e = tt
+untick s (C.Item i) e = tt
+untick s (C.Bytes u n k) e = tt
+untick s C.Unknown e = tt
 
 placed-none : (n : ℕ) (s : Seen) → placed n s ≡ S.Other → s ≡ unseen
 unfolding placed
@@ -138,8 +109,8 @@ placed-none n (seen y j) e = let z : _≡_ {A = ℕ} 0 1 = cc in let f : ⊥ = o
 placed-none n unseen e = refl
 
 pub no-tick : (i : Intake) (input : List ℕ) {from to : ℕ} → sightOf i input ≡ S.Other → nextOf i input .next ≡ Line from to
-    → (bytes : List ℕ) (call : read.Call) → asCall bytes call ≡ callOf (partOf from to input) → OneOf unticked (tagOf call-type call)
+    → (s : List ℕ) (call : read.Call) → asCall s call ≡ callOf (partOf from to input) → Unticked call
 unfolding sightOf handedTick
-no-tick i input {from} {to} e l bytes call a =
+no-tick i input {from} {to} e l s call a =
     let next = nextOf i input .intake .at in
-    untick bytes call (ap onlyTick a ∙ placed-none next (onlyTick (callOf (partOf from to input))) (sym (ap (handedTick input next) l) ∙ e))
+    untick s call (ap onlyTick a ∙ placed-none next (onlyTick (callOf (partOf from to input))) (sym (ap (handedTick input next) l) ∙ e))

@@ -2,8 +2,6 @@
 use lines::Intake;
 use operands::Signed;
 use text::Num;
-ghost use mathlib.Core.Path.{_≡_};
-ghost use Prim.Native.Nat.{min};
 ghost use Rattle.script.specs.Sight.{ReadsTick, Sights};
 
 // The next whole line, where it is a tick, and the place after its LF; or anything else.
@@ -18,13 +16,6 @@ pub enum Sighted {
 
 // A line has at most so many bytes, its LF counted.
 const LONGEST: usize = 4096;
-
-// The smaller of two.
-fn least(a: usize, b: usize) -> usize
-    ensures { λ r. ⌜ r ≡ min a b ⌝ }
-{
-    if a < b { a } else { b }
-}
 
 // T sample inputs and LF, at a place.
 fn tick_at(s: &[u8], at: usize) -> Sighted
@@ -53,7 +44,7 @@ fn tick_at(s: &[u8], at: usize) -> Sighted
 pub fn tick_next(intake: Intake, input: &[u8]) -> Sighted
     ensures { λ r. ⌜ Sights intake (now (input .entry)) r ⌝ }
 {
-    let have = least(intake.have, input.len());
+    let have = text::least(intake.have, input.len());
     let sighted = tick_at(&input[..have], intake.at);
     let Sighted::Tick {
         sample: _,

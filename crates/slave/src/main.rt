@@ -11,7 +11,8 @@ ghost use Prim.Native.Nat.{_≤_};
 ghost use lib.ListN.{length};
 ghost use Rattle.controller.specs.Sound.{Sound};
 ghost use Rattle.calls.specs.Call.{callOf};
-ghost use Rattle.acts.specs.Script.{Made, Brings};
+ghost use Rattle.acts.specs.Makes.{Made};
+ghost use Rattle.acts.specs.Script.{Brings};
 ghost use Rattle.slave.specs.Serves.{lenOf, Replies, Serves};
 
 // The box behind the lines of a block, what is pending, and whether the empty line has come.
@@ -31,10 +32,10 @@ struct Replied {
 const MANY: u64 = 9223372036854775808;
 
 // What a line makes of the box.
-fn made(c: Controller, line: &[u8], bytes: &mut [u8], spare: &mut [u8]) -> Controller
+fn made(c: Controller, line: &[u8], bytes: &mut [u8]) -> Controller
     requires sound { ⌜ Sound c ⌝ }
     requires line { ⌜ length (now line) ≤ 4095 ⌝ }
-    requires room { ⌜ (2048 ≤ length (now bytes)) × (64 ≤ length (now spare)) ⌝ }
+    requires room { ⌜ 2048 ≤ length (now bytes) ⌝ }
     ensures { λ r. ⌜ Made c (callOf (now (line .entry))) r ⌝ }
 {
     let call = calls::read(line, bytes);
@@ -42,20 +43,14 @@ fn made(c: Controller, line: &[u8], bytes: &mut [u8], spare: &mut [u8]) -> Contr
         let ticked = c.tick(sample, inputs);
         return ticked.next;
     }
-    let acted = acts::other(c, call, bytes, spare);
+    let acted = acts::other(c, call, bytes);
     acted.next
 }
 
 // Makes the calls of the whole lines of what is held, up to the empty one.
-fn bring(
-    old: Controller,
-    intake: Intake,
-    input: &[u8],
-    bytes: &mut [u8],
-    spare: &mut [u8],
-) -> Brought
+fn bring(old: Controller, intake: Intake, input: &[u8], bytes: &mut [u8]) -> Brought
     requires sound { ⌜ Sound old ⌝ }
-    requires room { ⌜ (2048 ≤ length (now bytes)) × (64 ≤ length (now spare)) ⌝ }
+    requires room { ⌜ 2048 ≤ length (now bytes) ⌝ }
     ensures { λ r. ⌜ Brings old intake (now (input .entry)) (r .controller) (r .intake) ⌝ }
 {
     let mut c = old;
@@ -73,7 +68,7 @@ fn bring(
                 open: false,
             };
         };
-        c = made(c, &input[from..to], bytes, spare);
+        c = made(c, &input[from..to], bytes);
         if (to == start) & !long {
             return Brought {
                 controller: c,
@@ -89,7 +84,6 @@ fn set_up(input: &mut [u8]) -> Brought
     ensures { λ r. ⌜ Sound (r .controller) ⌝ }
 {
     let mut bytes = io::buffer();
-    let mut spare = io::buffer();
     let mut brought = Brought {
         controller: Controller::fresh(),
         intake: Intake::start(),
@@ -102,7 +96,7 @@ fn set_up(input: &mut [u8]) -> Brought
             return brought;
         }
         let intake = refilled.intake;
-        brought = bring(brought.controller, intake, input, &mut bytes, &mut spare);
+        brought = bring(brought.controller, intake, input, &mut bytes);
         if brought.open {
             return brought;
         }

@@ -2,7 +2,7 @@
 use mathlib.Core.Path.{_≡_}
 use mathlib.Core.Bool.{Bool}
 use mathlib.Core.List.{List, [], _∷_}
-use Prim.Native.Nat.{ℕ, _≤_}
+use Prim.Native.Nat.{ℕ, _≤_, min}
 use lib.Dec.{eqb}
 use lib.ListN.{length, getD, drop}
 use Rattle.laws.specs.Pick.{pick}
@@ -46,6 +46,9 @@ pub record Scans (s : List ℕ) (rule : Parsed ℕ) (r : Num) : Type 0 where
   pub inside : placeAfter r ≤ length s
 
 -- what each call's result has to meet
+abbrev pub IsLeast : ℕ → ℕ → ℕ → Type 0
+IsLeast a b r = r ≡ min a b
+
 abbrev pub StandsAt : List ℕ → ℕ → ℕ → Type 0
 StandsAt s at r = r ≡ getD s at 0
 

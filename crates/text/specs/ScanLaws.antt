@@ -12,7 +12,7 @@ use borrow.Author.Tests.{eq-eqb, ne-eqb}
 use Rattle.laws.specs.Pick.{pick-t, pick-f}
 use Rattle.laws.specs.Decimal.{Parsed, good, bad}
 use Rattle.paper.specs.Answer.{same}
-use Rattle.text.specs.Scan.{expect, leads, placeAfter, Scans, StandsAt, TellsDigit, ReadsNumber, ReadsField}
+use Rattle.text.specs.Scan.{expect, leads, placeAfter, Scans, IsLeast, StandsAt, TellsDigit, ReadsNumber, ReadsField}
 use Rattle.text.specs.declared.Num.{Num}
 use Rattle.text.specs.declared.Num.the-variants.{Good, Bad}
 
@@ -46,7 +46,14 @@ expect-miss s at b next n =
 pub bad-good : {X Y : Type 0} {x : X} {rest : List ℕ} → bad ≡ good x rest → Y
 bad-good e = let z : _≡_ {A = ℕ} 0 1 = cc in let f : ⊥ = omega arith in absurd f
 
+-- the bytes that follow tell the value and the place after it
+pub good-one : {X : Type 0} {v w : X} (s : List ℕ) (m n : ℕ) → good v (drop m s) ≡ good w (drop n s) → m ≤ length s → n ≤ length s → (v ≡ w) × (m ≡ n)
+good-one s m n e h k = let d : drop m s ≡ drop n s = cc in (cc, omega (arith, ap length d, length-drop m s, length-drop n s))
+
 -- two results that both meet a call's contract are equal
+pub least-determined : (m n : ℕ) {a b : ℕ} → IsLeast m n a → IsLeast m n b → a ≡ b
+least-determined m n p q = same p q
+
 pub byte-determined : (s : List ℕ) (at : ℕ) (a b : ℕ) → StandsAt s at a → StandsAt s at b → a ≡ b
 byte-determined s at a b p q = same p q
 
@@ -57,11 +64,7 @@ pub scans-determined : {s : List ℕ} {rule : Parsed ℕ} {a b : Num} → Scans 
 scans-determined {s} {rule} {a} {b} p q = go a b (sym (p .reads) ∙ q .reads) (p .inside) (q .inside)
   where
     go : (a b : Num) → leads s a ≡ leads s b → placeAfter a ≤ length s → placeAfter b ≤ length s → a ≡ b
-    go (Good v m) (Good w n) e h k =
-        let x : v ≡ w = cc in
-        let d : drop m s ≡ drop n s = cc in
-        let y : m ≡ n = omega (arith, ap length d, length-drop m s, length-drop n s) in
-        rw (x, y)
+    go (Good v m) (Good w n) e h k = let o = good-one s m n e h k in rw (o .0, o .1)
     go (Good v m) Bad e h k = bad-good (sym e)
     go Bad (Good w n) e h k = bad-good e
     go Bad Bad e h k = refl

@@ -6,7 +6,7 @@ ghost use lib.ListN.{length};
 ghost use lib.Seq.{sets};
 ghost use Rattle.laws.specs.Decimal.{glyph, decimal, hexOf};
 ghost use Rattle.text.specs.Put.{CountsDigits, PutsDecimal, PutsHex, PutsByte};
-ghost use Rattle.text.specs.Scan.{StandsAt, TellsDigit, ReadsNumber, ReadsField};
+ghost use Rattle.text.specs.Scan.{IsLeast, StandsAt, TellsDigit, ReadsNumber, ReadsField};
 
 // A number read at a place: its value and the place after it, or none.
 pub enum Num {
@@ -27,6 +27,13 @@ fn has_room(len: usize, at: usize, k: usize) -> bool
         return false;
     }
     k <= len - at
+}
+
+// The smaller of two.
+pub fn least(a: usize, b: usize) -> usize
+    ensures { λ r. ⌜ IsLeast a b r ⌝ }
+{
+    if a < b { a } else { b }
 }
 
 // How many decimal digits n has.

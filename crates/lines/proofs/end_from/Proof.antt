@@ -13,17 +13,12 @@ Inv-loop block at i₀ i = endOf block i ≡ endOf block at
 abbrev μ-loop : tie.MeasureT-loop
 μ-loop block at i₀ i = length block - i
 
-returns : tie.Need-returns Inv-loop μ-loop
-returns c = end-here _ _ (c .before .before .loop-test .taken) (c .if1 .taken) ∙ c .before .before .before .loop .inv
-
-loop-again : tie.Need-loop-again Inv-loop μ-loop
-loop-again c = end-on _ _ (c .before .before .loop-test .taken) (c .if1 .left) ∙ c .before .before .before .loop .inv
-
-returns-2 : tie.Need-returns-2 Inv-loop μ-loop
-returns-2 c = end-past _ _ (c .loop-test .left) ∙ c .before .loop .inv
-
 pub end-from-spec : {M : Type 1} → statement M
 end-from-spec =
     tie.close
     (tie.spec
-    Inv-loop μ-loop (λ c. refl) (λ c. search needs) returns (λ c. search needs) (λ c. search needs) loop-again returns-2)
+    Inv-loop μ-loop (λ c. refl) (λ c. search needs)
+    (λ c. end-here _ _ (c .before .before .loop-test .taken) (c .if1 .taken) ∙ c .before .before .before .loop .inv)
+    (λ c. search needs) (λ c. search needs)
+    (λ c. end-on _ _ (c .before .before .loop-test .taken) (c .if1 .left) ∙ c .before .before .before .loop .inv)
+    (λ c. end-past _ _ (c .loop-test .left) ∙ c .before .loop .inv))

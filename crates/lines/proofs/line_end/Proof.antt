@@ -14,19 +14,14 @@ Inv-loop block at i₀ i = endOf block i ≡ endOf block at
 abbrev μ-loop : tie.MeasureT-loop
 μ-loop block at i₀ i = length block - i
 
-returns-2 : tie.Need-returns-2 Inv-loop μ-loop
-returns-2 c = c .end-near .ensures ∙ c .before .before .before .before .before .loop .inv
-
-loop-again : tie.Need-loop-again Inv-loop μ-loop
-loop-again c = c .before .has-lf .ensures (c .if2 .left) ∙ c .before .before .before .before .loop .inv
-
-returns-3 : tie.Need-returns-3 Inv-loop μ-loop
-returns-3 c = end-past _ _ (c .loop-test .left) ∙ c .before .loop .inv
-
 pub line-end-spec : {M : Type 1} → statement M
 line-end-spec =
     tie.close
     (tie.spec
     Inv-loop μ-loop (λ c. refl) (λ c. search needs) (λ c κs. search needs)
     (λ c. c .end-from .ensures ∙ c .before .before .before .loop .inv)
-    (λ c κs. omega arith) (λ c κs. omega arith) returns-2 (λ c. omega arith) (λ c. omega arith) loop-again returns-3)
+    (λ c κs. omega arith) (λ c κs. omega arith)
+    (λ c. c .end-near .ensures ∙ c .before .before .before .before .before .loop .inv)
+    (λ c. omega arith) (λ c. omega arith)
+    (λ c. c .before .has-lf .ensures (c .if2 .left) ∙ c .before .before .before .before .loop .inv)
+    (λ c. end-past _ _ (c .loop-test .left) ∙ c .before .loop .inv))

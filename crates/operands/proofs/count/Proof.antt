@@ -13,16 +13,12 @@ Inv-loop s p₀ n₀ p n = (n ≤ p) × (p ≤ length s + 2) × (n + standing s 
 abbrev μ-loop : tie.MeasureT-loop
 μ-loop s p₀ n₀ p n = length s + 2 - p
 
-loop-again : tie.Need-loop-again Inv-loop μ-loop
-loop-again c =
-    let inv = c .before .before .before .loop .inv in
-    (omega arith, omega arith, omega (arith, inv .2, c .before .all-hex .ensures (not-false _ (c .if1 .left))))
-
 pub count-spec : {M : Type 1} → statement M
 count-spec =
     tie.close
     (tie.spec
     Inv-loop μ-loop (λ c. (omega arith, omega arith, omega arith))
     (λ c. omega arith) (λ c κs. omega arith) (λ c κs. c .before .before .before .loop .inv) (λ c. c .count-from .ensures)
-    (λ c. omega arith) (λ c. omega arith) (λ c. omega arith) loop-again
+    (λ c. omega arith) (λ c. omega arith) (λ c. omega arith)
+    (λ c. (omega arith, omega arith, omega (arith, c .before .before .before .loop .inv .2, c .before .all-hex .ensures (not-false _ (c .if1 .left)))))
     (λ c κs. c .before .loop .inv) (λ c. c .count-from2 .ensures))

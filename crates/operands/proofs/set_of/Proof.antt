@@ -4,15 +4,12 @@ use borrow.Author.Needs.{needs}
 use Rattle.operands.proofs.set_of.Statement.{statement}
 use Rattle.operands.proofs.set_of.Tie as tie
 
-returns : tie.Need-returns
-unfolding setWith
-returns c = refl
-
 pub set-of-spec : {M : Type 1} → statement M
+unfolding setWith
 set-of-spec =
     tie.close
     (tie.spec
     (λ c. search needs) (λ c. search needs) (λ c. search needs) (λ c. search needs) (λ c. search needs)
     (λ c. search needs) (λ c. search needs) (λ c. search needs) (λ c. search needs) (λ c. search needs)
     (λ c. search needs) (λ c. search needs) (λ c. search needs) (λ c. search needs) (λ c. search needs)
-    (λ c. search needs) (λ c. search needs) returns)
+    (λ c. search needs) (λ c. search needs) (λ c. refl))

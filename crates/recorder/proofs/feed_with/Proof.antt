@@ -22,19 +22,18 @@ use Rattle.recorder.proofs.feed_with.Statement.{statement}
 use Rattle.recorder.proofs.feed_with.Tie as tie
 
 abbrev Inv-loop : tie.InvT-loop
-Inv-loop input bytes₀ reply₀ out₀ c₀ k₀ at₀ len₀ bytes reply out c k at len =
-    Feeding (with c₀ k₀) at₀ input out₀ out (with c k) at len × (length bytes ≡ length bytes₀) × (length reply ≡ length reply₀)
+Inv-loop input bytes₀ out₀ c₀ k₀ at₀ len₀ bytes out c k at len = Feeding (with c₀ k₀) at₀ input out₀ out (with c k) at len × (length bytes ≡ length bytes₀)
 
 abbrev μ-loop : tie.MeasureT-loop
-μ-loop input bytes₀ reply₀ out₀ c₀ k₀ at₀ len₀ bytes reply out c k at len = length input - at .at
+μ-loop input bytes₀ out₀ c₀ k₀ at₀ len₀ bytes out c k at len = length input - at .at
 
 loop-holds : tie.Need-loop-holds Inv-loop μ-loop
-loop-holds c = (feeding-none (c .before .before .before .before .before .before .args .r) (c .before .before .before .before .before .before .args .intake) (c .before .before .before .before .before .before .pre .0), refl, refl)
+loop-holds c = (feeding-none (c .before .before .before .before .before .args .r) (c .before .before .before .before .before .args .intake) (c .before .before .before .before .before .pre .0), refl)
 
 -- ---- a line before or after recording
 
 -- it lies in the buffer
-lies-unheard : (c : tie.After-next Inv-loop μ-loop) → Behind (c .before .before .before .before .before .before .loop .at) (now (c .before .before .before .before .before .before .before .before .before .before .before .before .before .args .input)) (c .next .given .0 .0) (c .next .given .0 .1 .0) (c .before .before .before .next-line .result .intake)
+lies-unheard : (c : tie.After-next Inv-loop μ-loop) → Behind (c .before .before .before .before .before .before .loop .at) (now (c .before .before .before .before .before .before .before .before .before .before .before .before .args .input)) (c .next .given .0 .0) (c .next .given .0 .1 .0) (c .before .before .before .next-line .result .intake)
 lies-unheard c = line-behind _ _ (c .before .before .before .next-line .result) (c .before .before .before .next-line .ensures) (c .next .given .1)
 
 returns : tie.Need-returns Inv-loop μ-loop
@@ -50,7 +49,7 @@ add-len c =
     let l = c .before .before .before .before .before .before .before .before .before .before .before .before .before .before .loop in
     let w = l .inv .0 in
     let m = c .before .before .before .before .unheard in
-    omega (arith, written (m .ensures (l .c)) (m .kept .1 .1 .0), part-length (l .out) (l .len), w .room, w .long, c .before .before .before .before .before .before .before .before .before .before .before .before .before .before .before .before .before .before .before .before .before .good)
+    omega (arith, written (m .ensures (l .c)) (m .kept .1 .1 .0), part-length (l .out) (l .len), w .room, w .long, c .before .before .before .before .before .before .before .before .before .before .before .before .before .before .before .before .before .before .before .before .good)
 
 loop-again : tie.Need-loop-again Inv-loop μ-loop
 unfolding partOf
@@ -62,12 +61,11 @@ loop-again c =
       feeding-line w (t .result) (t .ensures) (c .before .before .before .before .before .before .before .before .before .before .before .before .before .loop-test .taken) (c .before .before .before .before .before .before .before .before .next .given .1)
           (notes-part (omega (arith, w .room, w .long)) (unheard-box (l .c) _ (unheard _ (c .before .before .before .before .before .before .before .before .before .before .before .before .match .keys2))) (m .result) (m .kept .1 .1 .0) (m .ensures (l .c))),
       l .inv .1,
-      l .inv .2,
     )
 
 -- ---- a tick
 
-sight : (c : tie.After-known-told2 Inv-loop μ-loop) → sightOf (c .before .before .before .before .before .before .before .loop .at) (now (c .before .before .before .before .before .before .before .before .before .before .before .before .before .before .args .input)) ≡ S.Tick (c .before .sighted .given .0 .0) (c .before .sighted .given .0 .1 .0) (c .before .sighted .given .0 .1 .1 .0)
+sight : (c : tie.After-known-told2 Inv-loop μ-loop) → sightOf (c .before .before .before .before .before .before .before .loop .at) (now (c .before .before .before .before .before .before .before .before .before .before .before .before .before .args .input)) ≡ S.Tick (c .before .sighted .given .0 .0) (c .before .sighted .given .0 .1 .0) (c .before .sighted .given .0 .1 .1 .0)
 sight c = sym (c .before .before .before .tick-next .ensures) ∙ c .before .sighted .given .1
 
 sample-fits : (c : tie.After-known-told2 Inv-loop μ-loop) → SFits w32 (c .before .sighted .given .0 .0)
@@ -78,11 +76,11 @@ add-len-2 c =
     let l = c .before .before .before .before .before .before .before .before .before .before .before .before .before .before .before .before .loop in
     let w = l .inv .0 in
     let m = c .before .before .before .before .heard in
-    omega (arith, written (m .ensures .writes) (m .kept .1 .1 .0), part-length (l .out) (l .len), w .room, w .long, c .before .before .before .before .before .before .before .before .before .before .before .before .before .before .before .before .before .before .before .before .before .before .before .good)
+    omega (arith, written (m .ensures .writes) (m .kept .1 .1 .0), part-length (l .out) (l .len), w .room, w .long, c .before .before .before .before .before .before .before .before .before .before .before .before .before .before .before .before .before .before .before .before .before .before .good)
 
 loop-again-2 : tie.Need-loop-again-2 Inv-loop μ-loop
 loop-again-2 c =
-    let at = c .before .before .before .before .before .before .before .before .before in
+    let at = (c .before .before .before .before .before .before .before .before .before) in
     let l = c .before .before .before .before .before .before .before .before .before .before .before .before .before .before .before .before .loop in
     let w = l .inv .0 in
     let room = c .before .before .before .before .before .before .before .before .before .before .before .before .before .before .before .loop-test .taken in
@@ -93,35 +91,47 @@ loop-again-2 c =
           (notes-part (omega (arith, w .room, w .long)) (recorded-box (l .k) stage heard) (m .result) (m .kept .1 .1 .0)
           (ticked-writes (l .k) stage heard (w .carries .sound) (omega (arith, part-length (l .out) (l .len), room)) (m .ensures))),
       l .inv .1,
-      l .inv .2,
     )
 
 -- ---- any other line
 
-lies : (c : tie.After-next2 Inv-loop μ-loop) → Behind (c .before .before .before .before .before .before .before .before .before .before .loop .at) (now (c .before .before .before .before .before .before .before .before .before .before .before .before .before .before .before .before .before .args .input)) (c .next2 .given .0 .0) (c .next2 .given .0 .1 .0) (c .before .before .before .next-line2 .result .intake)
+lies : (c : tie.After-next2 Inv-loop μ-loop) → Behind (c .before .before .before .before .before .before .before .before .before .before .loop .at) (now (c .before .before .before .before .before .before .before .before .before .before .before .before .before .before .before .before .args .input)) (c .next2 .given .0 .0) (c .next2 .given .0 .1 .0) (c .before .before .before .next-line2 .result .intake)
 lies c = line-behind _ _ (c .before .before .before .next-line2 .result) (c .before .before .before .next-line2 .ensures) (c .next2 .given .1)
 
 returns-2 : tie.Need-returns-2 Inv-loop μ-loop
 returns-2 c = feeding-more (c .before .before .before .before .before .before .before .before .before .before .loop .inv .0) (c .before .before .before .next-line2 .result) (c .before .before .before .next-line2 .ensures) (c .before .before .before .before .before .before .before .before .before .loop-test .taken) (c .enum-told4 .given .1)
 
+-- is no tick
+other-requires : tie.Need-other-requires Inv-loop μ-loop
+unfolding partOf
+other-requires c κs =
+    let l = c .before .before .before .before .before .before .before .before .before .before .before .before .before .before .before .before .before .loop in
+    let t = c .before .before .before .before .before .before .before .before .before .before .next-line2 in
+    let line = c .before .before .before .before .before .before .before .next2 .given .1 in
+    let read = c .before .before .before .read in
+    let room : 2048 ≤ length (l .bytes) = omega (arith, l .inv .1, c .before .before .before .before .before .before .before .before .before .before .before .before .before .before .before .before .before .before .before .before .before .before .before .pre .1) in (
+      l .inv .0 .carries .sound,
+      (
+        no-tick _ _ (sym (c .before .before .before .before .before .before .before .before .before .before .before .before .before .tick-next .ensures) ∙ c .before .before .before .before .before .before .before .before .before .before .before .enum-told3 .given .1) (ap (λ (x : Taken). x .next) (sym (t .ensures)) ∙ line) _ (read .result) (read-call (read .ensures) room (line-short _ _ (t .result) (t .ensures) line)),
+        (read .ensures .within, omega (arith, room, read .kept .1 .0)),
+      ),
+    )
+
 loop-again-3 : tie.Need-loop-again-3 Inv-loop μ-loop
 unfolding partOf
 loop-again-3 c =
-    let pre = c .before .before .before .before .before .before .before .before .before .before .before .before .before .before .before .before .before .before .before .before .before .before .before .before .before .before .before .before .before .before .before .pre in
-    let l = c .before .before .before .before .before .before .before .before .before .before .before .before .before .before .before .before .before .before .before .before .before .before .before .before .loop in
+    let l = c .before .before .before .before .before .before .before .before .before .before .before .before .before .before .before .before .before .before .before .before .before .loop in
     let w = l .inv .0 in
-    let t = c .before .before .before .before .before .before .before .before .before .before .before .before .before .before .before .before .before .next-line2 in
-    let line = c .before .before .before .before .before .before .before .before .before .before .before .before .before .before .next2 .given .1 in
-    let stage = c .before .before .before .before .before .before .before .before .before .before .before .before .before .before .before .before .before .before .before .before .before .enum-told .given .1 in
-    let read = c .before .before .before .before .before .before .before .before .before .before .read in
-    let made = c .before .before .before .before .before .other in
+    let t = c .before .before .before .before .before .before .before .before .before .before .before .before .before .before .next-line2 in
+    let line = c .before .before .before .before .before .before .before .before .before .before .before .next2 .given .1 in
+    let stage = c .before .before .before .before .before .before .before .before .before .before .before .before .before .before .before .before .before .before .enum-told .given .1 in
+    let read = c .before .before .before .before .before .before .before .read in
+    let made = c .before .before .before .other in
     let answer = c .before .by-answer .ensures in
-    let other = no-tick _ _ (sym (c .before .before .before .before .before .before .before .before .before .before .before .before .before .before .before .before .before .before .before .before .tick-next .ensures) ∙ c .before .before .before .before .before .before .before .before .before .before .before .before .before .before .before .before .before .before .enum-told3 .given .1) (ap (λ (x : Taken). x .next) (sym (t .ensures)) ∙ line) _ (read .result) (read-call (read .ensures) (omega (arith, l .inv .1, pre .1 .0)) (line-short _ _ (t .result) (t .ensures) line)) in
-    let heard = other-heard (omega (arith, l .inv .1, pre .1 .0)) (line-short _ _ (t .result) (t .ensures) line) (read .result) (made .result) (omega (arith, l .inv .2, pre .1 .1)) other (read .ensures) (made .ensures) answer in (
-      feeding-line w (t .result) (t .ensures) (c .before .before .before .before .before .before .before .before .before .before .before .before .before .before .before .before .before .before .before .before .before .before .before .loop-test .taken) line
+    let heard = other-heard (omega (arith, l .inv .1, c .before .before .before .before .before .before .before .before .before .before .before .before .before .before .before .before .before .before .before .before .before .before .before .before .before .before .before .pre .1)) (line-short _ _ (t .result) (t .ensures) line) (read .ensures) (made .ensures) answer in (
+      feeding-line w (t .result) (t .ensures) (c .before .before .before .before .before .before .before .before .before .before .before .before .before .before .before .before .before .before .before .before .loop-test .taken) line
           (notes-none (omega (arith, w .room, w .long)) (recorded-box (l .k) stage heard) (passed-note (l .k) stage heard answer (c .passed .ensures .next))),
       omega (arith, l .inv .1, read .kept .1 .0),
-      omega (arith, l .inv .2, made .kept .1 .1 .1 .0),
     )
 
 returns-3 : tie.Need-returns-3 Inv-loop μ-loop
@@ -131,17 +141,17 @@ pub feed-with-spec : {M : Type 1} → statement M
 feed-with-spec =
     tie.close
     (tie.spec
-    Inv-loop μ-loop loop-holds (λ c. search needs) (λ c. search needs) (λ c κs. search needs) (λ c. search needs) (λ c. search needs)
-    (λ c. search needs) (λ c. search needs) (λ c. search needs) returns
+    Inv-loop μ-loop loop-holds (λ c. search needs) (λ c. c .match .keys1) (λ c κs. tt) (λ c. c .match2 .keys1) (λ c. c .match2 .keys2)
+    (λ c. search needs) (λ c. search needs) returns
     (λ c. lies-unheard (c .before) .order) (λ c. lies-unheard (c .before) .order) (λ c. let b = lies-unheard (c .before) in omega (arith, b .inside))
     (λ c. search needs) (λ c. search needs) (λ c. search needs) unheard-requires add-len
     (λ c. let b = lies-unheard (c .before .before .before .before .before .before .before .before) in omega (arith, b .inside, b .place, b .ahead)) loop-again
-    (λ c κs. search needs) (λ c. search needs) (λ c κs. c .before .before .before .before .before .before .before .loop .inv .0 .carries .sound) (λ c κs. search needs)
+    (λ c κs. tt) (λ c. c .match3 .keys1) (λ c κs. c .before .before .before .before .before .before .before .loop .inv .0 .carries .sound) (λ c κs. tt)
     (λ c. let w = c .before .before .before .before .before .before .before .before .before .before .loop .inv .0 in omega (arith, w .room, w .long)) (λ c. let w = c .before .before .before .before .before .before .before .before .before .before .loop .inv .0 in omega (arith, w .room, w .long)) (λ c. search needs)
     (λ c κs. c .before .before .before .before .before .before .before .before .before .before .before .loop .inv .0 .carries .runs) add-len-2
     (λ c. let less = tick-ahead _ _ (sight (c .before .before .before .before .before .before .before .before .before)) in omega (arith, less)) loop-again-2
-    (λ c. search needs) (λ c κs. search needs) (λ c. search needs) (λ c. search needs) (λ c. search needs) (λ c. search needs) (λ c. search needs) returns-2
-    (λ c. lies (c .before) .order) (λ c. lies (c .before) .order) (λ c. let b = lies (c .before) in omega (arith, b .inside)) (λ c κs. search needs)
-    (λ c κs. c .before .before .before .before .before .before .before .before .before .before .before .before .before .before .before .before .before .before .loop .inv .0 .carries .sound) (λ c κs. search needs) (λ c κs. search needs)
-    (λ c. let b = lies (c .before .before .before .before .before .before .before .before .before .before .before .before .before .before) in omega (arith, b .inside, b .place, b .ahead)) loop-again-3
-    (λ c. search needs) (λ c. search needs) (λ c. search needs) returns-3)
+    (λ c. c .match3 .keys2) (λ c κs. tt) (λ c. c .match4 .keys1) (λ c. c .match4 .keys2) (λ c. search needs) (λ c. search needs) returns-2
+    (λ c. lies (c .before) .order) (λ c. lies (c .before) .order) (λ c. let b = lies (c .before) in omega (arith, b .inside)) (λ c κs. tt)
+    other-requires (λ c κs. tt) (λ c κs. tt)
+    (λ c. let b = lies (c .before .before .before .before .before .before .before .before .before .before .before) in omega (arith, b .inside, b .place, b .ahead)) loop-again-3
+    (λ c. search needs) (λ c. search needs) returns-3)

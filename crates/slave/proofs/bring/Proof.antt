@@ -10,29 +10,29 @@ use Rattle.slave.proofs.bring.Statement.{statement}
 use Rattle.slave.proofs.bring.Tie as tie
 
 abbrev Inv-loop : tie.InvT-loop
-Inv-loop input bytes₀ spare₀ c₀ held₀ bytes spare c held = Brings c₀ held₀ input c held × (length bytes ≡ length bytes₀) × (length spare ≡ length spare₀)
+Inv-loop input bytes₀ c₀ held₀ bytes c held = Brings c₀ held₀ input c held × (length bytes ≡ length bytes₀)
 
 abbrev μ-loop : tie.MeasureT-loop
-μ-loop input bytes₀ spare₀ c₀ held₀ bytes spare c held = length input - held .at
+μ-loop input bytes₀ c₀ held₀ bytes c held = length input - held .at
 
 -- the line lies in the buffer
-lies : (c : tie.After-known-told Inv-loop μ-loop) → Behind (c .before .before .before .before .before .loop .held) (now (c .before .before .before .before .before .before .before .before .before .args .input)) (c .before .next .given .0 .0) (c .before .next .given .0 .1 .0) (c .before .before .before .before .next-line .result .intake)
+lies : (c : tie.After-known-told Inv-loop μ-loop) → Behind (c .before .before .before .before .before .loop .held) (now (c .before .before .before .before .before .before .before .before .args .input)) (c .before .next .given .0 .0) (c .before .next .given .0 .1 .0) (c .before .before .before .before .next-line .result .intake)
 lies c = line-behind _ _ _ (c .before .before .before .before .next-line .ensures) (c .before .next .given .1)
 
 made-requires : tie.Need-made-requires Inv-loop μ-loop
 made-requires c κs =
-    let inv = c .before .before .before .before .before .before .before .before .loop .inv in
-    let pre = c .before .before .before .before .before .before .before .before .before .before .before .before .pre in
-    (inv .0 .sound, (line-short _ _ _ (c .before .before .before .before .before .before .before .next-line .ensures) (c .before .before .before .before .next .given .1), (omega (arith, inv .1, pre .1 .0), omega (arith, inv .2, pre .1 .1))))
+    let inv = c .before .before .before .before .before .before .before .loop .inv in
+    let pre = c .before .before .before .before .before .before .before .before .before .before .pre in
+    (inv .0 .sound, (line-short _ _ _ (c .before .before .before .before .before .before .next-line .ensures) (c .before .before .before .next .given .1), omega (arith, inv .1, pre .1)))
 
 loop-less : tie.Need-loop-less Inv-loop μ-loop
-loop-less c = let b = lies (c .before .before .before .before .before .before .before .before .before) in omega (arith, b .place, b .ahead, b .inside)
+loop-less c = let b = lies (c .before .before .before .before .before .before) in omega (arith, b .place, b .ahead, b .inside)
 
 loop-again : tie.Need-loop-again Inv-loop μ-loop
 loop-again c =
-    let inv = c .before .before .before .before .before .before .before .before .before .before .before .before .before .before .loop .inv in
-    let made = c .before .before .before .before .before .made in
-    (brings-line _ _ _ (c .before .before .before .before .before .before .before .before .before .before .before .before .before .next-line .ensures) (inv .0) (c .before .before .before .before .before .before .before .before .before .before .next .given .1) (made .ensures), omega (arith, inv .1, made .kept .1 .1 .0), omega (arith, inv .2, made .kept .1 .1 .1 .0))
+    let inv = c .before .before .before .before .before .before .before .before .before .before .before .loop .inv in
+    let made = c .before .before .before .made in
+    (brings-line _ _ _ (c .before .before .before .before .before .before .before .before .before .before .next-line .ensures) (inv .0) (c .before .before .before .before .before .before .before .next .given .1) (made .ensures), omega (arith, inv .1, made .kept .1 .1 .0))
 
 pub bring-spec : {M : Type 1} → statement M
 bring-spec =
@@ -40,14 +40,14 @@ bring-spec =
     (tie.spec
     Inv-loop
     μ-loop
-    (λ c. (brings-none (c .before .before .before .pre .0), refl, refl))
-    (λ c κs. search needs) (λ c. search needs) (λ c. search needs) (λ c. search needs) (λ c. search needs)
+    (λ c. (brings-none (c .before .before .pre .0), refl))
+    (λ c κs. search needs) (λ c. search needs) (λ c. search needs) (λ c. search needs)
     (λ c. brings-more _ _ _ (c .before .before .before .next-line .ensures) (c .before .before .before .before .loop .inv .0) (c .enum-told .given .1))
     (λ c. lies c .order)
     (λ c. lies c .order)
     (λ c. omega (arith, lies c .inside))
     made-requires
-    (λ c. search needs) (λ c. search needs)
-    (λ c. brings-line _ _ _ (c .before .before .before .before .before .before .before .before .before .before .before .before .before .next-line .ensures) (c .before .before .before .before .before .before .before .before .before .before .before .before .before .before .loop .inv .0) (c .before .before .before .before .before .before .before .before .before .before .next .given .1) (c .before .before .before .before .before .made .ensures))
+    (λ c. search needs)
+    (λ c. brings-line _ _ _ (c .before .before .before .before .before .before .before .before .before .before .next-line .ensures) (c .before .before .before .before .before .before .before .before .before .before .before .loop .inv .0) (c .before .before .before .before .before .before .before .next .given .1) (c .before .before .before .made .ensures))
     loop-less
     loop-again)

@@ -7,30 +7,30 @@ use Rattle.slave.proofs.set_up.Statement.{statement}
 use Rattle.slave.proofs.set_up.Tie as tie
 
 abbrev Inv-loop : tie.InvT-loop
-Inv-loop input₀ bytes₀ spare₀ brought₀ reads₀ input bytes spare brought reads = Sound (brought .controller) × (length input ≡ length input₀) × (4096 ≡ length bytes) × (4096 ≡ length spare)
+Inv-loop input₀ bytes₀ brought₀ reads₀ input bytes brought reads = Sound (brought .controller) × (length input ≡ length input₀) × (4096 ≡ length bytes)
 
 abbrev μ-loop : tie.MeasureT-loop
-μ-loop input₀ bytes₀ spare₀ brought₀ reads₀ input bytes spare brought reads = reads
+μ-loop input₀ bytes₀ brought₀ reads₀ input bytes brought reads = reads
 
 loop-again : tie.Need-loop-again Inv-loop μ-loop
 loop-again c =
-    let inv = c .before .before .before .before .before .before .before .before .before .before .before .before .before .before .before .loop .inv in
-    let bring = c .before .before .before .bring in
-    (bring .ensures .sound, omega (arith, inv .1, c .before .before .before .before .before .before .before .before .before .before .before .before .refill .kept .1 .0), omega (arith, inv .2, bring .kept .1 .1 .1 .0), omega (arith, inv .3, bring .kept .1 .1 .1 .1 .0))
+    let inv = c .before .before .before .before .before .before .before .before .before .before .before .before .before .loop .inv in
+    let bring = c .before .before .bring in
+    (bring .ensures .sound, omega (arith, inv .1, c .before .before .before .before .before .before .before .before .before .before .refill .kept .1 .0), omega (arith, inv .2, bring .kept .1 .1 .1 .0))
 
 pub set-up-spec : {M : Type 1} → statement M
 set-up-spec =
     tie.close
     (tie.spec
     Inv-loop μ-loop
-    (λ c κs. search needs) (λ c κs. search needs) (λ c κs. search needs) (λ c κs. search needs)
-    (λ c. (c .before .fresh .ensures .sound, refl, c .before .before .before .buffer .ensures, c .before .before .buffer2 .ensures))
+    (λ c κs. search needs) (λ c κs. search needs) (λ c κs. search needs)
+    (λ c. (c .before .fresh .ensures .sound, refl, c .before .before .buffer .ensures))
     (λ c κs. search needs) (λ c. search needs)
     (λ c. c .before .before .before .before .before .before .before .loop .inv .0)
-    (λ c. search needs) (λ c. search needs)
-    (λ c κs. let inv = c .before .before .before .before .before .before .before .before .before .before .before .loop .inv in (inv .0, (omega (arith, inv .2), omega (arith, inv .3))))
-    (λ c. omega (arith, c .before .before .before .before .before .before .before .before .before .before .before .before .before .before .before .loop .inv .1, c .before .before .before .before .before .before .before .before .before .before .before .before .refill .kept .1 .0))
-    (λ c. c .before .before .before .bring .ensures .sound)
+    (λ c. search needs)
+    (λ c κs. let inv = c .before .before .before .before .before .before .before .before .before .before .loop .inv in (inv .0, omega (arith, inv .2)))
+    (λ c. omega (arith, c .before .before .before .before .before .before .before .before .before .before .before .before .before .loop .inv .1, c .before .before .before .before .before .before .before .before .before .before .refill .kept .1 .0))
+    (λ c. c .before .before .bring .ensures .sound)
     (λ c. search needs) (λ c. search needs)
     loop-again
     (λ c. search needs)

@@ -1,9 +1,11 @@
 use mathlib.Core.Path.{sym, ap, _∙_}
+use mathlib.Core.List.{List}
+use Prim.Native.Nat.{ℕ}
 use native.Mathlib.Omega.{arith}
 use denote.Ref.{now}
 use Rattle.operands.specs.Parsing.{on-good, on-bad, good-as}
 use Rattle.calls.specs.Call.{bytesCall}
-use Rattle.calls.specs.Reading.{aloneCall}
+use Rattle.calls.specs.Reading.{roomCall}
 use Rattle.calls.proofs.Steps.{unasked, asked, some-bytes, no-bytes, whole, few}
 use borrow.Author.Needs.{needs}
 use Rattle.calls.proofs.asks.alone.Statement.{statement}
@@ -17,7 +19,7 @@ returns-2 c =
     let a = c .before .before .before .before .before .before .args in
     asked (c .ended .ensures)
     (on-good _ (some-bytes (now (a .line)) (sym (c .before .before .before .before .byte-at .ensures) ∙ c .before .before .before .if1 .left) n))
-    (good-as (ap (aloneCall (a .letter)) (whole n)) ∙ e .reads _)
+    (good-as (ap (λ (l : List ℕ). roomCall (a .letter) l 0) (whole n)) ∙ e .reads _)
     (omega (arith, e .size, n))
     (e .within)
 

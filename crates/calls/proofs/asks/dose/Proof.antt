@@ -2,7 +2,7 @@ use mathlib.Core.Path.{refl, _∙_}
 use native.Mathlib.Omega.{arith}
 use Rattle.calls.specs.Call.{doseAt}
 use Rattle.calls.specs.Reads.{asCall, sizeOf, Within}
-use Rattle.operands.specs.Parsing.{on-good, on-bad, num, field-most}
+use Rattle.operands.specs.Parsing.{on-good, on-bad, num}
 use Rattle.calls.proofs.Steps.{row, no-row, unasked, asked}
 use borrow.Author.Needs.{needs}
 use Rattle.calls.proofs.asks.dose.Statement.{statement}
@@ -16,7 +16,7 @@ returns-3 c =
     (on-good _ (row (c .before .before .before .before .before .before .before .before .numbers-at .ensures) (c .before .before .before .before .before .before .if1 .left)) ∙ on-good _ room)
     refl
     (omega arith)
-    (omega (arith, field-most _ _ room))
+    tt
 
 pub dose-spec : {M : Type 1} → statement M
 unfolding doseAt

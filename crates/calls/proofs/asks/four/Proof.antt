@@ -9,8 +9,9 @@ use Rattle.laws.specs.Decimal.{good}
 use Rattle.field.specs.Field.{four}
 use Rattle.operands.specs.Parsing.{on-good, on-bad}
 use Rattle.operands.specs.Bytes.{carried}
-use Rattle.calls.specs.Call.{readField, readFieldAt}
+use Rattle.calls.specs.Call.{item, readFieldAt}
 use Rattle.calls.specs.Reads.{asCall, sizeOf, Within}
+use Rattle.calls.specs.declared.Item.the-variants.{Field}
 use Rattle.calls.proofs.Steps.{unasked, asked, some-bytes, no-bytes}
 use borrow.Author.Needs.{needs}
 use Rattle.calls.proofs.asks.four.Statement.{statement}
@@ -30,7 +31,7 @@ returns-3 c =
     let n = c .before .before .before .before .before .before .count .ensures in
     let f = c .before .before .before .before .before .if2 .left in
     asked (c .ended .ensures)
-    (on-good _ (some-bytes s (sym (c .before .before .before .before .before .before .before .before .byte-at .ensures) ∙ c .before .before .before .before .before .before .before .if1 .left) n) ∙ pick-t _ _ _ (eq-eqb _ _ (sym n ∙ f)) ∙ ap (λ (i : ℕ). good (readField (four (getD b 0 0) (getD b 1 0) (getD b 2 0) (getD b 3 0))) (drop (2 + 2 * i) s)) f)
+    (on-good _ (some-bytes s (sym (c .before .before .before .before .before .before .before .before .byte-at .ensures) ∙ c .before .before .before .before .before .before .before .if1 .left) n) ∙ pick-t _ _ _ (eq-eqb _ _ (sym n ∙ f)) ∙ ap (λ (i : ℕ). good (item (Field (four (getD b 0 0) (getD b 1 0) (getD b 2 0) (getD b 3 0)))) (drop (2 + 2 * i) s)) f)
     (rw (c .before .before .before .before .byte-of .ensures, c .before .before .before .byte-of2 .ensures, c .before .before .byte-of3 .ensures, c .before .byte-of4 .ensures) refl)
     (omega arith)
     tt

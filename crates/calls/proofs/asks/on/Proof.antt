@@ -2,7 +2,7 @@ use mathlib.Core.Path.{refl, _∙_}
 use native.Mathlib.Omega.{arith}
 use Rattle.calls.specs.Call.{onAt}
 use Rattle.calls.specs.Reads.{asCall, sizeOf, Within}
-use Rattle.operands.specs.Parsing.{on-good, on-bad, num, field-most}
+use Rattle.operands.specs.Parsing.{on-good, on-bad, num}
 use Rattle.calls.proofs.Steps.{unasked, asked}
 use borrow.Author.Needs.{needs}
 use Rattle.calls.proofs.asks.on.Statement.{statement}
@@ -12,7 +12,7 @@ returns-3 : tie.Need-returns-3
 unfolding onAt asCall sizeOf Within
 returns-3 c =
     let room = num (c .before .before .before .before .field-at2 .ensures) (c .before .before .room .given .1) in
-    asked (c .ended .ensures) (on-good _ (num (c .before .before .before .before .before .before .before .before .field-at .ensures) (c .before .before .before .before .before .before .hour .given .1)) ∙ on-good _ room) refl (omega arith) (omega (arith, field-most _ _ room))
+    asked (c .ended .ensures) (on-good _ (num (c .before .before .before .before .before .before .before .before .field-at .ensures) (c .before .before .before .before .before .before .hour .given .1)) ∙ on-good _ room) refl (omega arith) tt
 
 pub on-spec : {M : Type 1} → statement M
 unfolding onAt

@@ -2,9 +2,10 @@ use mathlib.Core.Path.{sym, ap, _∙_}
 use native.Mathlib.Omega.{arith}
 use lib.ListN.{getD}
 use Rattle.settings.specs.declared.Settings.{Settings}
-use Rattle.calls.specs.Call.{restart, restartAt}
+use Rattle.calls.specs.Call.{order, restartAt}
 use Rattle.calls.specs.Reads.{asCall, sizeOf, Within}
 use Rattle.operands.specs.Parsing.{on-good, on-bad, num, good-as}
+use Rattle.calls.specs.declared.Order.the-variants.{Restart}
 use Rattle.calls.proofs.Steps.{row, no-row, unasked, asked, asked-last, last-none, last-some}
 use borrow.Author.Needs.{needs}
 use Rattle.calls.proofs.asks.restart.Statement.{statement}
@@ -16,7 +17,7 @@ returns-2 c =
     let v = c .before .before .before .before .before .before .numbers-at .result .values in
     let got = row (c .before .before .before .before .before .before .numbers-at .ensures) (c .before .before .before .before .if1 .left) in
     asked-last (on-good _ got ∙ last-none _ _ _ _ (c .before .if2 .taken))
-    (good-as (ap (λ (x : Settings). restart x (getD v 17 0) (getD v 18 0)) (sym (c .set-of .ensures))))
+    (good-as (ap (λ (x : Settings). order (Restart x (getD v 17 0) (getD v 18 0))) (sym (c .set-of .ensures))))
     (omega arith)
     tt
 
@@ -33,7 +34,7 @@ returns-4 c =
     let got = row (c .before .before .before .before .before .before .before .before .before .before .before .numbers-at .ensures) (c .before .before .before .before .before .before .before .before .before .if1 .left) in
     let total = num (c .before .before .before .before .before .field-at .ensures) (c .before .before .before .total .given .1) in
     asked (c .ended .ensures) (on-good _ got ∙ last-some _ _ _ _ (c .before .before .before .before .before .before .if2 .left) ∙ on-good _ total)
-    (good-as (ap (λ (x : Settings). restart x (getD v 18 0) (c .before .before .before .total .given .0 .0)) (sym (c .before .set-of2 .ensures))))
+    (good-as (ap (λ (x : Settings). order (Restart x (getD v 18 0) (c .before .before .before .total .given .0 .0))) (sym (c .before .set-of2 .ensures))))
     (omega arith)
     tt
 

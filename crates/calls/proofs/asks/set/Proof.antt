@@ -1,8 +1,10 @@
 use mathlib.Core.Path.{sym, ap, _∙_}
 use native.Mathlib.Omega.{arith}
-use Rattle.calls.specs.Call.{settings, settingsAt}
+use Rattle.calls.specs.Call.{order, settingsAt}
 use Rattle.calls.specs.Reads.{asCall, sizeOf, Within}
 use Rattle.operands.specs.Parsing.{on-good, on-bad, num, good-as}
+use Rattle.settings.specs.declared.Settings.{Settings}
+use Rattle.calls.specs.declared.Order.the-variants.{Settings as Set}
 use Rattle.calls.proofs.Steps.{row, no-row, unasked, asked, asked-last, last-none, last-some}
 use borrow.Author.Needs.{needs}
 use Rattle.calls.proofs.asks.set.Statement.{statement}
@@ -12,7 +14,7 @@ returns-2 : tie.Need-returns-2
 unfolding settingsAt asCall sizeOf Within
 returns-2 c =
     let got = row (c .before .before .before .before .before .before .numbers-at .ensures) (c .before .before .before .before .if1 .left) in
-    asked-last (on-good _ got ∙ last-none _ _ _ _ (c .before .if2 .taken)) (good-as (ap settings (sym (c .set-of .ensures)))) (omega arith) tt
+    asked-last (on-good _ got ∙ last-none _ _ _ _ (c .before .if2 .taken)) (good-as (ap (λ (x : Settings). order (Set x)) (sym (c .set-of .ensures)))) (omega arith) tt
 
 returns-3 : tie.Need-returns-3
 unfolding settingsAt
@@ -25,7 +27,7 @@ unfolding settingsAt asCall sizeOf Within
 returns-4 c =
     let got = row (c .before .before .before .before .before .before .before .before .before .before .before .numbers-at .ensures) (c .before .before .before .before .before .before .before .before .before .if1 .left) in
     let product = num (c .before .before .before .before .before .field-at .ensures) (c .before .before .before .product .given .1) in
-    asked (c .ended .ensures) (on-good _ got ∙ last-some _ _ _ _ (c .before .before .before .before .before .before .if2 .left) ∙ on-good _ product) (good-as (ap settings (sym (c .before .set-of2 .ensures)))) (omega arith) tt
+    asked (c .ended .ensures) (on-good _ got ∙ last-some _ _ _ _ (c .before .before .before .before .before .before .if2 .left) ∙ on-good _ product) (good-as (ap (λ (x : Settings). order (Set x)) (sym (c .before .set-of2 .ensures)))) (omega arith) tt
 
 pub set-spec : {M : Type 1} → statement M
 unfolding settingsAt

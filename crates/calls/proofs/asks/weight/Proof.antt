@@ -8,9 +8,10 @@ use mir.Val.{SFits}
 use mir.Facts.{toZ-ofZ}
 use Rattle.laws.specs.Decimal.{good}
 use Rattle.field.specs.Field.{weight}
-use Rattle.calls.specs.Call.{writeField, flagField, writeFieldAt}
+use Rattle.calls.specs.Call.{item, flagField, writeFieldAt}
 use Rattle.calls.specs.Reads.{asCall, sizeOf, Within}
 use Rattle.operands.specs.Parsing.{on-good, on-bad, num, field-most}
+use Rattle.calls.specs.declared.Item.the-variants.{Weight}
 use Rattle.calls.proofs.Steps.{step, unasked, asked}
 use borrow.Author.Needs.{needs}
 use Rattle.calls.proofs.asks.weight.Statement.{statement}
@@ -24,7 +25,7 @@ unfolding writeFieldAt flagField asCall sizeOf Within
 returns-5 c =
     asked (c .ended .ensures)
     (on-good _ (step (c .before .before .before .before .before .before .before .before .before .before .before .before .before .before .before .before .signed-at .ensures) (c .before .before .before .before .before .before .before .before .before .before .before .before .before .before .value .given .1)) ∙ on-good _ (on-good _ (num (c .before .before .before .before .before .before .before .before .before .before .before .before .field-at .ensures) (c .before .before .before .before .before .before .before .before .before .before .stable .given .1))) ∙ on-good _ (on-good _ (num (c .before .before .before .before .before .before .before .before .field-at2 .ensures) (c .before .before .before .before .before .before .over .given .1))) ∙ on-good _ (num (c .before .before .before .before .field-at3 .ensures) (c .before .before .point .given .1)))
-    (ap (λ (x : ℤ). good (writeField (weight x (eqb (c .before .before .before .before .before .before .before .before .before .before .stable .given .0 .0) 1) (eqb (c .before .before .before .before .before .before .over .given .0 .0) 1) (c .before .before .point .given .0 .0))) []) (sym (toZ-ofZ (value-fits (c .before .before .before .before .before .before .before .before .before .before .before .before .before)))))
+    (ap (λ (x : ℤ). good (item (Weight (weight x (eqb (c .before .before .before .before .before .before .before .before .before .before .stable .given .0 .0) 1) (eqb (c .before .before .before .before .before .before .over .given .0 .0) 1) (c .before .before .point .given .0 .0)))) []) (sym (toZ-ofZ (value-fits (c .before .before .before .before .before .before .before .before .before .before .before .before .before)))))
     (omega arith)
     tt
 
