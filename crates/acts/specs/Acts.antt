@@ -7,7 +7,8 @@ use Rattle.paper.specs.Answer.{Answer, told}
 use Rattle.controller.specs.declared.Controller.{Controller}
 use Rattle.counters.specs.declared.Counters.{Counters}
 use Rattle.controller.specs.Tick.{Told, tickOf}
-use Rattle.controller.specs.Calls.{restartOf, settingsOf, resetOf}
+use Rattle.controller.specs.Restart.{restartOf}
+use Rattle.setup.specs.Setup.{settingsOf, resetOf}
 use Rattle.controller.specs.Says.{noValue}
 use Rattle.reasons.specs.Reasons.{Cause, whyOf}
 use Rattle.series.specs.Events.{Event, tick, link, settings, reset, restart, request, modbus, run}

@@ -2,13 +2,18 @@
 use mathlib.Core.Path.{_≡_, refl}
 use mathlib.Core.Bool.{true}
 use mathlib.Core.List.{[], _∷_}
+use lib.IntN.{pos}
+use Rattle.laws.specs.Pick.{pick}
 use Rattle.laws.specs.Decimal.{good, bad}
-use Rattle.controller.specs.State.{restarted}
-use Rattle.controller.specs.Calls.{freshOf, linkOf}
+use Rattle.controller.specs.State.{restarted, freshOf}
+use Rattle.setup.specs.Setup.{linkOf}
 use Rattle.series.specs.Events.{request, eventOf, run}
 use Rattle.calls.specs.Call as calls
+use Rattle.calls.specs.Reads.{asCall}
+use Rattle.calls.specs.declared.Call.the-variants.{Tick, Request, Modbus, Unknown}
 use Rattle.calls.specs.declared.Order.the-variants.{Link, Counters}
 use Rattle.calls.specs.declared.Use.the-variants.{ReadFrame, Hour}
+use Rattle.acts.specs.Hears.{roomed, heardIn}
 use Rattle.acts.specs.Acts.{blank, orderEvents, callEvents, eventsIn, madeBy, aside, unread, counted, saidOf, saidTo}
 
 -- a line that is no call, the counters and a call that needs no box leave the controller; the link start is set; a reply has the room that its request asks for
@@ -28,3 +33,14 @@ pub said :
     × (saidTo freshOf (good (calls.bytes Hour [] 5) []) ≡ aside)
 unfolding saidTo saidOf freshOf restarted
 said = (refl, refl, refl)
+
+-- a tick is not heard, nor is a frame with room for 65 bytes of a reply; one that says more bytes than there are has all of them
+pub heard :
+    (heardIn [] (Tick (pos 5) 0) ≡ bad)
+    × (heardIn (7 ∷ 8 ∷ []) (Request 1 64) ≡ good (calls.request (7 ∷ []) 64) [])
+    × (heardIn (7 ∷ 8 ∷ []) (Request 1 65) ≡ bad)
+    × (heardIn (7 ∷ 8 ∷ []) (Modbus 9 0) ≡ good (calls.modbus (7 ∷ 8 ∷ []) 0) [])
+    × (heardIn [] (Modbus 0 65) ≡ bad)
+    × (heardIn [] Unknown ≡ bad)
+unfolding heardIn roomed asCall pick
+heard = (refl, refl, refl, refl, refl, refl)

@@ -6,9 +6,11 @@ use Rattle.paper.specs.AnswerLaws.{refused-done, fault-done}
 use Rattle.controller.specs.declared.Controller.{Controller}
 use Rattle.controller.specs.declared.RestartAnswer.{RestartAnswer}
 use Rattle.controller.specs.declared.RestartAnswer.the-variants as N
-use Rattle.controller.specs.Calls.{controllerIn, restartedFrom}
-use Rattle.controller.specs.Says.{saysSet, saysReset, saysRestart, noValue}
-use Rattle.controller.specs.Determined.{setBack, set-back, resetBack, reset-back, restartBack, restart-back}
+use Rattle.controller.specs.Restart.{controllerIn, restartedFrom}
+use Rattle.controller.specs.Says.{saysRestart, noValue}
+use Rattle.setup.specs.Says.{saysSet, saysReset}
+use Rattle.controller.specs.Determined.{restartBack, restart-back}
+use Rattle.setup.specs.Determined.{setBack, set-back, resetBack, reset-back}
 use Rattle.controller.specs.Sound.{Sound}
 use Rattle.reasons.specs.Says.{saysReason, reasonBack, reason-back}
 use Rattle.calls.specs.Call.{Call}

@@ -9,10 +9,11 @@ use Rattle.laws.specs.Decimal.{Parsed, good}
 use Rattle.controller.specs.declared.Controller.{Controller}
 use Rattle.controller.specs.declared.Ticked.{Ticked}
 use Rattle.controller.specs.declared.Requested.{Requested}
-use Rattle.controller.specs.declared.Polled.{Polled}
+use Rattle.panel.specs.declared.Polled.{Polled}
 use Rattle.controller.specs.Line.{requestOf}
-use Rattle.controller.specs.Modbus.{modbusOf}
-use Rattle.controller.specs.Says.{Ticks, Replies, Polls}
+use Rattle.panel.specs.Modbus.{modbusOf}
+use Rattle.controller.specs.Says.{Ticks, Replies}
+use Rattle.panel.specs.Says.{Polls}
 use Rattle.controller.specs.Sound.{Sound}
 use Rattle.series.specs.Events.{run, eventOf}
 use Rattle.lines.specs.declared.Intake.{Intake}

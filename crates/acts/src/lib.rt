@@ -2,22 +2,21 @@
 use calls::Call;
 use calls::Order;
 use controller::Controller;
-use controller::ResetAnswer;
 use controller::RestartAnswer;
-use controller::SetAnswer;
 use counters::Counters;
 use reasons::Reason;
 use settings::Settings;
+use setup::ResetAnswer;
+use setup::SetAnswer;
 ghost use mathlib.Core.Path.{_≡_};
 ghost use mathlib.Core.List.{[]};
-ghost use Prim.Native.Nat.{_≤_};
 ghost use lib.ListN.{length, take};
-ghost use Rattle.laws.specs.Decimal.{good};
+ghost use Rattle.laws.specs.Decimal.{good, bad};
 ghost use Rattle.controller.specs.Sound.{Sound};
 ghost use Rattle.calls.specs.Call.{order, request, modbus};
-ghost use Rattle.calls.specs.Reads.{asCall, Unticked, Within};
 ghost use Rattle.calls.specs.declared.Order.the-variants.{Restart};
-ghost use Rattle.acts.specs.Makes.{Made, inUse, Acts};
+ghost use Rattle.acts.specs.Makes.{inUse, Acts};
+ghost use Rattle.acts.specs.Hears.{roomed, heardIn};
 
 // What an order answers; that a frame was served, whose reply goes nowhere; that a call needs no box; or that a line is no call.
 pub enum Answer {
@@ -71,11 +70,11 @@ pub fn order(c: Controller, ordered: Order) -> Acted
 {
     match ordered {
         Order::Link(on) => Acted {
-            next: c.link(on),
+            next: setup::link(c, on),
             answer: Answer::Link,
         },
         Order::Settings(set) => {
-            let configured = c.settings(set);
+            let configured = setup::configure(c, set);
             let next = configured.next;
             let answer = configured.answer;
             Acted {
@@ -84,7 +83,7 @@ pub fn order(c: Controller, ordered: Order) -> Acted
             }
         }
         Order::Reset => {
-            let cleared = c.reset();
+            let cleared = setup::reset(c);
             let next = cleared.next;
             let answer = cleared.answer;
             Acted {
@@ -94,7 +93,7 @@ pub fn order(c: Controller, ordered: Order) -> Acted
         }
         Order::Counters => Acted {
             next: c,
-            answer: Answer::Counters(c.counters()),
+            answer: Answer::Counters(setup::counted(c)),
         },
         Order::Restart(set, count, total) => restart(c, set, count, total),
         Order::Why(output) => Acted {
@@ -104,56 +103,74 @@ pub fn order(c: Controller, ordered: Order) -> Acted
     }
 }
 
-// Bytes for a reply that goes nowhere.
+// A reply that goes nowhere has at most so many bytes.
+const REPLY: usize = 64;
+
+// Bytes for it.
 fn no_reply() -> [u8; 64]
     ensures { λ r. ⌜ 64 ≡ length r ⌝ }
 {
     [0u8; 64]
 }
 
-// The controller after a line request on the first n bytes.
-fn requested(c: Controller, n: usize, room: usize, bytes: &[u8]) -> Controller
-    requires sound { ⌜ Sound c ⌝ }
-    requires room { ⌜ (n ≤ length (now bytes)) × (room ≤ 64) ⌝ }
-    ensures { λ r. ⌜ Made c (good (request (take n (now (bytes .entry))) room) []) r ⌝ }
+// What is no call leaves the controller.
+fn unread(c: Controller) -> Acted
+    requires { ⌜ Sound c ⌝ }
+    ensures { λ r. ⌜ Acts c bad r ⌝ }
 {
-    let mut reply = no_reply();
-    let requested = c.request(&bytes[..n], &mut reply[..room]);
-    requested.next
+    Acted {
+        next: c,
+        answer: Answer::Unknown,
+    }
 }
 
-// The controller after a MODBUS frame of the first n bytes.
-fn polled(c: Controller, n: usize, room: usize, bytes: &[u8]) -> Controller
-    requires sound { ⌜ Sound c ⌝ }
-    requires room { ⌜ (n ≤ length (now bytes)) × (room ≤ 64) ⌝ }
-    ensures { λ r. ⌜ Made c (good (modbus (take n (now (bytes .entry))) room) []) r ⌝ }
+// A line request on the first n bytes.
+fn requested(c: Controller, n: usize, room: usize, bytes: &[u8]) -> Acted
+    requires { ⌜ Sound c ⌝ }
+    ensures { λ r. ⌜ Acts c (roomed room (good (request (take n (now (bytes .entry))) room) [])) r ⌝ }
 {
+    if REPLY < room {
+        return unread(c);
+    }
     let mut reply = no_reply();
-    let polled = c.modbus(&bytes[..n], &mut reply[..room]);
-    polled.next
+    let size = text::least(n, bytes.len());
+    let requested = c.request(&bytes[..size], &mut reply[..room]);
+    let next = requested.next;
+    Acted {
+        next,
+        answer: Answer::Frame,
+    }
+}
+
+// A MODBUS frame of the first n bytes.
+fn polled(c: Controller, n: usize, room: usize, bytes: &[u8]) -> Acted
+    requires { ⌜ Sound c ⌝ }
+    ensures { λ r. ⌜ Acts c (roomed room (good (modbus (take n (now (bytes .entry))) room) [])) r ⌝ }
+{
+    if REPLY < room {
+        return unread(c);
+    }
+    let mut reply = no_reply();
+    let size = text::least(n, bytes.len());
+    let polled = panel::poll(c, &bytes[..size], &mut reply[..room]);
+    let next = polled.next;
+    Acted {
+        next,
+        answer: Answer::Frame,
+    }
 }
 
 // What any call other than a tick makes of the controller, and its answer; a frame's bytes are the first of `bytes`.
 pub fn other(c: Controller, call: Call, bytes: &[u8]) -> Acted
-    requires sound { ⌜ Sound c ⌝ }
-    requires call { ⌜ Unticked call ⌝ }
-    requires within { ⌜ Within call × (2048 ≤ length (now bytes)) ⌝ }
-    ensures { λ r. ⌜ Acts c (asCall (now (bytes .entry)) call) r ⌝ }
+    requires { ⌜ Sound c ⌝ }
+    ensures { λ r. ⌜ Acts c (heardIn (now (bytes .entry)) call) r ⌝ }
 {
     match call {
-        Call::Request(n, room) => Acted {
-            next: requested(c, n as usize, room as usize, bytes),
-            answer: Answer::Frame,
-        },
-        Call::Modbus(n, room) => Acted {
-            next: polled(c, n as usize, room as usize, bytes),
-            answer: Answer::Frame,
-        },
+        Call::Tick(_, _) => unread(c),
+        Call::Request(n, room) => requested(c, n as usize, room as usize, bytes),
+        Call::Modbus(n, room) => polled(c, n as usize, room as usize, bytes),
         Call::Order(ordered) => order(c, ordered),
-        Call::Unknown => Acted {
-            next: c,
-            answer: Answer::Unknown,
-        },
+        Call::Unknown => unread(c),
         _ => Acted {
             next: c,
             answer: Answer::Aside,

@@ -1,5 +1,4 @@
 // The answer to a call that is no tick and no line request.
-use acts::Answer;
 use calls::Call;
 use controller::Controller;
 use pieces::Words;
@@ -18,14 +17,6 @@ pub struct Answered {
     pub len: usize,
 }
 
-// The text of an order's answer.
-fn put_order(out: &mut [u8], said: Answer) -> usize {
-    match said {
-        Answer::Why(reason) => boxed::causes::line(out, reason),
-        _ => pieces::line(out, 0, boxed::words(said)),
-    }
-}
-
 // A MODBUS frame of the first n bytes; the buffer that it is lent, the start of `spare`, is shown whole.
 fn poll(
     c: Controller,
@@ -40,7 +31,7 @@ fn poll(
     ensures { λ r. ⌜ Made c (good (modbus (take n (now (bytes .entry))) room) []) (r .controller) ⌝ }
 {
     pieces::lend(spare, room);
-    let polled = c.modbus(&bytes[..n], &mut spare[..room]);
+    let polled = panel::poll(c, &bytes[..n], &mut spare[..room]);
     let said = polled.answer;
     let controller = polled.next;
     let n = pieces::within(room, spare);
@@ -73,7 +64,7 @@ fn put(c: Controller, call: Call, bytes: &[u8], spare: &mut [u8], out: &mut [u8]
             let acted = acts::order(c, order);
             let said = acted.answer;
             let controller = acted.next;
-            let len = put_order(out, said);
+            let len = boxed::put_order(out, said);
             Answered { controller, len }
         }
         _ => Answered {
@@ -104,8 +95,7 @@ pub fn answer(
     ensures { λ r. ⌜ Made c (asCall (now (bytes .entry)) call) (r .controller) ⌝ }
 {
     let from = pieces::within(at, out);
-    let answered = put(c, call, bytes, spare, &mut out[from..]);
-    let len = place_after(out, from, answered.len);
-    let controller = answered.controller;
-    Answered { controller, len }
+    let mut answered = put(c, call, bytes, spare, &mut out[from..]);
+    answered.len = place_after(out, from, answered.len);
+    answered
 }

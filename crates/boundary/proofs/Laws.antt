@@ -6,7 +6,7 @@ use Rattle.settings.specs.declared.Settings.{Settings}
 use Rattle.settings.specs.Table.{firstBad, firstFrom, table, inRange, leastLevel, mostLevel}
 use Rattle.controller.specs.declared.Restarted.{Restarted}
 use Rattle.controller.specs.State.{restarted}
-use Rattle.controller.specs.Calls.{restartOf, storedBad}
+use Rattle.controller.specs.Restart.{restartOf, storedBad}
 use Rattle.controller.specs.Sound.{Sound}
 use Rattle.controller.specs.Says.{Restarts}
 use Rattle.boundary.specs.Table.{al1}

@@ -21,7 +21,7 @@ use Rattle.dosing.specs.Rules.{stepOf, ready, readyToFill, readyToDose, waits, 
 use Rattle.controller.specs.declared.Controller.{Controller}
 use Rattle.counters.specs.Counters.{counters, countersAfter, countedOf, recordOf, recordsOf}
 use Rattle.controller.specs.State.{restarted}
-use Rattle.controller.specs.Calls.{restartOf, controllerIn, storedBad}
+use Rattle.controller.specs.Restart.{restartOf, controllerIn, storedBad}
 use Rattle.channels.specs.Channels.{runsAfter, runAfter, expected, startOf, outputsOf, worth, input, watchOf}
 use Rattle.scale.specs.Scale.{stableOf, filterOf, equalZ, none, calmByMean, outside, overCapacity, changed, filtered, calmByGates}
 use Rattle.controller.specs.Tick.{tickOf, step2, step3, steps4and5, steps6to8, mismatched, step7, step8, seenOf, wOf, faulted, saysFault}

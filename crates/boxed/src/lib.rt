@@ -1,16 +1,16 @@
 // The answers of the box: their letter and numbers, and the text of a reason.
-pub mod causes;
+mod causes;
 
 use acts::Answer;
 use controller::Fault;
-use controller::PollAnswer;
 use controller::RequestAnswer;
-use controller::ResetAnswer;
 use controller::RestartAnswer;
-use controller::SetAnswer;
 use controller::TickAnswer;
 use counters::Record;
+use panel::PollAnswer;
 use pieces::Words;
+use setup::ResetAnswer;
+use setup::SetAnswer;
 ghost use mathlib.Core.Path.{_≡_};
 ghost use mathlib.Core.Bool.{true};
 ghost use Prim.Native.Nat.{_+_, _≤_, _<_};
@@ -150,7 +150,7 @@ pub fn modbus(answer: PollAnswer) -> Words {
 }
 
 // What an order was answered, by a letter and numbers; ? where it was answered otherwise.
-pub fn words(said: Answer) -> Words {
+fn words(said: Answer) -> Words {
     match said {
         Answer::Link => Words::none(b'A'),
         Answer::Set(taken) => set(taken),
@@ -158,5 +158,13 @@ pub fn words(said: Answer) -> Words {
         Answer::Counters(kept) => Words::two(b'Q', kept.count as u64, kept.total as u64),
         Answer::Restart(restarted) => restart(restarted),
         _ => Words::none(b'?'),
+    }
+}
+
+// The text of an order's answer.
+pub fn put_order(out: &mut [u8], said: Answer) -> usize {
+    match said {
+        Answer::Why(reason) => causes::line(out, reason),
+        _ => pieces::line(out, 0, words(said)),
     }
 }

@@ -37,7 +37,7 @@ use Rattle.counters.specs.declared.Counters.{Counters}
 use Rattle.counters.specs.declared.Record.{Record}
 use Rattle.counters.specs.Counters.{recordsOf}
 use Rattle.counters.specs.Laws.{AllOf}
-use Rattle.controller.specs.Calls.{freshOf}
+use Rattle.controller.specs.State.{freshOf}
 use Rattle.controller.specs.Sound.{Sound}
 use Rattle.controller.specs.Keeps.{fresh-sound}
 use Rattle.hourly.specs.Text.{rowFrom, rowOf}

@@ -31,7 +31,7 @@ use Rattle.readout.specs.declared.Zero.{Zero}
 use Rattle.readout.specs.Laws.{reply-bytes}
 use Rattle.controller.specs.State.{withZ}
 use Rattle.controller.specs.Tick.{Result, still}
-use Rattle.controller.specs.Calls.{isReady}
+use Rattle.controller.specs.Ready.{isReady}
 use Rattle.controller.specs.Line.{timely, allowed, askedOf, replyData, replyFrame, zeroedBy, Replied, replied, repliesTo, requestOf}
 use Rattle.controller.specs.Sound.{Sound}
 use Rattle.controller.specs.Says.{saysReply, placeAndLength, bytesOf, Replies}

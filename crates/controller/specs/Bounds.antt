@@ -11,7 +11,7 @@ use Rattle.dosing.specs.declared.Phase.{Phase}
 use Rattle.dosing.specs.declared.Phase.the-variants.{Ready, Coarse, Fine, Hold, Settle, Discharge, Load, Calm, DoseCoarse, DoseFine, DoseSettle}
 use Rattle.scale.specs.Laws as scale
 use Rattle.stepping.specs.Stepping.{atReady}
-use Rattle.controller.specs.Calls.{readyIn, isReady}
+use Rattle.controller.specs.Ready.{readyIn, isReady}
 use Rattle.controller.specs.Sound.{Sound}
 use Rattle.controller.specs.declared.Controller.{Controller}
 use Rattle.controller.specs.declared.Fault.{Fault}

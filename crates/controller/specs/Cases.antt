@@ -1,28 +1,28 @@
--- Ticks, settings, resets and restarts on numbers. Assumes nothing.
+-- Ticks and restarts on numbers. Assumes nothing.
 use mathlib.Core.Path.{_≡_, refl}
 use mathlib.Core.Bool.{true, false, xor}
-use mathlib.Core.List.{List, [], _∷_, _++_, map}
+use mathlib.Core.List.{List, [], _∷_, _++_}
 use Prim.Native.Nat.{ℕ}
 use lib.IntN.{ℤ, pos}
 use lib.ListN.{replicate}
 use Rattle.laws.specs.Pick.{pick}
 use Rattle.paper.specs.Answer.{Answer, done, refused, fault, onDone}
-use Rattle.paper.specs.Numbers.{R1, R2, R3, R15, F14, F21}
+use Rattle.paper.specs.Numbers.{R1, R2, R15, F14, F21}
 use Rattle.settings.specs.Table.{firstBad, firstFrom, table, inRange, leastLevel, mostLevel, defaultSet, Wc, Wf}
 use Rattle.settings.specs.declared.Settings.{Settings}
 use Rattle.settings.specs.Cases.{setOf}
 use Rattle.window.specs.Mean.{meanOf, averagedOf, leftOf, without, alike, largest, smallest, greater, lesser, plainOf, roundAway, halfUp, sumOf}
 use Rattle.window.specs.Window.{samplesOf, pushOf, emptyWindow}
-use Rattle.dosing.specs.Rules.{stepOf, ready, readyToFill, readyToDose, waits, zeroed, nearZero, fillBegins, coarseStage, fineStage, fill, full, hold, settle, settleEnds, dischargeOpens, discharge, amountOf, load, calm, doseCoarse, doseFine, doseSettle, reachedWf, reachedWc, notBelowZero}
-use Rattle.dosing.specs.Rules.{units}
+use Rattle.dosing.specs.Rules.{stepOf, ready, readyToFill, readyToDose, waits, zeroed, nearZero, fillBegins, coarseStage, fineStage, fill, full, hold, settle, settleEnds, dischargeOpens, discharge, amountOf, load, calm, doseCoarse, doseFine, doseSettle, reachedWf, reachedWc, notBelowZero, units}
 use Rattle.channels.specs.Channels.{input, worth, outputsOf, startOf, expected, runAfter, runsAfter, watchOf}
 use Rattle.counters.specs.Counters.{countedOf, countersAfter, recordOf, recordsOf}
 use Rattle.scale.specs.Scale.{outside, filtered, filterOf, equalZ, none, calmByMean, stableOf, changed, calmByGates, overCapacity}
 use Rattle.stepping.specs.Stepping.{atReady, unstartedOf}
-use Rattle.controller.specs.State.{restarted, withZ, withS, withAlarm, withLink, withInputs}
+use Rattle.controller.specs.State.{restarted, freshOf, withS, withLink}
 use Rattle.controller.specs.Tick.{Told, tickOf, step2, step3, steps4and5, steps6to8, mismatched, step7, step8, seenOf, wOf, faulted, saysFault}
-use Rattle.controller.specs.Calls.{readyIn, isReady, storedBad, restartOf, freshOf, taken, settingsAnswer, after, settingsOf, resetAnswer, resetOf, linkOf}
+use Rattle.controller.specs.Ready.{readyIn, isReady}
 use Rattle.controller.specs.declared.Controller.{Controller}
+use Rattle.controller.specs.Restart.{storedBad, restartOf}
 
 -- the answers of the fresh controller to a series of samples and inputs
 unfoldable pub answers : Controller → List (ℤ × ℕ) → List (Answer Told)
@@ -39,9 +39,9 @@ unfoldable pub ticked : Controller → List (ℤ × ℕ) → Controller
 ticked c [] = c
 ticked c (t ∷ ts) = ticked (tickOf c (t .0) (t .1) .next) ts
 
--- to unfold this is to unfold every rule of these calls
+-- to unfold this is to unfold every rule of a restart and a tick
 unfoldable pub rules : Unit {0}
-unfolding lastOf ticked setOf restartOf storedBad onDone firstBad firstFrom table inRange leastLevel mostLevel settingsOf settingsAnswer after taken resetOf resetAnswer isReady readyIn atReady linkOf xor answers freshOf restarted defaultSet tickOf step2 step3 steps4and5 steps6to8 mismatched watchOf runsAfter runAfter expected step7 unstartedOf step8 seenOf wOf stableOf filtered filterOf equalZ none calmByMean startOf outside faulted saysFault outputsOf worth input overCapacity changed calmByGates countersAfter countedOf recordOf recordsOf stepOf ready readyToFill readyToDose waits zeroed nearZero fillBegins coarseStage fineStage fill full hold settle settleEnds dischargeOpens discharge amountOf load calm doseCoarse doseFine doseSettle reachedWf reachedWc notBelowZero Wc Wf samplesOf pushOf emptyWindow meanOf averagedOf leftOf without alike largest smallest greater lesser plainOf roundAway halfUp sumOf pick
+unfolding lastOf ticked setOf restartOf storedBad onDone firstBad firstFrom table inRange leastLevel mostLevel isReady readyIn atReady xor answers freshOf restarted defaultSet tickOf step2 step3 steps4and5 steps6to8 mismatched watchOf runsAfter runAfter expected step7 unstartedOf step8 seenOf wOf stableOf filtered filterOf equalZ none calmByMean startOf outside faulted saysFault outputsOf worth input overCapacity changed calmByGates countersAfter countedOf recordOf recordsOf stepOf ready readyToFill readyToDose waits zeroed nearZero fillBegins coarseStage fineStage fill full hold settle settleEnds dischargeOpens discharge amountOf load calm doseCoarse doseFine doseSettle reachedWf reachedWc notBelowZero Wc Wf samplesOf pushOf emptyWindow meanOf averagedOf leftOf without alike largest smallest greater lesser plainOf roundAway halfUp sumOf pick
 rules = tt
 
 abbrev outputs : ℕ → Answer Told
@@ -92,7 +92,7 @@ pub calm-runs :
     × (ticked (box 1 50 1) (replicate 65 (pos 300, 0) ++ (pos 300, 8) ∷ []) .s ≡ 0)
     × (ticked (box 0 50 1) ((pos 0, 8) ∷ replicate 9 (pos 400, 8)) .s ≡ 6)
     × (ticked (box 0 50 1) ((pos 0, 8) ∷ replicate 9 (pos 400, 8) ++ (pos 400, 0) ∷ []) .s ≡ 0)
-    × (ticked (linkOf (ticked (box 3 800 1) (replicate 65 (pos 300, 0))) true) ((pos 300, 0) ∷ []) .s ≡ 0)
+    × (ticked (withLink true (ticked (box 3 800 1) (replicate 65 (pos 300, 0)))) ((pos 300, 0) ∷ []) .s ≡ 0)
     × (ticked (withS 4031 (ticked (box 1 50 1) ((pos 300, 0) ∷ []))) ((pos 300, 0) ∷ []) .s ≡ 4032)
     × (ticked (withS 4032 (ticked (box 1 50 1) ((pos 300, 0) ∷ []))) ((pos 300, 0) ∷ []) .s ≡ 4032)
 unfolding rules
@@ -110,13 +110,13 @@ wild-sample = (refl, refl, refl, refl)
 -- start is input 4 or the link start; in AL3 the link start alone
 pub starts :
     (last (box 0 50 1) ((pos 0, 8) ∷ []) ≡ outputs 1)
-    × (last (linkOf (box 0 50 1) true) ((pos 0, 0) ∷ []) ≡ outputs 1)
-    × (last (linkOf (box 1 50 1) true) ((pos 0, 0) ∷ []) ≡ outputs 1)
-    × (last (linkOf (linkOf (box 1 50 1) true) false) ((pos 0, 7) ∷ []) ≡ outputs 0)
+    × (last (withLink true (box 0 50 1)) ((pos 0, 0) ∷ []) ≡ outputs 1)
+    × (last (withLink true (box 1 50 1)) ((pos 0, 0) ∷ []) ≡ outputs 1)
+    × (last (withLink false (withLink true (box 1 50 1))) ((pos 0, 7) ∷ []) ≡ outputs 0)
     × (last (box 2 800 1) ((pos 500, 8) ∷ []) ≡ outputs 3)
-    × (last (linkOf (box 2 800 1) true) ((pos 500, 0) ∷ []) ≡ outputs 3)
+    × (last (withLink true (box 2 800 1)) ((pos 500, 0) ∷ []) ≡ outputs 3)
     × (last (box 3 800 1) ((pos 500, 8) ∷ []) ≡ outputs 0)
-    × (last (linkOf (box 3 800 1) true) ((pos 500, 0) ∷ []) ≡ outputs 3)
+    × (last (withLink true (box 3 800 1)) ((pos 500, 0) ∷ []) ≡ outputs 3)
 unfolding rules
 starts = (refl, refl, refl, refl, refl, refl, refl, refl)
 
@@ -140,32 +140,6 @@ runs = (refl, refl, refl, refl, refl, refl, refl, refl, refl, refl, refl)
 pub told-at : (last (box 1 50 1) ((pos 1009, 0) ∷ []) ≡ outputs 0) × (last (box 1 50 1) ((pos 1010, 0) ∷ []) ≡ outputs 8)
 unfolding rules
 told-at = (refl, refl)
-
--- a fault, AL0's Fill and hold, AL2's Load and Calm
-abbrev busy : List Controller
-busy =
-    ticked freshOf ((pos 900001, 0) ∷ [])
-    ∷ ticked freshOf ((pos 0, 8) ∷ [])
-    ∷ ticked freshOf ((pos 100, 8) ∷ [])
-    ∷ ticked (box 2 800 1) ((pos 0, 0) ∷ [])
-    ∷ ticked (box 2 800 1) ((pos 0, 0) ∷ (pos 1600, 0) ∷ [])
-    ∷ []
-
--- they are not Ready, and R3 stands before R2
-pub not-ready :
-    (map (λ c. settingsOf c (setOf []) .answer) busy ≡ replicate 5 (refused R3 []))
-    × (map (λ c. resetOf c .answer) busy ≡ replicate 5 (refused R3 []))
-    × (settingsOf freshOf (setOf (4 ∷ [])) .answer ≡ refused R2 (1 ∷ []))
-    × (resetOf freshOf .answer ≡ done tt)
-unfolding rules
-not-ready = (refl, refl, refl, refl)
-
--- a set is taken as at a restart, but for counters, link start, inputs and output 4, which are kept: from a box with Z, S, runs and samples
-pub set-taken :
-    settingsOf (withZ (units (pos 5)) (withAlarm true (linkOf (ticked (restarted (set 1 50 0) 7 9) (replicate 3 (pos 60, 5))) true))) (set 2 800 1)
-    ≡ record { next = withLink true (withAlarm true (withInputs 5 (restarted (set 2 800 1) 7 9))); answer = done tt }
-unfolding rules
-set-taken = refl
 
 -- R2 before R15; the greatest stored numbers, and each one above
 pub restarts :

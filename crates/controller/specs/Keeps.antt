@@ -3,46 +3,46 @@ use mathlib.Core.Path.{_≡_, refl, sym, subst, _∙_, ap}
 use mathlib.Core.Bool.{Bool, true, false, not, _&&_, _||_}
 use mathlib.Core.List.{List, []}
 use Prim.Native.Nat.{ℕ, _≤_}
-use native.Mathlib.Omega.{arith}
 use lib.Dec.{leb, ltb, eqb}
-use lib.IntN.{ℤ, pos, natAbs, _-ℤ_}
+use lib.IntN.{ℤ, natAbs, _-ℤ_}
 use borrow.Author.Needs.{needs}
-use borrow.Author.Tests.{ltb-false}
 use Rattle.laws.specs.Pick.{pick, pick-all, pick-if}
 use Rattle.laws.specs.Whole.{false-true}
 use Rattle.laws.specs.Bools.{and-left, and-right, or-left, or-right}
 use Rattle.paper.specs.Answer.{Answer, done, refused, fault}
-use Rattle.paper.specs.AnswerLaws.{refused-done, on-done, passed, failed}
+use Rattle.paper.specs.AnswerLaws.{refused-done, on-done, failed}
 use Rattle.paper.specs.Numbers.{R3, R4, R15}
-use Rattle.settings.specs.declared.Settings.{Settings}
-use Rattle.settings.specs.Table.{firstBad, firstFrom, table, inRange, defaultSet, default-good}
 use Rattle.settings.specs.Good.{good-ranges}
 use Rattle.window.specs.Window.{samplesOf, emptyWindow}
-use Rattle.window.specs.Laws.{empty-length}
 use Rattle.dosing.specs.Rules.{units, stepOf}
 use Rattle.dosing.specs.Gates.{gatesOf, belongs, Kept}
 use Rattle.dosing.specs.Laws.{near-most, step-gates, step-belongs, step-zero, step-kept}
 use Rattle.dosing.specs.declared.Phase.{Phase}
 use Rattle.dosing.specs.declared.Moved.{Moved}
-use Rattle.channels.specs.Channels.{noRuns}
 use Rattle.counters.specs.Laws.{after-storable}
 use Rattle.scale.specs.Scale.{filtered, none, overCapacity}
 use Rattle.scale.specs.Laws.{within-at, empty-within, calm-by-gates-most}
 use Rattle.stepping.specs.Stepping.{unstartedOf}
 use Rattle.asking.specs.Asking.{Asked, timeOf, zeroOf, askOf}
 use Rattle.readout.specs.Readout.{zeroable, mayZero}
-use Rattle.controller.specs.State.{restarted, withZ, withUnstarted}
+use Rattle.controller.specs.State.{restarted, freshOf, withZ, withUnstarted}
 use Rattle.controller.specs.Tick.{Result, step8, step7, seenOf, wOf, tickOf}
-use Rattle.controller.specs.Calls.{isReady, storedBad, restartOf, freshOf, noSet, noController, taken, settingsAnswer, after, settingsOf, resetAnswer, resetOf, linkOf}
+use Rattle.controller.specs.Ready.{isReady}
 use Rattle.controller.specs.Line.{timely, allowed, askedOf, zeroedBy, replied, repliesTo, requestOf}
 use Rattle.controller.specs.Sound.{Sound, Abandoned, Waited}
-use Rattle.controller.specs.Setters.{zero-sound, counters-sound, unstarted-sound}
-use Rattle.controller.specs.Ways.{tick-ways, clear-watched}
+use Rattle.controller.specs.Setters.{zero-sound, unstarted-sound}
+use Rattle.controller.specs.Ways.{tick-ways}
 use Rattle.controller.specs.Waiting.{step-waited, low-waited}
 use Rattle.controller.specs.Bounds.{clear-faulted, ready-is}
 use Rattle.controller.specs.declared.Controller.{Controller}
 use Rattle.controller.specs.declared.Condition.{Condition}
 use Rattle.controller.specs.declared.Condition.the-variants.{Clear, Faulted}
+use borrow.Author.Tests.{ltb-false}
+use Rattle.settings.specs.declared.Settings.{Settings}
+use Rattle.settings.specs.Table.{firstBad, firstFrom, table, inRange, defaultSet, default-good}
+use Rattle.window.specs.Laws.{empty-length}
+use Rattle.controller.specs.Restart.{storedBad, restartOf, noSet, noController}
+use native.Mathlib.Omega.{arith}
 
 -- ---- a tick: step 8
 
@@ -100,7 +100,7 @@ tick-sound c x i s =
 
 -- ---- restart
 
-empty-held : emptyWindow .held ≤ 128
+pub empty-held : emptyWindow .held ≤ 128
 unfolding emptyWindow
 empty-held = omega arith
 
@@ -130,47 +130,6 @@ restart-sound set count total c e =
 pub no-controller : Sound noController → ⊥
 unfolding noController restarted noSet firstBad firstFrom table inRange pick
 no-controller s = refused-done (s .set)
-
--- ---- settings, counters, link start
-
-after-sound : (a : Answer (Unit {0})) (changed same : Controller) → Sound same → (a ≡ done tt → Sound changed) → Sound (after a changed same)
-unfolding after
-after-sound (done u) changed same s go = go refl
-after-sound (refused n vs) changed same s go = s
-after-sound (fault n vs) changed same s go = s
-
-taken-sound : (c : Controller) (set : Settings) → Sound c → isReady c ≡ true → firstBad set ≡ done tt → Sound (taken set c)
-unfolding taken gatesOf belongs
-taken-sound c set s e good =
-    let r = ready-is c e in
-    let places = empty-length in
-    let held = empty-held in
-    let samples = within-at 900000 (samplesOf emptyWindow) empty-within in
-    let runs = clear-watched (c .condition) noRuns (r .0) (omega arith, omega arith, omega arith) in
-    let phase : belongs (set .algorithm) (c .phase) ≡ true = rw (r .1) in
-    let kept : Kept (pos 0) (c .phase) = rw (r .1) tt in
-    let gates : c .gates ≡ gatesOf set (c .phase) = s .gates ∙ rw (r .1) in
-    search needs
-
-settings-taken : (c : Controller) (set : Settings) → Sound c → settingsAnswer c set ≡ done tt → Sound (taken set c)
-unfolding settingsAnswer
-settings-taken c set s e =
-    let p = passed (isReady c) (firstBad set) R3 [] tt e in
-    taken-sound c set s (p .0) (p .1)
-
-pub settings-sound : (c : Controller) (set : Settings) → Sound c → Sound (settingsOf c set .next)
-unfolding settingsOf
-settings-sound c set s = after-sound (settingsAnswer c set) (taken set c) c s (settings-taken c set s)
-
-pub reset-sound : (c : Controller) → Sound c → Sound (resetOf c .next)
-unfolding resetOf
-reset-sound c s =
-    after-sound (resetAnswer c) _ c s (λ e. counters-sound c s _ (record { count = omega arith; total = omega arith }))
-
--- the link start is set or cleared
-pub link-sound : (c : Controller) (on : Bool) → Sound c → Sound (linkOf c on)
-unfolding linkOf
-link-sound c on s = search needs
 
 -- ---- a line request
 

@@ -1,14 +1,14 @@
 pub mod State
+pub mod Ready
+pub mod Restart
 pub mod Tick
-pub mod Calls
 pub mod Line
-pub mod Modbus
 pub mod Sound
+pub mod Made
 pub mod Says
 pub mod Cases
 pub mod LineCases
 pub mod Outside
-pub mod Made
 pub mod Parts
 pub mod Bounds
 pub mod Setters
@@ -18,5 +18,3 @@ pub mod Keeps
 pub mod Promises
 pub mod Determined
 pub mod OutsideLaws
-pub mod ModbusLaws
-pub mod ModbusCases

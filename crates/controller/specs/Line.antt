@@ -16,7 +16,7 @@ use Rattle.asking.specs.Asking.{Asked, askOf, timeOf, zeroOf, fieldBytes, answe
 use Rattle.readout.specs.Readout.{mayZero}
 use Rattle.controller.specs.State.{withZ}
 use Rattle.controller.specs.Tick.{Result, still}
-use Rattle.controller.specs.Calls.{isReady}
+use Rattle.controller.specs.Ready.{isReady}
 use Rattle.controller.specs.declared.Controller.{Controller}
 
 -- ---- the request

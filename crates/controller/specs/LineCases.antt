@@ -14,9 +14,8 @@ use Rattle.frame.specs.Frame.{frame, sent, sentByte, extended}
 use Rattle.frame.specs.Read.{readOf, readAll, run, step, grown, answerOf, judged, badBody, tooShort}
 use Rattle.message.specs.Message.{partsOf, formOf, addressLength, bodyOf, addressBytes}
 use Rattle.dosing.specs.Rules.{units, gates}
-use Rattle.controller.specs.State.{restarted, withZ, withS, withGates, withAlarm}
+use Rattle.controller.specs.State.{restarted, freshOf, withZ, withS, withGates, withAlarm}
 use Rattle.controller.specs.Tick.{Told}
-use Rattle.controller.specs.Calls.{freshOf}
 use Rattle.scale.specs.Scale.{weightFrom, weightBy}
 use Rattle.asking.specs.Asking.{heardOf, ours, addressOf, known, bare, codeOf, timeOf, zeroOf, askOf, fieldBytes, answerFrame}
 use Rattle.readout.specs.Readout.{zeroable, mayZero}

@@ -23,7 +23,6 @@ use Rattle.dosing.specs.declared.Phase.{Phase}
 use Rattle.dosing.specs.declared.Phase.the-variants.{Ready, Coarse, Fine, Hold, Settle, Discharge, Load, Calm, DoseCoarse, DoseFine, DoseSettle}
 use Rattle.dosing.specs.declared.Seen.{Seen}
 use Rattle.dosing.specs.declared.Dose.{Dose}
-use Rattle.dosing.specs.declared.Dose.the-variants.{Nothing, Complete}
 use Rattle.dosing.specs.declared.Moved.{Moved}
 use Rattle.controller.specs.State.{withInputs, withUnstarted}
 use Rattle.counters.specs.Counters.{countersAfter, recordsOf}

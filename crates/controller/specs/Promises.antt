@@ -1,4 +1,4 @@
--- What every sound controller promises beside the calls: doses and weights that can always be written, shut gates, refusals that change nothing, and counters that a tick, a reset and a restart alone change. Assumes nothing.
+-- What every sound controller promises beside the calls: doses and weights that can always be written, shut gates, and refusals and requests that change nothing else. Assumes nothing.
 use mathlib.Core.Path.{_≡_, refl, sym, ap, subst, _∙_}
 use mathlib.Core.Bool.{Bool, true, false, _&&_}
 use mathlib.Core.List.{List, []}
@@ -10,10 +10,8 @@ use lib.ListN.{length}
 use Rattle.laws.specs.Pick.{pick, pick-all, pick-if}
 use Rattle.laws.specs.Whole.{true-false}
 use Rattle.paper.specs.Answer.{Answer, done, refused, fault, onDone}
-use Rattle.paper.specs.AnswerLaws.{refused-done, fault-done, done-refused, fault-refused, on-done, passed, failed}
-use Rattle.paper.specs.Numbers.{R3, R15}
+use Rattle.paper.specs.AnswerLaws.{refused-done, fault-done, done-refused, fault-refused, on-done, failed}
 use Rattle.settings.specs.declared.Settings.{Settings}
-use Rattle.settings.specs.Table.{firstBad, defaultSet, default-good}
 use Rattle.settings.specs.Good.{good-ranges}
 use Rattle.field.specs.Field.{writable}
 use Rattle.dosing.specs.Rules.{shut, stepOf}
@@ -26,9 +24,9 @@ use Rattle.counters.specs.Laws.{AllRecordable, after-storable, records-recordab
 use Rattle.scale.specs.Scale.{overCapacity}
 use Rattle.scale.specs.Laws as scale
 use Rattle.asking.specs.Asking.{Asked}
-use Rattle.controller.specs.State.{restarted, withZ, withAlarm, withLink, withInputs}
+use Rattle.controller.specs.State.{restarted, freshOf, withZ}
 use Rattle.controller.specs.Tick.{Result, Told, saysFault, faulted, step8, step7, seenOf, wOf, tickOf, step2}
-use Rattle.controller.specs.Calls.{isReady, storedBad, restartOf, freshOf, taken, after, settingsAnswer, settingsOf, resetAnswer, resetOf, linkOf}
+use Rattle.controller.specs.Ready.{isReady}
 use Rattle.controller.specs.Line.{weightOf, Replied, askedOf, replyFrame, zeroedBy, replied, repliesTo, requestOf}
 use Rattle.controller.specs.Sound.{Sound, Abandoned}
 use Rattle.controller.specs.Bounds.{samples-within, clear-faulted, ready-is}
@@ -38,6 +36,9 @@ use Rattle.controller.specs.declared.Fault.{Fault}
 use Rattle.controller.specs.declared.Fault.the-variants as F
 use Rattle.controller.specs.declared.Condition.{Condition}
 use Rattle.controller.specs.declared.Condition.the-variants.{Clear, Faulted}
+use Rattle.paper.specs.Numbers.{R15}
+use Rattle.settings.specs.Table.{firstBad, defaultSet, default-good}
+use Rattle.controller.specs.Restart.{storedBad, restartOf}
 
 -- ---- restart
 
@@ -45,6 +46,12 @@ use Rattle.controller.specs.declared.Condition.the-variants.{Clear, Faul
 pub fresh-restarts : restartOf defaultSet 0 0 ≡ done freshOf
 unfolding restartOf onDone storedBad freshOf pick
 fresh-restarts = rw default-good
+
+-- an accepted restart carries the count and the total given
+pub restart-counters : (set : Settings) (count total : ℕ) (c : Controller) → restartOf set count total ≡ done c → c .counters ≡ counters count total
+unfolding restartOf restarted
+restart-counters set count total c e =
+    on-done (firstBad set) _ c e (λ u good k. ap (λ (d : Controller). d .counters) (sym (failed (storedBad count total) _ R15 [] c k .1)))
 
 -- ---- doses
 
@@ -170,20 +177,6 @@ pub tick-faulted : (c : Controller) (x : ℤ) (i : ℕ) (why : Fault) → c .con
 unfolding tickOf
 tick-faulted c x i why e = pick-all (λ (r : Result Told). r .next ≡ c) (ltb 15 i) refl (again-still (c .condition) c x i why e)
 
-after-refused : (a : Answer (Unit {0})) (changed same : Controller) (n : ℕ) (vs : List ℕ) → a ≡ refused n vs → after a changed same ≡ same
-unfolding after
-after-refused (done u) changed same n vs e = done-refused e
-after-refused (refused m us) changed same n vs e = refl
-after-refused (fault m us) changed same n vs e = refl
-
-pub settings-refused : (c : Controller) (set : Settings) (n : ℕ) (vs : List ℕ) → settingsOf c set .answer ≡ refused n vs → settingsOf c set .next ≡ c
-unfolding settingsOf
-settings-refused c set n vs e = after-refused (settingsAnswer c set) (taken set c) c n vs e
-
-pub reset-refused : (c : Controller) (n : ℕ) (vs : List ℕ) → resetOf c .answer ≡ refused n vs → resetOf c .next ≡ c
-unfolding resetOf
-reset-refused c n vs e = after-refused (resetAnswer c) _ c n vs e
-
 replies-refused : (c : Controller) (room : ℕ) (a : Answer Asked) (n : ℕ) (vs : List ℕ) → repliesTo c room a .answer ≡ refused n vs → repliesTo c room a .next ≡ c
 unfolding repliesTo replied
 replies-refused c room (done a) n vs e =
@@ -210,18 +203,6 @@ request-still c bytes room a e h = rw e (replies-still c room a h)
 
 -- ---- what a call changes
 
-as-restarted : (c : Controller) (set : Settings) → c .condition ≡ Clear → c .phase ≡ Ready → c .gates ≡ shut → taken set c ≡ withLink (c .link) (withAlarm (c .alarm) (withInputs (c .inputs) (restarted set (c .counters .count) (c .counters .total))))
-unfolding taken restarted
-as-restarted c set a b g = rw (a, b, g)
-
--- a set is taken as at a restart, but for counters, link start, inputs and output 4, which are kept
-pub settings-restart : (c : Controller) (set : Settings) → Sound c → settingsOf c set .answer ≡ done tt → settingsOf c set .next ≡ withLink (c .link) (withAlarm (c .alarm) (withInputs (c .inputs) (restarted set (c .counters .count) (c .counters .total))))
-unfolding settingsOf settingsAnswer after
-settings-restart c set s e =
-    let p = passed (isReady c) (firstBad set) R3 [] tt e in
-    let r = ready-is c (p .0) in
-    rw e (as-restarted c set (r .0) (r .1) (ready-gates c s (p .0)))
-
 replies-zero : (c : Controller) (room : ℕ) (a : Answer Asked) → (z : Units) × (repliesTo c room a .next ≡ withZ z c)
 unfolding repliesTo replied zeroedBy
 replies-zero c room (done a) =
@@ -236,34 +217,7 @@ pub request-zero : (c : Controller) (bytes : List ℕ) (room : ℕ) → (z : Uni
 unfolding requestOf
 request-zero c bytes room = replies-zero c room (askedOf c bytes)
 
--- ---- counters
-
--- an accepted restart carries the count and the total given
-pub restart-counters : (set : Settings) (count total : ℕ) (c : Controller) → restartOf set count total ≡ done c → c .counters ≡ counters count total
-unfolding restartOf restarted
-restart-counters set count total c e =
-    on-done (firstBad set) _ c e (λ u good k. ap (λ (d : Controller). d .counters) (sym (failed (storedBad count total) _ R15 [] c k .1)))
-
--- an accepted counter reset puts both to 0
-pub reset-counters : (c : Controller) → resetOf c .answer ≡ done tt → resetOf c .next .counters ≡ counters 0 0
-unfolding resetOf after
-reset-counters c e = rw e
-
-after-counters : (a : Answer (Unit {0})) (changed same : Controller) → changed .counters ≡ same .counters → after a changed same .counters ≡ same .counters
-unfolding after
-after-counters (done u) changed same e = e
-after-counters (refused n vs) changed same e = refl
-after-counters (fault n vs) changed same e = refl
-
--- settings, the link start and a line request keep both
-pub settings-counters : (c : Controller) (set : Settings) → settingsOf c set .next .counters ≡ c .counters
-unfolding settingsOf taken
-settings-counters c set = after-counters (settingsAnswer c set) _ c refl
-
-pub link-counters : (c : Controller) (on : Bool) → linkOf c on .counters ≡ c .counters
-unfolding linkOf
-link-counters c on = refl
-
+-- a line request keeps count and total
 replies-counters : (c : Controller) (room : ℕ) (a : Answer Asked) → repliesTo c room a .next .counters ≡ c .counters
 unfolding repliesTo replied zeroedBy
 replies-counters c room (done a) =

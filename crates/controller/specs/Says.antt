@@ -1,40 +1,28 @@
 -- What the controller's answers say in the paper's words, and the contract of each call. Assumes nothing.
 use mathlib.Core.Path.{_≡_}
-use mathlib.Core.Bool.{Bool}
 use mathlib.Core.List.{List, [], _∷_}
 use Prim.Native.Nat.{ℕ}
 use lib.IntN.{ℤ}
 use lib.ListN.{length}
-use Rattle.paper.specs.Answer.{Answer, done, refused, told, leaves, Fills}
-use Rattle.paper.specs.Numbers.{R1, R2, R3, R4, R5, R6, R7, R8, R9, R15, R17}
+use Rattle.paper.specs.Answer.{Answer, done, refused, told, leaves}
+use Rattle.paper.specs.Numbers.{R1, R2, R3, R4, R5, R6, R7, R8, R9, R15}
+use Rattle.controller.specs.State.{freshOf}
+use Rattle.controller.specs.Restart.{restartOf, controllerIn}
 use Rattle.settings.specs.declared.Settings.{Settings}
-use Rattle.counters.specs.declared.Counters.{Counters}
 use Rattle.controller.specs.Tick.{Told, saysFault, tickOf}
-use Rattle.controller.specs.Calls.{freshOf, restartOf, controllerIn, settingsOf, resetOf, linkOf}
 use Rattle.controller.specs.Line.{Replied, requestOf}
-use Rattle.controller.specs.Modbus.{modbusOf}
 use Rattle.controller.specs.Sound.{Sound}
 use Rattle.controller.specs.Made.{Made}
 use Rattle.controller.specs.declared.Controller.{Controller}
-use Rattle.controller.specs.declared.Fault.{Fault}
 use Rattle.controller.specs.declared.TickAnswer.{TickAnswer}
 use Rattle.controller.specs.declared.TickAnswer.the-variants as T
 use Rattle.controller.specs.declared.Ticked.{Ticked}
-use Rattle.controller.specs.declared.SetAnswer.{SetAnswer}
-use Rattle.controller.specs.declared.SetAnswer.the-variants as S
-use Rattle.controller.specs.declared.Configured.{Configured}
-use Rattle.controller.specs.declared.ResetAnswer.{ResetAnswer}
-use Rattle.controller.specs.declared.ResetAnswer.the-variants as C
-use Rattle.controller.specs.declared.Cleared.{Cleared}
 use Rattle.controller.specs.declared.RestartAnswer.{RestartAnswer}
 use Rattle.controller.specs.declared.RestartAnswer.the-variants as N
 use Rattle.controller.specs.declared.Restarted.{Restarted}
 use Rattle.controller.specs.declared.RequestAnswer.{RequestAnswer}
 use Rattle.controller.specs.declared.RequestAnswer.the-variants as P
 use Rattle.controller.specs.declared.Requested.{Requested}
-use Rattle.controller.specs.declared.PollAnswer.{PollAnswer}
-use Rattle.controller.specs.declared.PollAnswer.the-variants as M
-use Rattle.controller.specs.declared.Polled.{Polled}
 
 -- ---- the answers
 
@@ -43,15 +31,6 @@ saysTick (T.Outputs o) = done (record { outputs = o; doses = [] })
 saysTick (T.Dose o r) = done (record { outputs = o; doses = r ∷ [] })
 saysTick (T.Fault f) = saysFault f
 saysTick T.R1 = refused R1 []
-
-abbrev pub saysSet : SetAnswer → Answer (Unit {0})
-saysSet S.Taken = done tt
-saysSet S.R3 = refused R3 []
-saysSet (S.R2 row) = refused R2 (row ∷ [])
-
-abbrev pub saysReset : ResetAnswer → Answer (Unit {0})
-saysReset C.Done = done tt
-saysReset C.R3 = refused R3 []
 
 abbrev pub saysRestart : RestartAnswer → Answer (Unit {0})
 saysRestart N.Done = done tt
@@ -69,12 +48,6 @@ saysReply (P.R3 place) = refused R3 (place ∷ [])
 saysReply (P.R4 place) = refused R4 (place ∷ [])
 saysReply (P.R8 place) = refused R8 (place ∷ [])
 
--- the reply's length; R17 and R8 have no place
-abbrev pub saysPoll : PollAnswer → Answer ℕ
-saysPoll (M.Sent len) = done len
-saysPoll M.R17 = refused R17 []
-saysPoll M.R8 = refused R8 []
-
 -- ---- the contracts: the next controller, the answer and the lent memory are the rule's, and the next controller is sound
 
 pub record Ticks (c : Controller) (sample : ℤ) (inputs : ℕ) (r : Ticked) : Type 0 where
@@ -84,23 +57,6 @@ pub record Ticks (c : Controller) (sample : ℤ) (inputs : ℕ) (r : Ticked) : T
 
 abbrev pub Freshens : Controller → Type 0
 Freshens r = Made freshOf r
-
-abbrev pub Links : Controller → Bool → Controller → Type 0
-Links c on r = Made (linkOf c on) r
-
--- A call of its own answers count and total at any time
-abbrev pub Counted : Controller → Counters → Type 0
-Counted c r = r ≡ c .counters
-
-pub record Sets (c : Controller) (set : Settings) (r : Configured) : Type 0 where
-  pub next : r .next ≡ settingsOf c set .next
-  pub says : saysSet (r .answer) ≡ settingsOf c set .answer
-  pub sound : Sound (r .next)
-
-pub record Resets (c : Controller) (r : Cleared) : Type 0 where
-  pub next : r .next ≡ resetOf c .next
-  pub says : saysReset (r .answer) ≡ resetOf c .answer
-  pub sound : Sound (r .next)
 
 -- nothing but that it is done
 abbrev pub noValue : Controller → Unit {0}
@@ -122,9 +78,4 @@ pub record Replies (c : Controller) (s old new : List ℕ) (r : Requested) : Typ
   pub next : r .next ≡ requestOf c s (length old) .next
   pub says : saysReply (r .answer) ≡ told placeAndLength (requestOf c s (length old) .answer)
   pub left : new ≡ leaves (told bytesOf (requestOf c s (length old) .answer)) old
-  pub sound : Sound (r .next)
-
-pub record Polls (c : Controller) (frame old new : List ℕ) (r : Polled) : Type 0 where
-  pub next : r .next ≡ modbusOf c frame (length old) .next
-  pub fills : Fills (saysPoll (r .answer)) (modbusOf c frame (length old) .answer) old new
   pub sound : Sound (r .next)

@@ -3,6 +3,7 @@ use mathlib.Core.Bool.{Bool, false}
 use Prim.Native.Nat.{ℕ}
 use lib.IntN.{pos}
 use Rattle.settings.specs.declared.Settings.{Settings}
+use Rattle.settings.specs.Table.{defaultSet}
 use Rattle.window.specs.declared.Window.{Window}
 use Rattle.window.specs.Window.{emptyWindow}
 use Rattle.dosing.specs.declared.Units.{Units}
@@ -37,6 +38,10 @@ restarted set count total =
       counters = counters count total;
       unstarted = false;
     }
+
+-- A fresh controller is a restart with both at 0 and a default set
+unfoldable pub freshOf : Controller
+freshOf = restarted defaultSet 0 0
 
 -- ---- one setter a field
 

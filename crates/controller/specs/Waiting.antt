@@ -1,5 +1,5 @@
 -- What a tick that began and ended in Ready with start off tells, and that start on does not leave it there. Assumes nothing.
-use mathlib.Core.Path.{_≡_, refl, sym, ap, _∙_}
+use mathlib.Core.Path.{_≡_, refl, sym, _∙_}
 use mathlib.Core.Bool.{Bool, true, false, not, _&&_}
 use Prim.Native.Nat.{ℕ}
 use native.Mathlib.Omega.{arith}
@@ -11,7 +11,7 @@ use Rattle.laws.specs.Pick.{pick-if}
 use Rattle.laws.specs.Whole.{false-true, true-false}
 use Rattle.laws.specs.Bools.{and-left, and-right}
 use Rattle.settings.specs.declared.Settings.{Settings}
-use Rattle.dosing.specs.Rules.{shut, to, stepOf, ready, readyToFill, readyToDose, waits}
+use Rattle.dosing.specs.Rules.{stepOf, ready, readyToFill, readyToDose, waits}
 use Rattle.dosing.specs.declared.Phase.{Phase}
 use Rattle.dosing.specs.declared.Phase.the-variants.{Ready}
 use Rattle.dosing.specs.declared.Seen.{Seen}

@@ -1,7 +1,6 @@
-// The controller: fresh, restarted, tick, link start, settings, counter reset, counters, line request, MODBUS frame.
+// The controller: fresh, restarted, tick and line request.
 mod line;
-mod panel;
-mod setup;
+mod restart;
 mod tick;
 
 use channels::Runs;
@@ -12,8 +11,7 @@ use dosing::Phase;
 use dosing::Units;
 use settings::Settings;
 use window::Window;
-ghost use mathlib.Core.Path.{_≡_};
-ghost use Rattle.controller.specs.Calls.{readyIn};
+ghost use Rattle.controller.specs.Ready.{TellsReady};
 
 // F14 names its channel.
 pub enum Fault {
@@ -68,31 +66,6 @@ pub struct Ticked {
     pub answer: TickAnswer,
 }
 
-// What new settings answer; R2 names the row.
-pub enum SetAnswer {
-    Taken,
-    R3,
-    R2(u32),
-}
-
-// The controller after new settings, and the answer.
-pub struct Configured {
-    pub next: Controller,
-    pub answer: SetAnswer,
-}
-
-// What a counter reset answers.
-pub enum ResetAnswer {
-    Done,
-    R3,
-}
-
-// The controller after a counter reset, and the answer.
-pub struct Cleared {
-    pub next: Controller,
-    pub answer: ResetAnswer,
-}
-
 // What a restart answers; R2 names the row.
 pub enum RestartAnswer {
     Done,
@@ -124,22 +97,9 @@ pub struct Requested {
     pub answer: RequestAnswer,
 }
 
-// What a MODBUS frame answers: the reply's length, 0 where there is none, or a refusal.
-pub enum PollAnswer {
-    Sent(usize),
-    R17,
-    R8,
-}
-
-// The controller after a MODBUS frame, and the answer.
-pub struct Polled {
-    pub next: Controller,
-    pub answer: PollAnswer,
-}
-
 // The phase is Ready, and there is no fault.
-fn is_ready(condition: Condition, phase: Phase) -> bool
-    ensures { λ r. ⌜ r ≡ readyIn condition phase ⌝ }
+pub fn is_ready(condition: Condition, phase: Phase) -> bool
+    ensures { λ r. ⌜ TellsReady condition phase r ⌝ }
 {
     let Condition::Clear = condition else {
         return false;

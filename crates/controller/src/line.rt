@@ -13,7 +13,7 @@ use asking::Zeroing;
 use dosing::Units;
 ghost use mathlib.Core.Path.{_≡_};
 ghost use Rattle.controller.specs.State.{withZ};
-ghost use Rattle.controller.specs.Calls.{isReady};
+ghost use Rattle.controller.specs.Ready.{isReady};
 ghost use Rattle.controller.specs.Line.{timely};
 ghost use Rattle.controller.specs.Sound.{Sound};
 ghost use Rattle.controller.specs.Says.{Replies};
@@ -44,7 +44,10 @@ impl Controller {
         };
         let window = self.window;
         let held = window.held;
-        let timely = is_timely(self, operation);
+        // C0 wants Ready; no other request does.
+        let condition = self.condition;
+        let phase = self.phase;
+        let timely = (operation != asking::C0) | is_ready(condition, phase);
         let zero = readout::zero_of(operation, self.set, &window.samples, held, self.z);
         let Timed::Allowed = asking::ready_stage(place, timely) else {
             return refused(self, RequestAnswer::R3(place));
@@ -79,18 +82,9 @@ fn refused(c: Controller, answer: RequestAnswer) -> Requested
 }
 
 // A request that is answered sets Z at most.
-fn zeroed(c: Controller, z: Units, answer: RequestAnswer) -> Requested
+fn zeroed(mut c: Controller, z: Units, answer: RequestAnswer) -> Requested
     ensures { λ r. ⌜ (r .next ≡ withZ z c) × (r .answer ≡ answer) ⌝ }
 {
-    let next = Controller { z, ..c };
-    Requested { next, answer }
-}
-
-// C0 wants Ready; no other request does.
-fn is_timely(c: Controller, operation: u8) -> bool
-    ensures { λ r. ⌜ r ≡ timely operation (isReady c) ⌝ }
-{
-    let condition = c.condition;
-    let phase = c.phase;
-    (operation != asking::C0) | is_ready(condition, phase)
+    c.z = z;
+    Requested { next: c, answer }
 }

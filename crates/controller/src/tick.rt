@@ -43,8 +43,9 @@ impl Controller {
             };
         }
         let x = Units { v: sample };
+        // Step 3: the inputs are kept, a sample outside -900,000..900,000 is not.
         if scale::is_outside(x) {
-            return outside(self, inputs);
+            return faulted(Fault::F21, kept(self, inputs));
         }
         steps4to8(self, x, inputs)
     }
@@ -79,13 +80,6 @@ fn kept(mut c: Controller, inputs: u8) -> Controller
     c.inputs = inputs;
     c.unstarted = false;
     c
-}
-
-// Step 3 on a sample outside -900,000..900,000: the inputs are kept, the sample is not, F21.
-fn outside(c: Controller, inputs: u8) -> Ticked
-    ensures { λ r. ⌜ Gives (faulted Fault.F21 (withUnstarted false (withInputs inputs c))) r ⌝ }
-{
-    faulted(Fault::F21, kept(c, inputs))
 }
 
 // The outputs, with the dose record if one completed.

@@ -13,7 +13,7 @@ use Rattle.hourly.specs.declared.Products.the-variants.{All}
 use Rattle.hourly.specs.Hours.{measuredOrIdle, hourOf}
 use Rattle.holes.specs.HoleLaws.{Exactly}
 use Rattle.counters.specs.declared.Record.{Record}
-use Rattle.controller.specs.Calls.{freshOf}
+use Rattle.controller.specs.State.{freshOf}
 use Rattle.series.specs.Events.{Event, run, handsBack, records}
 use Rattle.series.specs.Lines.{hourWith}
 use Rattle.series.specs.Products.{asked-all}

@@ -9,14 +9,16 @@ use Rattle.paper.specs.Answer.{Answer, done, refused}
 use Rattle.paper.specs.Numbers.{R19, F14, F21}
 use Rattle.settings.specs.declared.Settings.{Settings}
 use Rattle.settings.specs.Cases.{setOf}
-use Rattle.controller.specs.Calls.{restartOf, controllerIn, settingsOf, resetOf, linkOf}
-use Rattle.controller.specs.Cases.{ticked, rules}
+use Rattle.controller.specs.Restart.{restartOf, controllerIn}
+use Rattle.setup.specs.Setup.{settingsOf, resetOf, linkOf}
+use Rattle.controller.specs.Cases.{ticked}
+use Rattle.setup.specs.Cases.{orders}
 use Rattle.controller.specs.declared.Controller.{Controller}
 use Rattle.reasons.specs.Reasons.{ready, fill, settle, discharge, load, calm, dose, Cause, isOpen, inFault, unused, noStart, settling, leadReached, inPhase, overload, noAlarm, openAt, faultCause, faultOr, unusedAt, unstartedAt, settlingOr, leadOr, nameOf, phaseCause, gateBy, gateCause, alarmCause, noOutput, whyOf}
 
 -- to unfold this is to unfold the reasons and every rule of the box
 unfoldable whole : Unit {0}
-unfolding rules controllerIn openAt faultCause faultOr unusedAt unstartedAt settlingOr leadOr nameOf phaseCause gateBy gateCause alarmCause noOutput whyOf
+unfolding orders controllerIn openAt faultCause faultOr unusedAt unstartedAt settlingOr leadOr nameOf phaseCause gateBy gateCause alarmCause noOutput whyOf
 whole = tt
 
 -- an algorithm with its M: C 1,000, D 500, Pc 100, Pf 20, p7 and p8 4, p9 1, levels 1

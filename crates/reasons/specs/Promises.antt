@@ -25,7 +25,7 @@ use Rattle.scale.specs.Scale.{stableOf, none, calmByMean, equalZ}
 use Rattle.controller.specs.State.{withF, withS}
 use Rattle.stepping.specs.Stepping.{atReady, unstartedOf}
 use Rattle.controller.specs.Tick.{Result, Told, seenOf, step7, step8, tickOf}
-use Rattle.controller.specs.Calls.{linkOf}
+use Rattle.setup.specs.Setup.{linkOf}
 use Rattle.controller.specs.Sound.{Sound, Waited}
 use Rattle.controller.specs.Bounds.{at-ready}
 use Rattle.controller.specs.Keeps.{tick-sound}

@@ -20,7 +20,7 @@ use Rattle.channels.specs.declared.Runs.{Runs}
 use Rattle.scale.specs.Scale.{outside, filtered, filterOf, none, calmByMean}
 use Rattle.controller.specs.State.{withWindow, withF, withS, withRuns, withInputs, withUnstarted}
 use Rattle.controller.specs.Tick.{Result, Told, faulted, mismatched, step7, steps6to8, steps4and5, step3, step2, tickOf}
-use Rattle.controller.specs.Calls.{linkOf}
+use Rattle.setup.specs.Setup.{linkOf}
 use Rattle.controller.specs.Bounds.{clear-faulted}
 use Rattle.controller.specs.declared.Controller.{Controller}
 use Rattle.controller.specs.declared.Condition.{Condition}

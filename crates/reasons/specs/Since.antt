@@ -22,11 +22,12 @@ use Rattle.counters.specs.Counters.{counters}
 use Rattle.controller.specs.State.{withZ, withCounters}
 use Rattle.stepping.specs.Stepping.{atReady, unstartedOf}
 use Rattle.controller.specs.Tick.{Result, Told, wOf, step7, step8, tickOf}
-use Rattle.controller.specs.Calls.{readyIn, isReady, after, taken, settingsOf, resetAnswer, resetOf, linkOf}
+use Rattle.controller.specs.Ready.{readyIn, isReady}
+use Rattle.setup.specs.Setup.{after, taken, settingsOf, resetAnswer, resetOf, linkOf}
 use Rattle.readout.specs.Readout.{zeroable}
 use Rattle.controller.specs.Line.{Replied, askedOf, zeroedBy, replied, repliesTo, requestOf}
-use Rattle.controller.specs.Modbus.{modbusOf}
-use Rattle.controller.specs.ModbusLaws.{modbus-only}
+use Rattle.panel.specs.Modbus.{modbusOf}
+use Rattle.panel.specs.Laws.{modbus-only}
 use Rattle.controller.specs.Sound.{Sound, Waited}
 use Rattle.controller.specs.Bounds.{clear-faulted, ready-is}
 use Rattle.controller.specs.Keeps.{tick-sound, asked-zero}

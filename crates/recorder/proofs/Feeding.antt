@@ -118,6 +118,9 @@ feeding-none {input} {old} r i k =
     }
 
 module _ {r₀ : Recorder} {i₀ : Intake} {input old new : List ℕ} {r : Recorder} {i : Intake} {len : ℕ} (w : Feeding r₀ i₀ input old new r i len) where
+  pub inside : len ≤ length new
+  inside = omega (arith, w .room, w .long)
+
   -- where nothing more is noted the text so far is all
   ends : (j : Intake) → feedFrom (suc (w .fuel)) (length old - len) r i input ≡ gave r j [] → Feeds r₀ i₀ input old new (record { next = r; intake = j; len = len })
   unfolding ahead

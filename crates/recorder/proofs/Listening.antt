@@ -14,21 +14,25 @@ use Rattle.controller.specs.declared.Ticked.{Ticked}
 use Rattle.controller.specs.declared.Fault.{Fault}
 use Rattle.controller.specs.declared.Fault.the-variants as F
 use Rattle.controller.specs.Sound.{Sound}
-use Rattle.controller.specs.Says.{saysTick, Ticks}
+use Rattle.controller.specs.declared.RestartAnswer.{RestartAnswer}
+use Rattle.controller.specs.declared.RestartAnswer.the-variants as N
+use Rattle.controller.proofs.RestartAnswer.{the-type as restart-type}
+use Rattle.controller.specs.Says.{saysTick, saysRestart, Ticks}
 use Rattle.controller.specs.Tick.{saysFault}
 use Rattle.laws.specs.Decimal.{good}
 use Rattle.calls.specs.Call.{tick, callOf}
-use Rattle.calls.specs.Reads.{asCall, ReadsCall, read-call}
+use Rattle.calls.specs.Reads.{asCall, Unticked, ReadsCall}
 use Rattle.calls.specs.declared.Call as read
 use Rattle.acts.specs.Acts.{madeBy, saidTo}
 use Rattle.acts.specs.Makes.{saysAct, Acts}
+use Rattle.acts.specs.Hears.{heardIn, heard-as}
 use Rattle.acts.specs.Script.{made-tick}
 use Rattle.acts.specs.declared.Acted.{Acted}
 use Rattle.acts.specs.declared.Answer as acts
 use Rattle.acts.specs.declared.Answer.the-variants as A
 use Rattle.acts.proofs.Answer.{the-type as answer-type}
 use Rattle.clock.specs.Clock.{note, heardBy, passedBy}
-use Rattle.clock.specs.Marking.{Writable, Writes, writes-as, Marks}
+use Rattle.clock.specs.Marking.{Writable, Writes, writes-as, Opens, Marks}
 use Rattle.clock.specs.Keeps.{fitted-is, does-writes, heard-passed}
 use Rattle.clock.specs.declared.Heard.{Heard}
 use Rattle.clock.specs.declared.Heard.the-variants as H
@@ -37,8 +41,8 @@ use Rattle.clock.specs.declared.Stage.the-variants.{First, Recording, Over}
 use Rattle.clock.specs.declared.Clock.{Clock}
 use Rattle.clock.specs.declared.Marked.{Marked}
 use Rattle.clock.proofs.Stage.{the-type as stage-type}
-use Rattle.recorder.specs.Recording.{heardTick, heardSaid, heardOf, with, noteBy, noteOf, boxBy}
-use Rattle.recorder.specs.Noting.{Hears, Unheard, before, after}
+use Rattle.recorder.specs.Recording.{heardTick, heardRestart, heardSaid, heardOf, with, noteBy, noteOf, boxBy}
+use Rattle.recorder.specs.Noting.{Hears}
 use Rattle.recorder.specs.Keeps.{heard-writable}
 
 -- a tick in a fault is counted
@@ -46,6 +50,13 @@ pub fault-heard : (f : Fault) → heardTick (saysFault f) ≡ H.Ticked
 unfolding heardTick saysFault
 fault-heard (F.F14 channel) = refl
 fault-heard F.F21 = refl
+
+-- a refused restart changes nothing
+pub refused-heard : (a : RestartAnswer) → OneOf (1 ∷ 2 ∷ []) (tagOf restart-type a) → H.Other ≡ heardRestart (saysRestart a)
+unfolding heardRestart
+refused-heard N.Done h = absurd (miss (1 ∷ 2 ∷ []) 0 tt h)
+refused-heard (N.R2 row) h = refl
+refused-heard N.R15 h = refl
 
 -- an answer that is neither a restart's nor that the line is no call
 abbrev others : List ℕ
@@ -65,21 +76,28 @@ other-answer A.Unknown h = absurd (miss others 8 tt h)
 
 -- ---- a line before or after recording
 
-pub unheard : (s : Stage) → OneOf (0 ∷ 2 ∷ []) (tagOf stage-type s) → Unheard s
-unheard First h = before
-unheard Recording h = absurd (miss (0 ∷ 2 ∷ []) 1 tt h)
-unheard Over h = after
+-- after it where it is not the first
+pub is-over : {s : Stage} → OneOf (0 ∷ 2 ∷ []) (tagOf stage-type s) → OneOf (1 ∷ 2 ∷ []) (tagOf stage-type s) → s ≡ Over
+is-over {s = First} h g = absurd (miss (1 ∷ 2 ∷ []) 0 tt g)
+is-over {s = Recording} h g = absurd (miss (0 ∷ 2 ∷ []) 1 tt h)
+is-over {s = Over} h g = refl
 
--- that is not the first comes after
-pub not-first : {s : Stage} → Unheard s → OneOf (1 ∷ 2 ∷ []) (tagOf stage-type s) → s ≡ Over
-not-first before h = absurd (miss (1 ∷ 2 ∷ []) 0 tt h)
-not-first after h = refl
+module _ (c : Controller) (k : Clock) (l : List ℕ) where
+  pub first-box : k .stage ≡ First → c ≡ boxBy (k .stage) c l
+  unfolding boxBy
+  first-box e = sym (ap (λ (s : Stage). boxBy s c l) e)
 
--- leaves the box
-pub unheard-box : {s : Stage} (c : Controller) (l : List ℕ) → Unheard s → c ≡ boxBy s c l
-unfolding boxBy
-unheard-box c l before = refl
-unheard-box c l after = refl
+  pub first-writes : k .stage ≡ First → {old new : List ℕ} {m : Marked} → 64 ≤ length old → Opens k l old new m → Writes (noteOf (with c k) l) old new m
+  unfolding noteOf noteBy
+  first-writes e room m = writes-as (ap (λ (s : Stage). noteBy s (with c k) l) e) (does-writes room refl m)
+
+  pub over-box : k .stage ≡ Over → c ≡ boxBy (k .stage) c l
+  unfolding boxBy
+  over-box e = sym (ap (λ (s : Stage). boxBy s c l) e)
+
+  pub over-note : k .stage ≡ Over → noteOf (with c k) l ≡ note k []
+  unfolding noteOf noteBy
+  over-note e = ap (λ (s : Stage). noteBy s (with c k) l) e
 
 -- ---- a line that is heard
 
@@ -96,11 +114,11 @@ sighted-heard {c = c} {i = i} r call fits told e =
     record { box = made-tick [] r t .next ∙ ap (madeBy c) (sym call); heard = e ∙ ap heardTick (t .says) ∙ ap (heardOf c) (sym call) }
 
 -- any other call
-pub other-heard : {l old new : List ℕ} {c : Controller} {h : Heard} {call : read.Call} {r : Acted} → 2048 ≤ length old → length l ≤ 4095 → ReadsCall l old new call
-    → Acts c (asCall new call) r → Hears (r .answer) h → Heard-as c l (r .next) h
+pub other-heard : {l old new : List ℕ} {c : Controller} {h : Heard} {call : read.Call} {r : Acted} → asCall new call ≡ callOf l → Unticked call → ReadsCall l old new call
+    → Acts c (heardIn new call) r → Hears (r .answer) h → Heard-as c l (r .next) h
 unfolding heardOf
-other-heard {c = c} room short p a e =
-    let call = read-call p room short in
+other-heard {new = new} {c} {call = read} is other p a e =
+    let call = heard-as new read other (p .within) ∙ is in
     record { box = a .made .next ∙ ap (madeBy c) call; heard = e .is ∙ ap heardSaid (a .says ∙ ap (saidTo c) call) }
 
 -- and what it adds while recording

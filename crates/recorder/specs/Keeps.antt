@@ -19,7 +19,7 @@ use Rattle.calls.specs.declared.Order.the-variants as O
 use Rattle.acts.specs.Acts.{eventsIn, madeBy, saidOf, saidTo}
 use Rattle.clock.specs.Clock.{Runs}
 use Rattle.clock.specs.Marking.{fitsLine, Writable}
-use Rattle.clock.specs.Keeps.{recordable-writable, start-runs, first-runs, heard-runs, Uncounted, restarted, other}
+use Rattle.clock.specs.Keeps.{recordable-writable, start-runs, first-runs, heard-runs}
 use Rattle.recorder.specs.Recording.{heardDoses, heardTick, heardRestart, heardSaid, heardOf, noteBy, noteOf, boxBy, nextOf, startOf, Carries}
 use Rattle.clock.specs.declared.Stage.{Stage}
 use Rattle.clock.specs.declared.Stage.the-variants.{First, Recording, Over}
@@ -61,13 +61,6 @@ unfolding heardRestart fitsLine
 restart-writable (done x) = refl
 restart-writable (refused n vs) = refl
 restart-writable (fault n vs) = refl
-
--- and a restart's answer is no counted tick
-pub restart-uncounted : (a : Answer (Unit {0})) → Uncounted (heardRestart a)
-unfolding heardRestart
-restart-uncounted (done x) = restarted
-restart-uncounted (refused n vs) = other
-restart-uncounted (fault n vs) = other
 
 order-writable : (c : Controller) (o : Order) → Writable (heardSaid (saidOf c o))
 unfolding heardSaid saidOf fitsLine

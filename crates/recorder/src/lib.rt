@@ -2,7 +2,6 @@
 use acts::Answer;
 use clock::Clock;
 use clock::Heard;
-use clock::Marked;
 use clock::Stage;
 use controller::Controller;
 use controller::RestartAnswer;
@@ -11,12 +10,10 @@ use lines::Intake;
 use lines::Next;
 use script::Sighted;
 ghost use mathlib.Core.Path.{_≡_};
-ghost use Prim.Native.Nat.{_-_, _≤_};
-ghost use lib.ListN.{length, replicate};
-ghost use Rattle.controller.specs.Says.{saysTick, saysRestart};
-ghost use Rattle.clock.specs.Clock.{Runs};
-ghost use Rattle.recorder.specs.Recording.{heardTick, heardRestart, Carries};
-ghost use Rattle.recorder.specs.Noting.{Starts, Hears, Unheard, Skips};
+ghost use lib.ListN.{length};
+ghost use Rattle.controller.specs.Says.{saysTick};
+ghost use Rattle.recorder.specs.Recording.{heardTick, Carries};
+ghost use Rattle.recorder.specs.Noting.{Starts, Hears};
 ghost use Rattle.recorder.specs.Feed.{Feeds};
 
 // What is carried from line to line.
@@ -47,48 +44,45 @@ fn heard_tick(answer: TickAnswer) -> Heard
     }
 }
 
-// A refused restart changes nothing.
-fn heard_restart(answer: RestartAnswer) -> Heard
-    ensures { λ r. ⌜ r ≡ heardRestart (saysRestart answer) ⌝ }
-{
-    match answer {
-        RestartAnswer::Done => Heard::Restarted,
-        RestartAnswer::R2(_) => Heard::Other,
-        RestartAnswer::R15 => Heard::Other,
-    }
-}
-
-// What a call other than a tick was, by its answer.
+// What a call other than a tick was, by its answer: a refused restart changes nothing.
 fn by_answer(answer: Answer) -> Heard
     ensures { λ r. ⌜ Hears answer r ⌝ }
 {
     match answer {
-        Answer::Restart(restart) => heard_restart(restart),
+        Answer::Restart(restart) => match restart {
+            RestartAnswer::Done => Heard::Restarted,
+            _ => Heard::Other,
+        },
         Answer::Unknown => Heard::Lost,
         _ => Heard::Other,
     }
 }
 
-// A line before or after recording.
-fn unheard(k: Clock, line: &[u8], out: &mut [u8]) -> Marked
-    requires runs { ⌜ Runs k ⌝ }
-    requires unheard { ⌜ Unheard (k .stage) ⌝ }
-    requires room { ⌜ 64 ≤ length (now out) ⌝ }
-    ensures { λ m. ⌜ Skips k (now (line .entry)) (now (out .entry)) (now (out .exit)) m ⌝ }
+// Bytes for those of a line.
+fn no_bytes() -> [u8; 2048]
+    ensures { λ r. ⌜ 2048 ≡ length r ⌝ }
 {
-    let stage = k.stage;
-    match stage {
-        Stage::First => k.first(line, out),
-        _ => Marked { next: k, len: 0 },
+    [0u8; 2048]
+}
+
+impl Recorder {
+    // Before the first line: a fresh controller.
+    pub fn start() -> Recorder
+        ensures { λ r. ⌜ Starts r ⌝ }
+    {
+        Recorder {
+            controller: Controller::fresh(),
+            clock: Clock::start(),
+        }
     }
 }
 
-// Line after line, with a buffer for the bytes of a line.
-fn feed_with(r: Recorder, intake: Intake, input: &[u8], bytes: &mut [u8], out: &mut [u8]) -> Fed
-    requires carries { ⌜ Carries r ⌝ }
-    requires room { ⌜ 2048 ≤ length (now bytes) ⌝ }
+// Notes line after line of a buffer, while 64 bytes of room are left.
+pub fn feed(r: Recorder, intake: Intake, input: &[u8], out: &mut [u8]) -> Fed
+    requires { ⌜ Carries r ⌝ }
     ensures { λ f. ⌜ Feeds r intake (now (input .entry)) (now (out .entry)) (now (out .exit)) f ⌝ }
 {
+    let mut bytes = no_bytes();
     let mut c = r.controller;
     let mut k = r.clock;
     let mut at = intake;
@@ -100,16 +94,12 @@ fn feed_with(r: Recorder, intake: Intake, input: &[u8], bytes: &mut [u8], out: &
             at = taken.intake;
             let next = taken.next;
             let Next::Line { from, to } = next else {
-                return Fed {
-                    next: Recorder {
-                        controller: c,
-                        clock: k,
-                    },
-                    intake: at,
-                    len,
-                };
+                break;
             };
-            let marked = unheard(k, &input[from..to], &mut out[len..]);
+            let Stage::First = stage else {
+                continue;
+            };
+            let marked = k.first(&input[from..to], &mut out[len..]);
             k = marked.next;
             len += marked.len;
             continue;
@@ -147,8 +137,8 @@ fn feed_with(r: Recorder, intake: Intake, input: &[u8], bytes: &mut [u8], out: &
                 len,
             };
         };
-        let call = calls::read(&input[from..to], bytes);
-        let acted = acts::other(c, call, bytes);
+        let call = calls::read(&input[from..to], &mut bytes);
+        let acted = acts::other(c, call, &bytes);
         c = acted.next;
         let answer = acted.answer;
         k = k.passed(by_answer(answer));
@@ -161,32 +151,4 @@ fn feed_with(r: Recorder, intake: Intake, input: &[u8], bytes: &mut [u8], out: &
         intake: at,
         len,
     }
-}
-
-// Bytes for those of a line.
-fn no_bytes() -> [u8; 2048]
-    ensures { λ r. ⌜ r ≡ replicate 2048 0 ⌝ }
-{
-    [0u8; 2048]
-}
-
-impl Recorder {
-    // Before the first line: a fresh controller.
-    pub fn start() -> Recorder
-        ensures { λ r. ⌜ Starts r ⌝ }
-    {
-        Recorder {
-            controller: Controller::fresh(),
-            clock: Clock::start(),
-        }
-    }
-}
-
-// Notes line after line of a buffer, while 64 bytes of room are left.
-pub fn feed(r: Recorder, intake: Intake, input: &[u8], out: &mut [u8]) -> Fed
-    requires { ⌜ Carries r ⌝ }
-    ensures { λ f. ⌜ Feeds r intake (now (input .entry)) (now (out .entry)) (now (out .exit)) f ⌝ }
-{
-    let mut bytes = no_bytes();
-    feed_with(r, intake, input, &mut bytes, out)
 }

@@ -53,12 +53,10 @@ struct Reached {
 }
 
 // Answers the ticks that stand next, behind the first `at` bytes of `out`.
-fn ticks(old: Controller, intake: Intake, input: &[u8], out: &mut [u8], at: usize) -> Reached
-    requires { ⌜ Sound old ⌝ }
-    ensures { λ r. ⌜ Reaches old intake (now (input .entry)) r ⌝ }
+fn ticks(mut c: Controller, mut held: Intake, input: &[u8], out: &mut [u8], at: usize) -> Reached
+    requires { ⌜ Sound c ⌝ }
+    ensures { λ r. ⌜ Reaches c held (now (input .entry)) r ⌝ }
 {
-    let mut c = old;
-    let mut held = intake;
     let mut len = with_room(out, at);
     loop {
         let sighted = script::tick_next(held, input);
@@ -88,29 +86,25 @@ fn ticks(old: Controller, intake: Intake, input: &[u8], out: &mut [u8], at: usiz
     }
 }
 
-// Answers the whole lines of what is held, behind the first `at` bytes of `out`, up to one that is no tick and no line request.
+// Answers the whole lines of what is held, behind the first `len` bytes of `out`, up to one that is no tick and no line request.
 pub fn answer(
-    old: Controller,
-    intake: Intake,
+    mut c: Controller,
+    mut held: Intake,
     input: &[u8],
     bytes: &mut [u8],
     spare: &mut [u8],
     out: &mut [u8],
-    at: usize,
+    mut len: usize,
 ) -> Run
-    requires sound { ⌜ Sound old ⌝ }
+    requires sound { ⌜ Sound c ⌝ }
     requires room { ⌜ (2048 ≤ length (now bytes)) × (64 ≤ length (now spare)) ⌝ }
-    ensures { λ r. ⌜ Ran old intake (now (input .entry)) (now (bytes .exit)) r ⌝ }
+    ensures { λ r. ⌜ Ran c held (now (input .entry)) (now (bytes .exit)) r ⌝ }
 {
-    let mut c = old;
-    let mut held = intake;
-    let mut len = at;
     loop {
         let reached = ticks(c, held, input, out, len);
         c = reached.controller;
         len = reached.len;
-        let waiting = reached.intake;
-        let taken = waiting.next_line(input);
+        let taken = reached.intake.next_line(input);
         let next = taken.next;
         held = taken.intake;
         let Next::Line { from, to } = next else {

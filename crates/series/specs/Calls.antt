@@ -13,15 +13,19 @@ use Rattle.controller.specs.declared.Controller.{Controller}
 use Rattle.counters.specs.declared.Counters.{Counters}
 use Rattle.controller.specs.declared.Ticked.{Ticked}
 use Rattle.controller.specs.declared.Requested.{Requested}
-use Rattle.controller.specs.declared.Polled.{Polled}
-use Rattle.controller.specs.declared.Configured.{Configured}
-use Rattle.controller.specs.declared.Cleared.{Cleared}
+use Rattle.panel.specs.declared.Polled.{Polled}
+use Rattle.setup.specs.declared.Configured.{Configured}
+use Rattle.setup.specs.declared.Cleared.{Cleared}
 use Rattle.controller.specs.declared.Restarted.{Restarted}
-use Rattle.controller.specs.Calls.{restartOf, controllerIn, freshOf, linkOf, restartedFrom}
-use Rattle.controller.specs.Says.{saysRestart, Ticks, Sets, Resets, Restarts, Replies, Polls}
+use Rattle.controller.specs.Restart.{restartOf, controllerIn, restartedFrom}
+use Rattle.setup.specs.Setup.{linkOf}
+use Rattle.controller.specs.State.{freshOf}
+use Rattle.controller.specs.Says.{saysRestart, Restarts, Ticks, Replies}
+use Rattle.setup.specs.Says.{Sets, Resets}
+use Rattle.panel.specs.Says.{Polls}
 use Rattle.controller.specs.Made.{Made}
-use Rattle.controller.specs.Modbus.{modbusOf}
-use Rattle.controller.specs.ModbusLaws.{modbus-only, modbus-sets}
+use Rattle.panel.specs.Modbus.{modbusOf}
+use Rattle.panel.specs.Laws.{modbus-only, modbus-sets}
 use Rattle.modbus.specs.Asks.{heard, hearOf}
 use Rattle.modbus.specs.Asks as asks
 use Rattle.paper.specs.AnswerLaws.{refused-done, fault-done}

@@ -13,9 +13,11 @@ use Rattle.counters.specs.declared.Counters.{Counters}
 use Rattle.counters.specs.declared.Record.{Record}
 use Rattle.counters.specs.Counters.{counters}
 use Rattle.controller.specs.Tick.{Told, tickOf}
-use Rattle.controller.specs.Calls.{restartOf, settingsOf, resetOf, linkOf, isReady, restartedFrom}
+use Rattle.controller.specs.Restart.{restartOf, restartedFrom}
+use Rattle.setup.specs.Setup.{settingsOf, resetOf, linkOf}
+use Rattle.controller.specs.Ready.{isReady}
 use Rattle.controller.specs.Line.{requestOf}
-use Rattle.controller.specs.Modbus.{modbusOf}
+use Rattle.panel.specs.Modbus.{modbusOf}
 use Rattle.controller.specs.Outside.{Noted, noted, wAt, dosesSeen}
 
 -- an event for each kind of call: a tick with its sample and inputs, a link start set or cleared, a line request with the bytes offered and the reply buffer,

@@ -17,16 +17,17 @@ use Rattle.journal.specs.Order.{Follows}
 use Rattle.settings.specs.declared.Settings.{Settings}
 use Rattle.settings.specs.Cases.{setOf}
 use Rattle.counters.specs.declared.Record.{Record}
-use Rattle.controller.specs.Calls.{freshOf, restartedFrom}
+use Rattle.controller.specs.State.{freshOf}
+use Rattle.controller.specs.Restart.{restartedFrom}
 use Rattle.controller.specs.Outside.{wAt, clear, inDoseSettle, shuts3, leavesSettle, completes, begins, opens3, noted, amountSeen, dosesSeen}
-use Rattle.controller.specs.Cases.{rules}
+use Rattle.setup.specs.Cases.{orders}
 use Rattle.series.specs.Events.{Event, tick, link, settings, restart, eventOf, sightOf, givenBy, countingAt, nothingSeen, countedFrom, withSight, seenAfter, seen, handedBack, handsBack, recordsIn, recordsAt, records}
 use Rattle.series.specs.Statement.{allDosesAfter}
 use Rattle.series.specs.Lines.{Stamped, doseOf, lineFor, doseLines, JournalOf}
 
 -- to unfold this is to unfold what is seen of a series, and every rule of the box
 unfoldable whole : Unit {0}
-unfolding rules restartedFrom eventOf sightOf givenBy countingAt nothingSeen countedFrom withSight seenAfter seen handedBack handsBack recordsIn recordsAt records wAt clear inDoseSettle shuts3 leavesSettle completes begins opens3 noted amountSeen dosesSeen
+unfolding orders restartedFrom eventOf sightOf givenBy countingAt nothingSeen countedFrom withSight seenAfter seen handedBack handsBack recordsIn recordsAt records wAt clear inDoseSettle shuts3 leavesSettle completes begins opens3 noted amountSeen dosesSeen
 whole = tt
 
 -- n ticks with the sample x and the inputs i

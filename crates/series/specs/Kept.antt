@@ -20,14 +20,17 @@ use Rattle.counters.specs.declared.Record.{Record}
 use Rattle.counters.specs.Counters.{counters}
 use Rattle.controller.specs.State.{restarted}
 use Rattle.controller.specs.Tick.{Told, tickOf}
-use Rattle.controller.specs.Calls.{storedBad, restartOf, isReady, taken, after, settingsAnswer, settingsOf, resetAnswer, resetOf, linkOf, restartedFrom}
+use Rattle.controller.specs.Restart.{storedBad, restartOf, restartedFrom}
+use Rattle.setup.specs.Setup.{taken, after, settingsAnswer, settingsOf, resetAnswer, resetOf, linkOf}
+use Rattle.controller.specs.Ready.{isReady}
 use Rattle.controller.specs.Sound.{Sound}
-use Rattle.controller.specs.Keeps.{tick-sound, link-sound, request-sound, settings-sound, reset-sound, restart-sound}
-use Rattle.counters.specs.Laws.{AllRecordable}
-use Rattle.controller.specs.Promises.{tick-recordable, request-zero, settings-counters, restart-counters}
+use Rattle.controller.specs.Keeps.{tick-sound, request-sound, restart-sound}
+use Rattle.setup.specs.Keeps.{link-sound, settings-sound, reset-sound}
+use Rattle.counters.specs.Laws.{AllRecordable, countedIn, Tells}
+use Rattle.controller.specs.Promises.{tick-recordable, request-zero, restart-counters}
+use Rattle.setup.specs.Promises.{settings-counters}
 use Rattle.controller.specs.Outside.{Noted, Agrees}
-use Rattle.counters.specs.Laws.{countedIn, Tells}
-use Rattle.controller.specs.ModbusLaws.{modbus-sound, modbus-keeps}
+use Rattle.panel.specs.Laws.{modbus-sound, modbus-keeps}
 use Rattle.controller.specs.OutsideLaws.{Answers, tick-agrees, tick-counters, tick-records}
 use Rattle.series.specs.Events.{Event, tick, link, request, modbus, settings, reset, restart, eventOf, run, noNotes, Sight, unmoved, sightOf, Counting, goesOn, cleared, given, givenBy, countingAt, recordsIn, recordsAt}
 

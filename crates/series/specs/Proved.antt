@@ -16,7 +16,7 @@ use Rattle.controller.specs.declared.Condition.{Condition}
 use Rattle.controller.specs.declared.Condition.the-variants.{Clear, Faulted}
 use Rattle.scale.specs.Scale.{overCapacity}
 use Rattle.controller.specs.Tick.{Result, Told, tickOf}
-use Rattle.controller.specs.Calls.{freshOf}
+use Rattle.controller.specs.State.{freshOf}
 use Rattle.controller.specs.Sound.{Sound}
 use Rattle.controller.specs.Keeps.{tick-sound}
 use Rattle.controller.specs.Promises.{never-together, fault-unfilled, tick-unfilled}

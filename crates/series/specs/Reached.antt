@@ -9,8 +9,9 @@ use Rattle.dosing.specs.declared.Phase.the-variants.{Ready, Coarse, Fine, Hold,
 use Rattle.controller.specs.declared.Fault.the-variants as F
 use Rattle.controller.specs.declared.Condition.{Condition}
 use Rattle.controller.specs.declared.Condition.the-variants.{Clear, Faulted}
-use Rattle.controller.specs.Calls.{freshOf, restartedFrom}
-use Rattle.controller.specs.Cases.{rules}
+use Rattle.controller.specs.State.{freshOf}
+use Rattle.controller.specs.Restart.{restartedFrom}
+use Rattle.setup.specs.Cases.{orders}
 use Rattle.series.specs.Events.{Event, link, restart, eventOf, run}
 use Rattle.series.specs.Examples.{ticks}
 
@@ -79,12 +80,12 @@ pub every-phase :
     × (endOf (begun 1 50 ∷ ticks 1 0 8 ++ ticks 68 150 0) ≡ at 1 discharge')
     × (map endOf (doses 2) ≡ at 2 ready' ∷ at 2 load' ∷ at 2 calm' ∷ at 2 doseCoarse' ∷ at 2 doseFine' ∷ at 2 doseSettle' ∷ [])
     × (map endOf (doses 3) ≡ at 3 ready' ∷ at 3 load' ∷ at 3 calm' ∷ at 3 doseCoarse' ∷ at 3 doseFine' ∷ at 3 doseSettle' ∷ [])
-unfolding rules restartedFrom eventOf run endOf nameIn phaseName
+unfolding orders restartedFrom eventOf run endOf nameIn phaseName
 every-phase = (refl, refl, refl, refl, refl)
 
 -- both faults, in each algorithm that has them
 pub every-fault :
     (map endOf ((begun 1 50 ∷ ticks 64 0 1) ∷ (begun 2 200 ∷ ticks 64 500 2) ∷ (begun 3 200 ∷ ticks 64 500 4) ∷ []) ≡ at 1 (f14 1) ∷ at 2 (f14 2) ∷ at 3 (f14 3) ∷ [])
     × (map endOf ((begun 0 50 ∷ ticks 1 900001 0) ∷ (begun 1 50 ∷ ticks 1 900001 0) ∷ (begun 2 200 ∷ ticks 1 900001 0) ∷ (begun 3 200 ∷ ticks 1 900001 0) ∷ []) ≡ at 0 f21 ∷ at 1 f21 ∷ at 2 f21 ∷ at 3 f21 ∷ [])
-unfolding rules restartedFrom eventOf run endOf nameIn phaseName
+unfolding orders restartedFrom eventOf run endOf nameIn phaseName
 every-fault = (refl, refl)

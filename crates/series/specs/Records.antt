@@ -7,10 +7,9 @@ use Rattle.controller.specs.declared.Controller.{Controller}
 use Rattle.counters.specs.declared.Counters.{Counters}
 use Rattle.counters.specs.declared.Record.{Record}
 use Rattle.counters.specs.Counters.{countedOf}
-use Rattle.controller.specs.Calls.{freshOf}
+use Rattle.controller.specs.State.{freshOf}
 use Rattle.controller.specs.Sound.{Sound}
-use Rattle.counters.specs.Laws.{AllRecordable}
-use Rattle.counters.specs.Laws.{Tells}
+use Rattle.counters.specs.Laws.{AllRecordable, Tells}
 use Rattle.series.specs.Events.{Event, eventOf, run, sightOf, countingAt, Outside, nothingSeen, countedFrom, seenAfter, recordsAt, records}
 use Rattle.series.specs.Kept.{countersFrom, event-kept, sound-kept, event-sound}
 use Rattle.series.specs.Walk.{Counts, one-more, Accords, accords-from, accords-event, accords-fresh}

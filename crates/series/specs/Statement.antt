@@ -12,7 +12,7 @@ use Rattle.controller.specs.declared.Controller.{Controller}
 use Rattle.counters.specs.declared.Counters.{Counters}
 use Rattle.scale.specs.Scale.{overCapacity}
 use Rattle.controller.specs.Tick.{Told, tickOf}
-use Rattle.controller.specs.Calls.{freshOf}
+use Rattle.controller.specs.State.{freshOf}
 use Rattle.controller.specs.Sound.{Sound}
 use Rattle.controller.specs.Outside.{wAt, clear}
 use Rattle.series.specs.Events.{Event, run, sinceReset, nothingSeen, seen, handsBack}

@@ -11,10 +11,8 @@ use Rattle.laws.specs.Bools.{and-left, and-right}
 use Rattle.hourly.specs.Hours.{total}
 use Rattle.controller.specs.declared.Controller.{Controller}
 use Rattle.counters.specs.declared.Counters.{Counters}
-use Rattle.counters.specs.Counters.{counters}
-use Rattle.controller.specs.State.{restarted}
-use Rattle.counters.specs.Counters.{countedOf}
-use Rattle.controller.specs.Calls.{freshOf}
+use Rattle.counters.specs.Counters.{counters, countedOf}
+use Rattle.controller.specs.State.{restarted, freshOf}
 use Rattle.controller.specs.Sound.{Sound}
 use Rattle.controller.specs.Keeps.{fresh-sound}
 use Rattle.controller.specs.Outside.{Agrees}

@@ -9,11 +9,11 @@ use Rattle.laws.specs.Over.{over}
 use Rattle.paper.specs.Answer.{Answer, done, refused, fault, told, leaves, bytesIn, same}
 use Rattle.paper.specs.AnswerLaws.{refused-done, fault-done, done-refused}
 use Rattle.controller.specs.declared.Controller.{Controller}
-use Rattle.controller.specs.declared.Polled.{Polled}
-use Rattle.controller.specs.declared.PollAnswer.{PollAnswer}
-use Rattle.controller.specs.declared.PollAnswer.the-variants as M
-use Rattle.controller.specs.Modbus.{modbusOf}
-use Rattle.controller.specs.Says.{saysPoll, Polls}
+use Rattle.panel.specs.declared.Polled.{Polled}
+use Rattle.panel.specs.declared.PollAnswer.{PollAnswer}
+use Rattle.panel.specs.declared.PollAnswer.the-variants as M
+use Rattle.panel.specs.Modbus.{modbusOf}
+use Rattle.panel.specs.Says.{saysPoll, Polls}
 use Rattle.controller.specs.Sound.{Sound}
 use Rattle.slave.specs.declared.Replied.{Replied}
 

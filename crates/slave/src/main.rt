@@ -1,26 +1,15 @@
 // One box on a MODBUS line: lines of a script bring it where it shall be, and after an empty line each read is a frame.
-use calls::Call;
 use controller::Controller;
-use controller::PollAnswer;
 use libc::STDIN_FILENO;
 use libc::STDOUT_FILENO;
 use lines::Intake;
-use lines::Next;
+use panel::PollAnswer;
+use preset::Brought;
 ghost use mathlib.Core.Path.{_≡_};
 ghost use Prim.Native.Nat.{_≤_};
 ghost use lib.ListN.{length};
 ghost use Rattle.controller.specs.Sound.{Sound};
-ghost use Rattle.calls.specs.Call.{callOf};
-ghost use Rattle.acts.specs.Makes.{Made};
-ghost use Rattle.acts.specs.Script.{Brings};
 ghost use Rattle.slave.specs.Serves.{lenOf, Replies, Serves};
-
-// The box behind the lines of a block, what is pending, and whether the empty line has come.
-struct Brought {
-    controller: Controller,
-    intake: Intake,
-    open: bool,
-}
 
 // The box after a frame, and how many bytes its reply has.
 struct Replied {
@@ -31,51 +20,14 @@ struct Replied {
 // So many reads no input uses up.
 const MANY: u64 = 9223372036854775808;
 
-// What a line makes of the box.
-fn made(c: Controller, line: &[u8], bytes: &mut [u8]) -> Controller
-    requires sound { ⌜ Sound c ⌝ }
-    requires line { ⌜ length (now line) ≤ 4095 ⌝ }
-    requires room { ⌜ 2048 ≤ length (now bytes) ⌝ }
-    ensures { λ r. ⌜ Made c (callOf (now (line .entry))) r ⌝ }
+// A fresh box, before the first line.
+fn at_start() -> Brought
+    ensures { λ r. ⌜ Sound (r .controller) ⌝ }
 {
-    let call = calls::read(line, bytes);
-    if let Call::Tick(sample, inputs) = call {
-        let ticked = c.tick(sample, inputs);
-        return ticked.next;
-    }
-    let acted = acts::other(c, call, bytes);
-    acted.next
-}
-
-// Makes the calls of the whole lines of what is held, up to the empty one.
-fn bring(old: Controller, intake: Intake, input: &[u8], bytes: &mut [u8]) -> Brought
-    requires sound { ⌜ Sound old ⌝ }
-    requires room { ⌜ 2048 ≤ length (now bytes) ⌝ }
-    ensures { λ r. ⌜ Brings old intake (now (input .entry)) (r .controller) (r .intake) ⌝ }
-{
-    let mut c = old;
-    let mut held = intake;
-    loop {
-        let long = held.long;
-        let start = held.at;
-        let taken = held.next_line(input);
-        let next = taken.next;
-        held = taken.intake;
-        let Next::Line { from, to } = next else {
-            return Brought {
-                controller: c,
-                intake: held,
-                open: false,
-            };
-        };
-        c = made(c, &input[from..to], bytes);
-        if (to == start) & !long {
-            return Brought {
-                controller: c,
-                intake: held,
-                open: true,
-            };
-        }
+    Brought {
+        controller: Controller::fresh(),
+        intake: Intake::start(),
+        open: false,
     }
 }
 
@@ -84,11 +36,7 @@ fn set_up(input: &mut [u8]) -> Brought
     ensures { λ r. ⌜ Sound (r .controller) ⌝ }
 {
     let mut bytes = io::buffer();
-    let mut brought = Brought {
-        controller: Controller::fresh(),
-        intake: Intake::start(),
-        open: false,
-    };
+    let mut brought = at_start();
     let mut reads: u64 = MANY;
     while 0 < reads {
         let refilled = refill::refill(brought.intake, input);
@@ -96,7 +44,7 @@ fn set_up(input: &mut [u8]) -> Brought
             return brought;
         }
         let intake = refilled.intake;
-        brought = bring(brought.controller, intake, input, &mut bytes);
+        brought = preset::bring(brought.controller, intake, input, &mut bytes);
         if brought.open {
             return brought;
         }
@@ -121,7 +69,7 @@ fn reply_to(c: Controller, frame: &[u8], reply: &mut [u8]) -> Replied
     requires { ⌜ Sound c ⌝ }
     ensures { λ r. ⌜ Replies c (now (frame .entry)) (now (reply .entry)) (now (reply .exit)) r ⌝ }
 {
-    let polled = c.modbus(frame, reply);
+    let polled = panel::poll(c, frame, reply);
     let next = polled.next;
     let answer = polled.answer;
     Replied {
@@ -150,16 +98,10 @@ fn serve(c: Controller, frame: &[u8]) -> Controller
     next
 }
 
-// Brings the box where it shall be, then serves frame after frame to the end of the input.
-fn main() {
-    let mut input = io::large_buffer();
-    let brought = set_up(&mut input);
-    if !brought.open {
-        return;
-    }
-    let behind = brought.intake;
-    let held = lines::carry(&mut input, behind.at, behind.have);
-    let mut c = serve(brought.controller, &input[..held]);
+// Serves frame after frame to the end of the input.
+fn serve_frames(mut c: Controller)
+    requires { ⌜ Sound c ⌝ }
+{
     let mut frame = no_frame();
     let mut reads: u64 = MANY;
     while 0 < reads {
@@ -171,4 +113,16 @@ fn main() {
         c = serve(c, &frame[..n]);
         reads -= 1;
     }
+}
+
+// Brings the box where it shall be, then serves what follows.
+fn main() {
+    let mut input = io::large_buffer();
+    let brought = set_up(&mut input);
+    if !brought.open {
+        return;
+    }
+    let behind = brought.intake;
+    let held = lines::carry(&mut input, behind.at, behind.have);
+    serve_frames(serve(brought.controller, &input[..held]));
 }

@@ -16,4 +16,4 @@ poll-spec =
     (λ c. sym (length-take-le _ _ (omega (arith, c .before .before .before .before .lend .kept .0, c .before .before .before .before .before .before .before .before .before .pre .1 .1))))
     (λ c κs. c .before .before .before .before .before .before .before .before .before .pre .0)
     (λ c κs. search needs) (λ c κs. search needs) (λ c. search needs) (λ c. search needs) (λ c κs. search needs) (λ c. search needs) (λ c. search needs)
-    (λ c. made-polled (length-take-le _ _ (omega (arith, c .before .before .before .before .before .before .before .before .before .before .before .before .before .before .before .before .lend .kept .0, c .before .before .before .before .before .before .before .before .before .before .before .before .before .before .before .before .before .before .before .before .before .pre .1 .1))) (c .before .before .before .before .before .before .before .before .before .before .before .modbus .result) (c .before .before .before .before .before .before .before .before .before .before .before .modbus .ensures)))
+    (λ c. made-polled (length-take-le _ _ (omega (arith, c .before .before .before .before .before .before .before .before .before .before .before .before .before .before .before .before .lend .kept .0, c .before .before .before .before .before .before .before .before .before .before .before .before .before .before .before .before .before .before .before .before .before .pre .1 .1))) (c .before .before .before .before .before .before .before .before .before .before .before .poll .result) (c .before .before .before .before .before .before .before .before .before .before .before .poll .ensures)))

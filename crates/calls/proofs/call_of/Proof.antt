@@ -7,7 +7,6 @@ use Rattle.calls.specs.Reads.{asCall, sizeOf, Within}
 use Rattle.calls.specs.Reading.{useOf, roomCall, roomMost}
 use Rattle.calls.specs.declared.Order.the-variants.{Reset, Counters}
 use Rattle.calls.proofs.Steps.{unasked, asked, by-key}
-use borrow.Author.Needs.{needs}
 use Rattle.calls.proofs.call_of.Statement.{statement}
 use Rattle.calls.proofs.call_of.Tie as tie
 
@@ -24,13 +23,13 @@ unfolding callBy roomCall useOf roomMost pick asCall sizeOf Within
 call-of-spec =
     tie.close
     (tie.spec
-    (λ c κs. search needs) (λ c κs. search needs) (λ c κs. search needs) (λ c κs. search needs)
-    (λ c κs. search needs) (λ c κs. search needs)
+    (λ c κs. tt) (λ c κs. tt) (λ c κs. tt) (λ c κs. tt)
+    (λ c κs. tt) (λ c κs. tt)
     (λ c κs. (c .before .before .before .pre .0, sym (ap roomMost (c .match .keys6))))
-    (λ c κs. search needs)
+    (λ c κs. tt)
     (λ c κs. (c .before .before .before .pre .0, sym (ap roomMost (c .match .keys8))))
-    (λ c κs. c .before .before .before .pre .0) (λ c κs. search needs) (λ c κs. search needs)
-    (λ c κs. search needs) (λ c κs. search needs) (λ c κs. c .before .before .before .pre .0)
+    (λ c κs. c .before .before .before .pre .0) (λ c κs. tt) (λ c κs. tt)
+    (λ c κs. tt) (λ c κs. tt) (λ c κs. c .before .before .before .pre .0)
     (λ c κs. c .before .before .before .pre .0)
     (λ c κs. (c .before .before .before .pre .0, sym (ap roomMost (c .match .keys16))))
     (λ c κs. (c .before .before .before .pre .0, sym (ap roomMost (c .match .keys17))))

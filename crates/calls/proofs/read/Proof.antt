@@ -42,9 +42,9 @@ read-spec =
     tie.close
     (tie.spec
     (λ c. unread-room (c .if1 .taken)) (λ c. unread-long (c .before .if1 .left) (c .if2 .taken))
-    (λ c κs. search needs) (λ c κs. search needs) returns-3
-    (λ c κs. (c .before .before .before .if2 .left, sym (ap roomMost (c .if4 .taken)))) (λ c κs. search needs)
+    (λ c κs. tt) (λ c κs. tt) returns-3
+    (λ c κs. (c .before .before .before .if2 .left, sym (ap roomMost (c .if4 .taken)))) (λ c κs. tt)
     (λ c κs. fits (c .before .before .before .before .before .before .before .if1 .left) (c .before .size-of .ensures) (c .before .before .room .ensures)) (λ c. search needs) returns-4
-    (λ c κs. (c .before .before .before .if2 .left, (λ e. c .before .if3 .left (c .before .before .byte-at .ensures ∙ e), λ e. c .if4 .left (c .before .before .byte-at .ensures ∙ e)))) (λ c κs. search needs)
+    (λ c κs. (c .before .before .before .if2 .left, (λ e. c .before .if3 .left (c .before .before .byte-at .ensures ∙ e), λ e. c .if4 .left (c .before .before .byte-at .ensures ∙ e)))) (λ c κs. tt)
     (λ c κs. fits (c .before .before .before .before .before .before .before .if1 .left) (c .before .size-of2 .ensures) (c .before .before .call-of .ensures)) (λ c. search needs)
     (λ c. kept (c .before .before .before .before .before .before .before .before .before .before .if1 .left) (c .before .before .before .before .size-of2 .ensures) (c .before .before .before .before .before .call-of .ensures) (c .before .before .before .before .before .before .before .before .before .if2 .left) (c .before .before .store2 .ensures)))

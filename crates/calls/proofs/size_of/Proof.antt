@@ -30,6 +30,6 @@ unfolding sizeOf
 size-of-spec =
     tie.close
     (tie.spec
-    (λ c. search needs) (λ c. search needs) (λ c. search needs) (λ c. search needs) (λ c. search needs) (λ c. search needs)
+    (λ c. c .match .keys1) (λ c. search needs) (λ c. c .match .keys2) (λ c. search needs) (λ c. c .match .keys3) (λ c. search needs)
     (λ c. sym (ap sizeOf (c .before .call .given .1))) (λ c. sym (ap sizeOf (c .before .call2 .given .1)))
     (λ c. sym (ap sizeOf (c .before .call3 .given .1))) (λ c. none (c .before .args .call) (c .match .keys4)))

@@ -1,5 +1,5 @@
 use borrow.Author.Needs.{needs}
-use Rattle.controller.specs.Calls.{readyIn}
+use Rattle.controller.specs.Ready.{readyIn}
 use Rattle.controller.proofs.is_ready.Statement.{statement}
 use Rattle.controller.proofs.is_ready.Tie as tie
 

@@ -38,10 +38,10 @@ step input held {first} {c} {start} {k = k} r g e f h =
     (brings-line input held (nextOf held input) refl g (t .line) (subst (λ (q : Parsed Call). Made c q (r .next)) (sym (t .call)) m))
 
 abbrev Inv-loop : tie.InvT-loop
-Inv-loop input out₀ at c₀ held₀ len₀ out c held len = Brings c₀ held₀ input c held × (length input - held .at ≤ length input - held₀ .at) × (length out ≡ length out₀)
+Inv-loop c₀ held₀ input out₀ at len₀ c held out len = Brings c₀ held₀ input c held × (length input - held .at ≤ length input - held₀ .at) × (length out ≡ length out₀)
 
 abbrev μ-loop : tie.MeasureT-loop
-μ-loop input out₀ at c₀ held₀ len₀ out c held len = length input - held .at
+μ-loop c₀ held₀ input out₀ at len₀ c held out len = length input - held .at
 
 -- the tick that was found
 sight : (c : tie.After-known-told Inv-loop μ-loop) → sightOf (c .before .before .before .before .loop .held) (now (c .before .before .before .before .before .before .before .before .before .args .input)) ≡ S.Tick (c .before .sighted .given .0 .0) (c .before .sighted .given .0 .1 .0) (c .before .sighted .given .0 .1 .1 .0)
@@ -67,6 +67,6 @@ ticks-spec =
     tie.close
     (tie.spec
     Inv-loop μ-loop (λ c κs. tt) (λ c. (brings-none (c .before .before .before .before .pre), omega arith, refl))
-    (λ c κs. tt) (λ c. search needs) (λ c. search needs) (λ c. search needs) returns
+    (λ c κs. tt) (λ c. c .match .keys1) (λ c. c .match .keys2) (λ c. c .before .before .before .loop .inv .2) returns
     (λ c κs. c .before .before .before .before .loop .inv .0 .sound) (λ c κs. tt) (λ c κs. tt)
     (λ c. let less = tick-ahead _ _ (sight (c .before .before .before .before .before .before .before .before)) in omega (arith, less)) loop-again)

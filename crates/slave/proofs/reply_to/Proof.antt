@@ -8,4 +8,4 @@ reply-to-spec =
     tie.close
     (tie.spec
     (λ c κs. search needs) (λ c κs. search needs) (λ c. search needs)
-    (λ c. replies (c .before .before .before .before .modbus .result) (c .before .before .before .before .modbus .ensures) (c .len-of .ensures)))
+    (λ c. replies (c .before .before .before .before .poll .result) (c .before .before .before .before .poll .ensures) (c .len-of .ensures)))

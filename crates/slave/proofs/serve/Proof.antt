@@ -4,7 +4,6 @@ use native.Mathlib.Omega.{arith}
 use denote.Ref.{now}
 use lib.Seq.{length-take-le}
 use Rattle.slave.specs.Serves.{Serves}
-use borrow.Author.Needs.{needs}
 use Rattle.slave.proofs.serve.Statement.{statement}
 use Rattle.slave.proofs.serve.Tie as tie
 
@@ -18,7 +17,7 @@ pub serve-spec : {M : Type 1} → statement M
 serve-spec =
     tie.close
     (tie.spec
-    (λ c κs. search needs) (λ c. search needs) (λ c κs. search needs)
+    (λ c κs. tt) (λ c. c .before .no-frame .ensures) (λ c κs. c .before .before .before .pre)
     (λ c. omega (arith, c .before .before .reply-to .ensures .within, c .before .before .reply-to .kept .1 .1 .0, c .before .before .before .before .no-frame .ensures))
     (λ c. sym (length-take-le _ _ (omega (arith, c .before .before .before .reply-to .ensures .within))))
-    (λ c κs. search needs) returns)
+    (λ c κs. tt) returns)

@@ -1,4 +1,4 @@
-use mathlib.Core.Path.{_≡_, refl}
+use mathlib.Core.Path.{_≡_, refl, sym, _∙_}
 use native.Mathlib.Omega.{arith}
 use lib.ListN.{length}
 use Rattle.controller.specs.Sound.{Sound}
@@ -16,22 +16,22 @@ loop-again : tie.Need-loop-again Inv-loop μ-loop
 loop-again c =
     let inv = c .before .before .before .before .before .before .before .before .before .before .before .before .before .loop .inv in
     let bring = c .before .before .bring in
-    (bring .ensures .sound, omega (arith, inv .1, c .before .before .before .before .before .before .before .before .before .before .refill .kept .1 .0), omega (arith, inv .2, bring .kept .1 .1 .1 .0))
+    (bring .ensures .sound, c .before .before .before .before .before .before .before .before .before .before .refill .kept .1 .0 ∙ inv .1, inv .2 ∙ sym (bring .kept .1 .1 .1 .0))
 
 pub set-up-spec : {M : Type 1} → statement M
 set-up-spec =
     tie.close
     (tie.spec
     Inv-loop μ-loop
-    (λ c κs. search needs) (λ c κs. search needs) (λ c κs. search needs)
-    (λ c. (c .before .fresh .ensures .sound, refl, c .before .before .buffer .ensures))
-    (λ c κs. search needs) (λ c. search needs)
+    (λ c κs. tt) (λ c κs. tt)
+    (λ c. (c .at-start .ensures, refl, c .before .buffer .ensures))
+    (λ c κs. tt) (λ c. c .before .before .before .before .refill .kept .1 .0 ∙ c .before .before .before .before .before .before .before .loop .inv .1)
     (λ c. c .before .before .before .before .before .before .before .loop .inv .0)
-    (λ c. search needs)
+    (λ c. c .before .before .before .before .before .before .before .before .before .before .loop .inv .2)
     (λ c κs. let inv = c .before .before .before .before .before .before .before .before .before .before .loop .inv in (inv .0, omega (arith, inv .2)))
-    (λ c. omega (arith, c .before .before .before .before .before .before .before .before .before .before .before .before .before .loop .inv .1, c .before .before .before .before .before .before .before .before .before .before .refill .kept .1 .0))
+    (λ c. c .before .before .before .before .before .before .before .before .before .before .refill .kept .1 .0 ∙ c .before .before .before .before .before .before .before .before .before .before .before .before .before .loop .inv .1)
     (λ c. c .before .before .bring .ensures .sound)
     (λ c. search needs) (λ c. search needs)
     loop-again
-    (λ c. search needs)
+    (λ c. c .before .loop .inv .1)
     (λ c. c .before .loop .inv .0))

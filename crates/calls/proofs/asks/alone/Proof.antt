@@ -7,7 +7,6 @@ use Rattle.operands.specs.Parsing.{on-good, on-bad, good-as}
 use Rattle.calls.specs.Call.{bytesCall}
 use Rattle.calls.specs.Reading.{roomCall}
 use Rattle.calls.proofs.Steps.{unasked, asked, some-bytes, no-bytes, whole, few}
-use borrow.Author.Needs.{needs}
 use Rattle.calls.proofs.asks.alone.Statement.{statement}
 use Rattle.calls.proofs.asks.alone.Tie as tie
 
@@ -28,10 +27,10 @@ unfolding bytesCall
 alone-spec =
     tie.close
     (tie.spec
-    (λ c κs. search needs)
+    (λ c κs. tt)
     (λ c. unasked (on-bad _ (no-bytes (now (c .before .before .before .args .line)) (λ e. c .if1 .taken (c .before .byte-at .ensures ∙ e)))))
-    (λ c κs. search needs)
+    (λ c κs. tt)
     (λ c. omega (arith, few _ (c .count .ensures) (c .before .before .before .before .pre))) (λ c. omega (arith, few _ (c .count .ensures) (c .before .before .before .before .pre)))
     (λ c. omega (arith, few _ (c .count .ensures) (c .before .before .before .before .pre)))
     (λ c κs. (omega (arith, few _ (c .count .ensures) (c .before .before .before .before .pre)), omega arith))
-    (λ c κs. search needs) returns-2)
+    (λ c κs. tt) returns-2)

@@ -25,7 +25,7 @@ dose-spec =
     (tie.spec
     (λ c κs. search needs)
     (λ c. unasked (on-bad _ (no-row (c .before .before .numbers-at .ensures) (c .if1 .taken))))
-    (λ c κs. search needs) (λ c. search needs) (λ c. search needs)
+    (λ c κs. tt) (λ c. c .match .keys1) (λ c. c .match .keys2)
     (λ c. unasked (on-good _ (row (c .before .before .before .before .before .numbers-at .ensures) (c .before .before .before .if1 .left)) ∙ on-bad _ (num (c .before .before .field-at .ensures) (c .enum-told .given .1))))
     (λ c. search needs) (λ c. search needs) (λ c. search needs) (λ c. search needs) (λ c. search needs)
-    (λ c κs. search needs) returns-3)
+    (λ c κs. tt) returns-3)

@@ -13,7 +13,6 @@ use Rattle.calls.specs.Call.{item, readFieldAt}
 use Rattle.calls.specs.Reads.{asCall, sizeOf, Within}
 use Rattle.calls.specs.declared.Item.the-variants.{Field}
 use Rattle.calls.proofs.Steps.{unasked, asked, some-bytes, no-bytes}
-use borrow.Author.Needs.{needs}
 use Rattle.calls.proofs.asks.four.Statement.{statement}
 use Rattle.calls.proofs.asks.four.Tie as tie
 
@@ -41,11 +40,11 @@ unfolding readFieldAt
 four-spec =
     tie.close
     (tie.spec
-    (λ c κs. search needs)
+    (λ c κs. tt)
     (λ c. unasked (on-bad _ (no-bytes (now (c .before .before .before .args .line)) (λ e. c .if1 .taken (c .before .byte-at .ensures ∙ e)))))
-    (λ c κs. search needs) returns-2
+    (λ c κs. tt) returns-2
     (λ c κs. omega (arith, c .if2 .left, c .before .count .ensures))
     (λ c κs. omega (arith, c .before .if2 .left, c .before .before .count .ensures))
     (λ c κs. omega (arith, c .before .before .if2 .left, c .before .before .before .count .ensures))
     (λ c κs. omega (arith, c .before .before .before .if2 .left, c .before .before .before .before .count .ensures))
-    (λ c κs. search needs) returns-3)
+    (λ c κs. tt) returns-3)

@@ -4,7 +4,6 @@ use Rattle.calls.specs.Call.{onAt}
 use Rattle.calls.specs.Reads.{asCall, sizeOf, Within}
 use Rattle.operands.specs.Parsing.{on-good, on-bad, num}
 use Rattle.calls.proofs.Steps.{unasked, asked}
-use borrow.Author.Needs.{needs}
 use Rattle.calls.proofs.asks.on.Statement.{statement}
 use Rattle.calls.proofs.asks.on.Tie as tie
 
@@ -19,8 +18,8 @@ unfolding onAt
 on-spec =
     tie.close
     (tie.spec
-    (λ c κs. search needs) (λ c. search needs) (λ c. search needs)
+    (λ c κs. tt) (λ c. c .match .keys1) (λ c. c .match .keys2)
     (λ c. unasked (on-bad _ (num (c .before .before .field-at .ensures) (c .enum-told .given .1))))
-    (λ c κs. search needs) (λ c. search needs) (λ c. search needs)
+    (λ c κs. tt) (λ c. c .match2 .keys1) (λ c. c .match2 .keys2)
     (λ c. unasked (on-good _ (num (c .before .before .before .before .before .before .field-at .ensures) (c .before .before .before .before .hour .given .1)) ∙ on-bad _ (num (c .before .before .field-at2 .ensures) (c .enum-told2 .given .1))))
-    (λ c κs. search needs) returns-3)
+    (λ c κs. tt) returns-3)

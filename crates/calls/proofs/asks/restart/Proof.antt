@@ -45,6 +45,6 @@ restart-spec =
     (tie.spec
     (λ c κs. search needs)
     (λ c. unasked (on-bad _ (no-row (c .before .before .numbers-at .ensures) (c .if1 .taken))))
-    (λ c κs. search needs) (λ c. search needs) (λ c. search needs) returns-2
-    (λ c κs. search needs) (λ c. search needs) (λ c. search needs) returns-3
-    (λ c. search needs) (λ c κs. search needs) (λ c. search needs) (λ c κs. search needs) returns-4)
+    (λ c κs. tt) (λ c. search needs) (λ c. search needs) returns-2
+    (λ c κs. tt) (λ c. c .match .keys1) (λ c. c .match .keys2) returns-3
+    (λ c. search needs) (λ c κs. tt) (λ c. search needs) (λ c κs. tt) returns-4)

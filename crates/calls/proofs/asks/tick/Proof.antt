@@ -35,9 +35,9 @@ unfolding tickAt sizeOf
 tick-spec =
     tie.close
     (tie.spec
-    (λ c κs. search needs) (λ c. search needs) (λ c. search needs)
+    (λ c κs. tt) (λ c. c .match .keys1) (λ c. c .match .keys2)
     (λ c. (unasked (on-bad _ (step (c .before .before .signed-at .ensures) (c .enum-told .given .1))), refl))
-    (λ c κs. search needs) (λ c. search needs) (λ c. search needs)
+    (λ c κs. tt) (λ c. c .match2 .keys1) (λ c. c .match2 .keys2)
     (λ c. (unasked (on-good _ (step (c .before .before .before .before .before .before .signed-at .ensures) (c .before .before .before .before .sample .given .1)) ∙ on-bad _ (num (c .before .before .field-at .ensures) (c .enum-told2 .given .1))), refl))
     (λ c. omega (arith, field-most _ _ (num (c .before .before .before .field-at .ensures) (c .before .inputs .given .1))))
-    (λ c κs. search needs) returns-3)
+    (λ c κs. tt) returns-3)

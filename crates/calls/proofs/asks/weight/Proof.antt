@@ -34,13 +34,13 @@ unfolding writeFieldAt flagField
 weight-spec =
     tie.close
     (tie.spec
-    (λ c κs. search needs) (λ c. search needs) (λ c. search needs)
+    (λ c κs. tt) (λ c. c .match .keys1) (λ c. c .match .keys2)
     (λ c. unasked (on-bad _ (step (c .before .before .signed-at .ensures) (c .enum-told .given .1))))
-    (λ c κs. search needs) (λ c. search needs) (λ c. search needs)
+    (λ c κs. tt) (λ c. c .match2 .keys1) (λ c. c .match2 .keys2)
     (λ c. unasked (on-good _ (step (c .before .before .before .before .before .before .signed-at .ensures) (c .before .before .before .before .value .given .1)) ∙ on-bad _ (on-bad _ (num (c .before .before .field-at .ensures) (c .enum-told2 .given .1)))))
-    (λ c κs. search needs) (λ c. search needs) (λ c. search needs)
+    (λ c κs. tt) (λ c. c .match3 .keys1) (λ c. c .match3 .keys2)
     (λ c. unasked (on-good _ (step (c .before .before .before .before .before .before .before .before .before .before .signed-at .ensures) (c .before .before .before .before .before .before .before .before .value .given .1)) ∙ on-good _ (on-good _ (num (c .before .before .before .before .before .before .field-at .ensures) (c .before .before .before .before .stable .given .1))) ∙ on-bad _ (on-bad _ (num (c .before .before .field-at2 .ensures) (c .enum-told3 .given .1)))))
-    (λ c κs. search needs) (λ c. search needs) (λ c. search needs)
+    (λ c κs. tt) (λ c. c .match4 .keys1) (λ c. c .match4 .keys2)
     (λ c. unasked (on-good _ (step (c .before .before .before .before .before .before .before .before .before .before .before .before .before .before .signed-at .ensures) (c .before .before .before .before .before .before .before .before .before .before .before .before .value .given .1)) ∙ on-good _ (on-good _ (num (c .before .before .before .before .before .before .before .before .before .before .field-at .ensures) (c .before .before .before .before .before .before .before .before .stable .given .1))) ∙ on-good _ (on-good _ (num (c .before .before .before .before .before .before .field-at2 .ensures) (c .before .before .before .before .over .given .1))) ∙ on-bad _ (num (c .before .before .field-at3 .ensures) (c .enum-told4 .given .1))))
     (λ c. omega (arith, field-most _ _ (num (c .before .before .before .field-at3 .ensures) (c .before .point .given .1))))
-    (λ c κs. search needs) returns-5)
+    (λ c κs. tt) returns-5)

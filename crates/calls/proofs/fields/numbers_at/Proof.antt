@@ -61,6 +61,6 @@ numbers-at-spec =
     tie.close
     (tie.spec
     Inv-loop μ-loop loop-holds
-    (λ c κs. search needs) (λ c. search needs) (λ c. search needs) returns (λ c. search needs)
+    (λ c κs. tt) (λ c. c .match .keys1) (λ c. c .match .keys2) returns (λ c. search needs)
     (λ c. omega (arith, c .before .before .before .before .loop-test .taken, c .before .before .before .before .before .before .before .pre))
     (λ c. search needs) (λ c. search needs) loop-again returns-2)

@@ -9,7 +9,7 @@ use Rattle.asking.specs.Asking.{askedBy, heardOf, addressOf, codeOf, timeOf}
 use Rattle.asking.specs.Says.{saysFramed, saysAddressed, saysCoded, saysTimed, saysZeroing, Times, Zeroes}
 use Rattle.asking.specs.declared.Framed.the-variants as F
 use Rattle.readout.specs.Readout.{mayZero}
-use Rattle.controller.specs.Calls.{isReady}
+use Rattle.controller.specs.Ready.{isReady}
 use Rattle.controller.specs.Line.{timely, askedOf}
 use Rattle.controller.specs.Says.{saysReply}
 use Rattle.controller.specs.declared.Controller.{Controller}
@@ -58,7 +58,8 @@ at-stage c = c .before .before .before .before .before .before .before
 
 -- what the stage of R3 says of the controller
 times : (c : tie.After-ready-stage) → let h = at-ours (at-known (at-stage c)) in Times (place h) (timely (parts h .operation) (isReady (self h))) (c .ready-stage .result)
-times c = rw (c .before .before .before .before .before .is-timely .ensures) at (c .ready-stage .ensures)
+unfolding timely isReady
+times c = rw (c .before .before .before .before .before .is-ready .ensures) at (c .ready-stage .ensures)
 
 abbrev at-timed : tie.After-enum-told7 → tie.After-enum-told5
 at-timed c = at-stage (c .before .before)
@@ -88,32 +89,11 @@ at-written c = c .before .before .before .before .before .before .before
 
 -- ---- the needs
 
-hear-requires : tie.Need-hear-requires
-hear-requires c κs = tt
-
-enum-known-framed : tie.Need-enum-known-framed
-enum-known-framed c = search needs
-
-enum-told : tie.Need-enum-told
-enum-told c = search needs
-
-refused-requires : tie.Need-refused-requires
-refused-requires c κs = tt
-
 -- R9
 returns : tie.Need-returns
 returns c =
     let h = c .before .before .before in
     refuses _ _ _ (start h .pre) (not-heard _ _ (sym (ap (saysFramed _) (c .before .enum-told .given .1)) ∙ h .hear .ensures)) (c .refused .ensures .0) (ap saysReply (c .refused .ensures .1))
-
-enum-known-checked : tie.Need-enum-known-checked
-enum-known-checked c = search needs
-
-enum-told-2 : tie.Need-enum-told-2
-enum-told-2 c = search needs
-
-refused-requires-2 : tie.Need-refused-requires-2
-refused-requires-2 c κs = tt
 
 -- R6
 returns-2 : tie.Need-returns-2
@@ -122,36 +102,12 @@ returns-2 c =
     let h = f .before .before in
     refuses _ _ _ (start h .pre) (not-heard _ _ (sym (ap (saysFramed _) (f .framed .given .1 ∙ ap F.Finished (c .before .enum-told2 .given .1))) ∙ h .hear .ensures)) (c .refused2 .ensures .0) (ap saysReply (c .refused2 .ensures .1))
 
-address-stage-requires : tie.Need-address-stage-requires
-address-stage-requires c κs = tt
-
-enum-told-3 : tie.Need-enum-told-3
-enum-told-3 c = search needs
-
-enum-told-4 : tie.Need-enum-told-4
-enum-told-4 c = search needs
-
-refused-requires-3 : tie.Need-refused-requires-3
-refused-requires-3 c κs = tt
-
 -- R5
 returns-3 : tie.Need-returns-3
 returns-3 c =
     let a = c .before .before .before in
     let h = a .before .before in
     refuses _ _ _ (start (at-heard h) .pre) (not-ours _ _ (heard h) (sym (ap saysAddressed (c .before .enum-told4 .given .1)) ∙ a .address-stage .ensures)) (c .refused3 .ensures .0) (ap saysReply (c .refused3 .ensures .1))
-
-code-stage-requires : tie.Need-code-stage-requires
-code-stage-requires c κs = tt
-
-enum-told-5 : tie.Need-enum-told-5
-enum-told-5 c = search needs
-
-enum-told-6 : tie.Need-enum-told-6
-enum-told-6 c = search needs
-
-refused-requires-4 : tie.Need-refused-requires-4
-refused-requires-4 c κs = tt
 
 -- R7
 returns-4 : tie.Need-returns-4
@@ -161,24 +117,6 @@ returns-4 c =
     let h = at-ours o in
     refuses _ _ _ (start (at-heard h) .pre) (not-known _ _ (heard h) (ours o) (sym (ap saysCoded (c .before .enum-told6 .given .1)) ∙ a .code-stage .ensures)) (c .refused4 .ensures .0) (ap saysReply (c .refused4 .ensures .1))
 
-is-timely-requires : tie.Need-is-timely-requires
-is-timely-requires c κs = tt
-
-zero-of-requires : tie.Need-zero-of-requires
-zero-of-requires c κs = tt
-
-ready-stage-requires : tie.Need-ready-stage-requires
-ready-stage-requires c κs = tt
-
-enum-told-7 : tie.Need-enum-told-7
-enum-told-7 c = search needs
-
-enum-told-8 : tie.Need-enum-told-8
-enum-told-8 c = search needs
-
-refused-requires-5 : tie.Need-refused-requires-5
-refused-requires-5 c κs = tt
-
 -- R3
 returns-5 : tie.Need-returns-5
 returns-5 c =
@@ -186,18 +124,6 @@ returns-5 c =
     let k = at-stage a in
     let h = at-ours (at-known k) in
     refuses _ _ _ (start (at-heard h) .pre) (not-timed _ _ (heard h) (ours (at-known k)) (known k) (sym (ap saysTimed (c .before .enum-told8 .given .1)) ∙ times a)) (c .refused5 .ensures .0) (ap saysReply (c .refused5 .ensures .1))
-
-zero-stage-requires : tie.Need-zero-stage-requires
-zero-stage-requires c κs = tt
-
-enum-told-9 : tie.Need-enum-told-9
-enum-told-9 c = search needs
-
-enum-told-10 : tie.Need-enum-told-10
-enum-told-10 c = search needs
-
-refused-requires-6 : tie.Need-refused-requires-6
-refused-requires-6 c κs = tt
 
 -- R4
 returns-6 : tie.Need-returns-6
@@ -207,18 +133,6 @@ returns-6 c =
     let k = at-timed t in
     let h = at-ours (at-known k) in
     refuses _ _ _ (start (at-heard h) .pre) (not-zeroable _ _ (heard h) (ours (at-known k)) (known k) (timed t) (sym (ap saysZeroing (c .before .enum-told10 .given .1)) ∙ zeroes a)) (c .refused6 .ensures .0) (ap saysReply (c .refused6 .ensures .1))
-
-reply-of-requires : tie.Need-reply-of-requires
-reply-of-requires c κs = tt
-
-write-reply-requires : tie.Need-write-reply-requires
-write-reply-requires c κs = tt
-
-enum-known-len : tie.Need-enum-known-len
-enum-known-len c = search needs
-
-refused-requires-7 : tie.Need-refused-requires-7
-refused-requires-7 c κs = tt
 
 same-length : tie.Need-same-length
 same-length c = search needs
@@ -232,9 +146,6 @@ returns-7 c =
     no-room _ _ _ pre (w .write-reply .result) (asked z)
     (framed _ pre _ _ _ (w .before .before .before .reply-of .result) (w .write-reply .result) (ours (at-known (at-timed (z .before .before .before)))) (w .before .before .before .reply-of .ensures) (w .write-reply .ensures))
     (c .before .match7 .keys2) (c .refused7 .ensures .0) (ap saysReply (c .refused7 .ensures .1))
-
-zeroed-requires : tie.Need-zeroed-requires
-zeroed-requires c κs = tt
 
 same-length-2 : tie.Need-same-length-2
 same-length-2 c = search needs
@@ -252,43 +163,11 @@ pub request-spec : {M : Type 1} → statement M
 request-spec =
     tie.close
     (tie.spec
-    hear-requires
-    enum-known-framed
-    enum-told
-    refused-requires
-    returns
-    enum-known-checked
-    enum-told-2
-    refused-requires-2
-    returns-2
-    address-stage-requires
-    enum-told-3
-    enum-told-4
-    refused-requires-3
-    returns-3
-    code-stage-requires
-    enum-told-5
-    enum-told-6
-    refused-requires-4
-    returns-4
-    is-timely-requires
-    zero-of-requires
-    ready-stage-requires
-    enum-told-7
-    enum-told-8
-    refused-requires-5
-    returns-5
-    zero-stage-requires
-    enum-told-9
-    enum-told-10
-    refused-requires-6
-    returns-6
-    reply-of-requires
-    write-reply-requires
-    enum-known-len
-    refused-requires-7
-    same-length
-    returns-7
-    zeroed-requires
-    same-length-2
-    returns-8)
+    (λ c κs. tt) (λ c. c .match .keys1) (λ c. c .match .keys2) (λ c κs. tt) returns
+    (λ c. c .match2 .keys1) (λ c. c .match2 .keys2) (λ c κs. tt) returns-2
+    (λ c κs. tt) (λ c. c .match3 .keys1) (λ c. c .match3 .keys2) (λ c κs. tt) returns-3
+    (λ c κs. tt) (λ c. c .match4 .keys1) (λ c. c .match4 .keys2) (λ c κs. tt) returns-4
+    (λ c κs. tt) (λ c κs. tt) (λ c κs. tt) (λ c. c .match5 .keys1) (λ c. c .match5 .keys2) (λ c κs. tt) returns-5
+    (λ c κs. tt) (λ c. c .match6 .keys1) (λ c. c .match6 .keys2) (λ c κs. tt) returns-6
+    (λ c κs. tt) (λ c κs. tt) (λ c. c .match7 .keys1) (λ c κs. tt) same-length returns-7
+    (λ c κs. tt) same-length-2 returns-8)

@@ -5,9 +5,9 @@ use Rattle.paper.specs.Answer.{onDone}
 use Rattle.settings.specs.Says.{says}
 use Rattle.settings.specs.Table.{firstBad}
 use Rattle.settings.specs.declared.Checked.{Checked}
-use Rattle.controller.specs.Calls.{storedBad, restartOf}
+use Rattle.controller.specs.Restart.{storedBad, restartOf}
 use Rattle.controller.specs.Says.{saysRestart}
-use Rattle.controller.proofs.Contracts.{restarts, not-restarted}
+use Rattle.controller.proofs.Restarts.{restarts, not-restarted}
 use Rattle.controller.proofs.Controller.restart.Statement.{statement}
 use Rattle.controller.proofs.Controller.restart.Tie as tie
 
@@ -44,14 +44,14 @@ returns-2 c =
     let w = c .before .before in
     not-restarted _ _ _ (rw (checked (w .before .before) (w .enum-told .given .1)) (pick-t _ _ _ (c .before .if1 .taken))) (c .unmade2 .ensures .0) (ap saysRestart (c .unmade2 .ensures .1))
 
-restarted-requires : tie.Need-restarted-requires
-restarted-requires c κs = tt
+made-requires : tie.Need-made-requires
+made-requires c κs = tt
 
 returns-3 : tie.Need-returns-3
 unfolding restartOf onDone storedBad
 returns-3 c =
     let w = c .before .before in
-    restarts _ _ _ (rw (checked (w .before .before) (w .enum-told .given .1)) (pick-f _ _ _ (c .before .if1 .left))) (c .restarted .ensures) refl
+    restarts _ _ _ (rw (checked (w .before .before) (w .enum-told .given .1)) (pick-f _ _ _ (c .before .if1 .left))) (c .made .ensures) refl
 
 pub restart-spec : {M : Type 1} → statement M
 restart-spec =
@@ -64,5 +64,5 @@ restart-spec =
     enum-told
     unmade-requires-2
     returns-2
-    restarted-requires
+    made-requires
     returns-3)

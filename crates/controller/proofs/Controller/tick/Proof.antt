@@ -1,6 +1,5 @@
 use mathlib.Core.Path.{_≡_, refl}
 use native.Mathlib.Omega.{arith}
-use borrow.Author.Needs.{needs}
 use lib.IntN.{ℤ}
 use mir.Syntax.{w32}
 use mir.Val.{toZ, ofZ}
@@ -16,23 +15,11 @@ returns c =
     let a = c .before .args in
     tick-refused (a .self) _ (a .inputs) (c .before .pre) (omega arith) (record { next = refl; says = refl })
 
-enum-known-condition : tie.Need-enum-known-condition
-enum-known-condition c = search needs
-
 returns-2 : tie.Need-returns-2
 returns-2 c =
     let d = c .before .before .before .before in
     let a = d .args in
     tick-fault (a .self) _ (a .inputs) _ (d .pre) (omega arith) (c .before .condition .given .1) (record { next = refl; says = refl })
-
-enum-told : tie.Need-enum-told
-enum-told c = search needs
-
-is-outside-requires : tie.Need-is-outside-requires
-is-outside-requires c κs = tt
-
-outside-requires : tie.Need-outside-requires
-outside-requires c κs = tt
 
 -- the sample as the test sees it
 module _ (c : tie.After-is-outside) where
@@ -50,9 +37,10 @@ module _ (c : tie.After-is-outside) where
 
 returns-3 : tie.Need-returns-3
 returns-3 c =
-    let t = c .before .before in
+    let t = c .before .before .before in
     let a = d t .args in
-    tick-clear (a .self) _ (a .inputs) (d t .pre) (omega arith) (t .before .enum-told .given .1) (step3-outside _ _ _ (so (seen t) (c .before .if2 .taken)) (c .outside .ensures))
+    tick-clear (a .self) _ (a .inputs) (d t .pre) (omega arith) (t .before .enum-told .given .1)
+    (step3-outside _ _ _ (so (seen t) (c .before .before .if2 .taken)) (rw (c .before .kept .ensures) at (c .faulted .ensures)))
 
 steps4to8-requires : tie.Need-steps4to8-requires
 steps4to8-requires c κs =
@@ -68,13 +56,4 @@ returns-4 c =
 pub tick-spec : {M : Type 1} → statement M
 tick-spec =
     tie.close
-    (tie.spec
-    returns
-    enum-known-condition
-    returns-2
-    enum-told
-    is-outside-requires
-    outside-requires
-    returns-3
-    steps4to8-requires
-    returns-4)
+    (tie.spec returns (λ c. c .match .keys1) returns-2 (λ c. c .match .keys2) (λ c κs. tt) (λ c κs. tt) (λ c κs. tt) returns-3 steps4to8-requires returns-4)
