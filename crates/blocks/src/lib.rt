@@ -4,8 +4,6 @@ use lines::Intake;
 use runs::Run;
 use runs::Stop;
 ghost use mathlib.Core.Path.{_≡_};
-ghost use Prim.Native.Nat.{_≤_};
-ghost use lib.ListN.{length};
 ghost use Rattle.controller.specs.Sound.{Sound};
 ghost use Rattle.blocks.specs.Carries.{Carries};
 
@@ -25,27 +23,21 @@ fn left_by(run: Run) -> Carried
 }
 
 // Answers the whole lines of what is held; the answers are written out by way of `out`.
-pub fn answer(
-    mut c: Controller,
-    mut held: Intake,
-    input: &[u8],
-    bytes: &mut [u8],
-    spare: &mut [u8],
-    out: &mut [u8],
-) -> Carried
-    requires sound { ⌜ Sound c ⌝ }
-    requires room { ⌜ (2048 ≤ length (now bytes)) × (64 ≤ length (now spare)) ⌝ }
+pub fn answer(mut c: Controller, mut held: Intake, input: &[u8], out: &mut [u8]) -> Carried
+    requires { ⌜ Sound c ⌝ }
     ensures { λ r. ⌜ Carries c held (now (input .entry)) r ⌝ }
 {
+    let mut bytes = io::buffer();
+    let mut spare = io::buffer();
     let mut len: usize = 0;
     loop {
-        let run = runs::answer(c, held, input, bytes, spare, out, len);
+        let run = runs::answer(c, held, input, &mut bytes, out, len);
         let stop = run.stop;
         let Stop::Call(call) = stop else {
             runs::write_out(out, run.len);
             return left_by(run);
         };
-        let answered = answers::answer(run.controller, call, bytes, spare, out, run.len);
+        let answered = answers::answer(run.controller, call, &bytes, &mut spare, out, run.len);
         c = answered.controller;
         len = answered.len;
         held = run.intake;
