@@ -4,8 +4,7 @@ use mathlib.Core.List.{List, [], _∷_, _++_}
 use Prim.Native.Nat.{ℕ, _-_, _≤_}
 use native.Mathlib.Omega.{arith}
 use lib.IntN.{ℤ}
-use lib.ListN.{length, take, drop, length-take, length-append, length-drop, length-replicate}
-use lib.Seq.{length-take-le}
+use lib.ListN.{length, take, drop, length-take, length-replicate}
 use Rattle.laws.specs.Decimal.{Parsed, good}
 use Rattle.controller.specs.declared.Controller.{Controller}
 use Rattle.controller.specs.declared.Ticked.{Ticked}
@@ -60,10 +59,6 @@ module _ {c : Controller} {s old new : List ℕ} {room : ℕ} (e : length old �
   pub made-polled : (r : Polled) → Polls c s old new r → Made c (good (modbus s room) []) (r .next)
   unfolding madeBy eventsIn callEvents run eventOf blank
   made-polled r h = record { next = h .next ∙ ap (λ (k : ℕ). modbusOf c s k .next) (e ∙ sym (length-replicate {A = ℕ} room 0xA5)); sound = h .sound }
-
--- a reply in the first bytes of a buffer leaves its length
-pub part-length : (spare part : List ℕ) (k : ℕ) → k ≤ length spare → length part ≡ length (take k spare) → length (part ++ drop k spare) ≡ length spare
-part-length spare part k h e = omega (arith, e, length-append part (drop k spare), length-take-le k spare h, length-drop k spare)
 
 -- and a line of a fitting length, read with room for its bytes, is its call
 pub made-read : {c d : Controller} {call : read.Call} {line old new : List ℕ} → ReadsCall line old new call → 2048 ≤ length old → length line ≤ 4095

@@ -3,7 +3,7 @@ use calls::Call;
 use controller::Controller;
 use pieces::Words;
 ghost use mathlib.Core.List.{[]};
-ghost use lib.ListN.{take};
+ghost use lib.ListN.{length, take};
 ghost use Rattle.laws.specs.Decimal.{good};
 ghost use Rattle.controller.specs.Sound.{Sound};
 ghost use Rattle.calls.specs.Call.{modbus};
@@ -21,7 +21,19 @@ fn put_unread(out: &mut [u8]) -> usize {
     pieces::line(out, 0, Words::none(b'?'))
 }
 
-// A MODBUS frame of the first n bytes; the buffer that it is lent is shown whole.
+// A MODBUS frame; the buffer that it is lent is shown whole.
+fn serve(c: Controller, frame: &[u8], reply: &mut [u8], out: &mut [u8]) -> Answered
+    requires { ⌜ Sound c ⌝ }
+    ensures { λ r. ⌜ Made c (good (modbus (now (frame .entry)) (length (now (reply .entry)))) []) (r .controller) ⌝ }
+{
+    let polled = panel::poll(c, frame, reply);
+    let said = polled.answer;
+    let controller = polled.next;
+    let len = pieces::shown(out, 0, boxed::modbus(said), reply);
+    Answered { controller, len }
+}
+
+// A MODBUS frame of the first n bytes, with room for a reply.
 fn poll(c: Controller, n: usize, room: usize, bytes: &[u8], out: &mut [u8]) -> Answered
     requires { ⌜ Sound c ⌝ }
     ensures { λ r. ⌜ Made c (roomed room (good (modbus (take n (now (bytes .entry))) room) [])) (r .controller) ⌝ }
@@ -35,12 +47,7 @@ fn poll(c: Controller, n: usize, room: usize, bytes: &[u8], out: &mut [u8]) -> A
     let mut reply = pieces::no_reply();
     pieces::lend(&mut reply, room);
     let size = text::least(n, bytes.len());
-    let polled = panel::poll(c, &bytes[..size], &mut reply[..room]);
-    let said = polled.answer;
-    let controller = polled.next;
-    let lent = pieces::within(room, &reply);
-    let len = pieces::shown(out, 0, boxed::modbus(said), &reply[..lent]);
-    Answered { controller, len }
+    serve(c, &bytes[..size], &mut reply[..room], out)
 }
 
 // The text of the answer to a call that needs no box.

@@ -1,9 +1,7 @@
 // The whole lines of a block of input, each answered.
 use controller::Controller;
 use lines::Intake;
-use runs::Run;
 use runs::Stop;
-ghost use mathlib.Core.Path.{_≡_};
 ghost use Rattle.controller.specs.Sound.{Sound};
 ghost use Rattle.blocks.specs.Carries.{Carries};
 
@@ -11,15 +9,6 @@ ghost use Rattle.blocks.specs.Carries.{Carries};
 pub struct Carried {
     pub controller: Controller,
     pub intake: Intake,
-}
-
-// What a run leaves.
-fn left_by(run: Run) -> Carried
-    ensures { λ r. ⌜ r ≡ record { controller = run .controller; intake = run .intake } ⌝ }
-{
-    let controller = run.controller;
-    let intake = run.intake;
-    Carried { controller, intake }
 }
 
 // Answers the whole lines of what is held; the answers are written out by way of `out`.
@@ -35,7 +24,9 @@ pub fn answer(mut c: Controller, mut held: Intake, input: &[u8], out: &mut [u8])
         let stop = run.stop;
         let Stop::Call(call) = stop else {
             runs::write_out(out, run.len);
-            return left_by(run);
+            let controller = run.controller;
+            let intake = run.intake;
+            return Carried { controller, intake };
         };
         let answered = answers::answer(run.controller, call, &bytes, &mut spare, out, run.len);
         c = answered.controller;

@@ -1,9 +1,9 @@
-use mathlib.Core.Path.{refl, sym, ap, _∙_, subst}
+use mathlib.Core.Path.{refl, sym, ap, ap₂, _∙_, subst}
 use mathlib.Core.List.{List, []}
-use Prim.Native.Nat.{ℕ}
+use Prim.Native.Nat.{ℕ, _≤_}
 use native.Mathlib.Omega.{arith}
 use denote.Ref.{now}
-use lib.ListN.{take}
+use lib.ListN.{length, take}
 use lib.Seq.{length-take-le}
 use Rattle.laws.specs.Decimal.{Parsed, good}
 use Rattle.lines.specs.Places.{take-least}
@@ -12,7 +12,6 @@ use Rattle.calls.specs.Call.{Call, modbus}
 use Rattle.acts.specs.Acts.{eventsIn, madeBy}
 use Rattle.acts.specs.Makes.{Made}
 use Rattle.acts.specs.Hears.{roomed-in, roomed-out}
-use Rattle.acts.specs.Script.{made-polled, part-length}
 use borrow.Author.Needs.{needs}
 use Rattle.answers.proofs.poll.Statement.{statement}
 use Rattle.answers.proofs.poll.Tie as tie
@@ -24,26 +23,18 @@ returns c =
     let start = c .before .before .before .before .before .before .before in
     subst (λ (p : Parsed Call). Made (start .args .c) p (start .args .c)) (roomed-out _ (c .before .before .before .before .if1 .taken)) (record { next = refl; sound = start .pre })
 
+-- its reply has room
+fits : (c : tie.After-least) → c .before .before .before .before .before .before .before .before .args .room ≤ length (c .before .before .lend .last .0)
+fits c = omega (arith, c .before .before .lend .kept .0, c .before .before .before .before .no-reply .ensures, c .before .before .before .before .before .if1 .left)
+
 returns-2 : tie.Need-returns-2
 returns-2 c =
-    let start = c .before .before .before .before .before .before .before .before .before .before .before .before .before .before .before .before .before .before .before .before .before in
-    let small = c .before .before .before .before .before .before .before .before .before .before .before .before .before .before .before .before .before .before .if1 .left in
-    let lend = c .before .before .before .before .before .before .before .before .before .before .before .before .before .before .before .lend in
-    let none = c .before .before .before .before .before .before .before .before .before .before .before .before .before .before .before .before .before .no-reply in
-    let poll = c .before .before .before .before .before .before .before .before .before .before .poll in
+    let start = c .before .before .before .before .before .before .before .before .before .before .before .before .before .before .before in
     let bytes = now (start .args .bytes) in
-    let s = ap (λ (n : ℕ). take n bytes) (c .before .before .before .before .before .before .before .before .before .before .before .before .before .least .ensures) ∙ take-least (start .args .n) bytes in
-    subst (λ (p : Parsed Call). Made (start .args .c) p (poll .result .next)) (ap (λ (t : List ℕ). good (modbus t (start .args .room)) []) s ∙ roomed-in small)
-    (made-polled (length-take-le _ _ (omega (arith, lend .kept .0, none .ensures, small))) (poll .result) (poll .ensures))
-
--- the buffer keeps its length
-lent-whole : tie.Need-slice-aggregate-within
-lent-whole c =
-    let lend = c .before .before .before .before .before .before .before .before .lend in
-    let none = c .before .before .before .before .before .before .before .before .before .before .no-reply in
-    let poll = c .before .before .before .poll in
-    let small = c .before .before .before .before .before .before .before .before .before .before .before .if1 .left in
-    none .ensures ∙ sym (lend .kept .0) ∙ sym (part-length (lend .last .0) (poll .last .1 .1 .0) (c .before .before .before .before .before .before .before .before .before .before .before .before .before .before .args .room) (omega (arith, lend .kept .0, none .ensures, small)) (poll .kept .1 .1 .0))
+    let frame = ap (λ (n : ℕ). take n bytes) (c .before .before .before .before .before .before .before .least .ensures) ∙ take-least (start .args .n) bytes in
+    let room = length-take-le _ _ (fits (c .before .before .before .before .before .before .before)) in
+    subst (λ (p : Parsed Call). Made (start .args .c) p (c .before .before .before .serve .result .controller)) (ap₂ {C = Parsed Call} (λ (s : List ℕ) (k : ℕ). good (modbus s k) []) frame room ∙ roomed-in (c .before .before .before .before .before .before .before .before .before .before .before .before .if1 .left))
+    (c .before .before .before .serve .ensures)
 
 pub poll-spec : {M : Type 1} → statement M
 poll-spec =
@@ -51,8 +42,8 @@ poll-spec =
     (tie.spec
     (λ c κs. tt) (λ c. search needs) returns (λ c κs. tt) (λ c. c .before .no-reply .ensures) (λ c κs. tt) (λ c κs. tt)
     (λ c. sym (length-take-le _ _ (omega (arith, c .before .least .ensures))))
-    (λ c. omega (arith, c .before .before .before .lend .kept .0, c .before .before .before .before .before .no-reply .ensures, c .before .before .before .before .before .before .if1 .left))
-    (λ c. sym (length-take-le _ _ (omega (arith, c .before .before .before .before .lend .kept .0, c .before .before .before .before .before .before .no-reply .ensures, c .before .before .before .before .before .before .before .if1 .left))))
-    (λ c κs. c .before .before .before .before .before .before .before .before .before .before .pre)
-    lent-whole (λ c κs. tt) (λ c κs. tt) (λ c. search needs) (λ c. search needs) (λ c κs. tt) (λ c. search needs)
+    (λ c. fits (c .before))
+    (λ c. sym (length-take-le _ _ (fits (c .before .before))))
+    (λ c κs. c .before .before .before .before .before .before .before .before .before .before .before .pre)
+    (λ c. search needs)
     returns-2)

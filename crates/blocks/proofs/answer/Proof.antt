@@ -1,11 +1,9 @@
-use mathlib.Core.Path.{_≡_, refl, sym, _∙_, subst}
+use mathlib.Core.Path.{_≡_, refl, sym, _∙_}
 use Prim.Native.Nat.{_-_}
 use native.Mathlib.Omega.{arith}
-use denote.Ref.{now}
 use lib.ListN.{length}
 use Rattle.acts.specs.Script.{Brings, brings-none, brings-then}
 use Rattle.runs.specs.Runs.{ran-pending, ran-on}
-use Rattle.blocks.specs.Carries.{Carries}
 use Rattle.blocks.proofs.answer.Statement.{statement}
 use Rattle.blocks.proofs.answer.Tie as tie
 
@@ -18,10 +16,10 @@ abbrev μ-loop : tie.MeasureT-loop
 
 returns : tie.Need-returns Inv-loop μ-loop
 returns c =
-    let a = c .before .before .before .before .before .before .before .before .before .before .before .before .before .before .before .before .args in
-    let run = c .before .before .before .before .before .before .before .before .answer in
-    let on = ran-on (run .result) (c .before .before .before .enum-told .given .1) (run .ensures) in
-    subst (Carries (a .c) (a .held) (now (a .input))) (sym (c .left-by .ensures)) record { brings = brings-then (c .before .before .before .before .before .before .before .before .before .before .before .loop .inv .0) (on .0); waits = on .1 (omega (arith, run .kept .1 .1 .1 .0, c .before .before .before .before .before .before .before .before .before .before .before .loop .inv .1)) }
+    let inv = c .before .before .before .before .before .before .before .before .before .before .before .before .loop .inv in
+    let run = c .before .before .before .before .before .before .before .before .before .answer in
+    let on = ran-on (run .result) (c .before .before .before .before .enum-told .given .1) (run .ensures) in
+    record { brings = brings-then (inv .0) (on .0); waits = on .1 (omega (arith, run .kept .1 .1 .1 .0, inv .1)) }
 
 -- the call at which a run stopped is made
 loop-again : tie.Need-loop-again Inv-loop μ-loop
@@ -43,8 +41,8 @@ answer-spec =
     (tie.spec
     Inv-loop μ-loop (λ c κs. tt) (λ c κs. tt) (λ c. (brings-none (c .before .before .before .before .pre), c .before .buffer .ensures, c .buffer2 .ensures, refl))
     (λ c. c .before .loop .inv .1) (λ c κs. c .before .before .loop .inv .0 .sound)
-    (λ c. c .match .keys1) (λ c. c .match .keys2) (λ c κs. tt) (λ c κs. tt)
-    (λ c. c .before .before .before .before .before .before .before .before .answer .kept .1 .1 .1 .1 .0 ∙ c .before .before .before .before .before .before .before .before .before .before .before .loop .inv .3) returns
+    (λ c. c .match .keys1) (λ c. c .match .keys2) (λ c κs. tt)
+    (λ c. c .before .before .before .before .before .before .before .before .before .answer .kept .1 .1 .1 .1 .0 ∙ c .before .before .before .before .before .before .before .before .before .before .before .before .loop .inv .3) returns
     (λ c. c .before .before .before .before .before .before .before .before .before .before .loop .inv .1 ∙ sym (c .before .before .before .before .before .before .before .answer .kept .1 .1 .1 .0)) (λ c. c .before .before .before .before .before .before .before .before .before .before .before .loop .inv .2)
     (λ c κs. c .before .before .before .before .before .before .before .before .before .answer .ensures .sound)
     (λ c. let run = c .before .before .before .before .before .before .before .before .before .before .before .before .before .before .before .answer in ran-pending (run .result) (c .before .before .before .before .before .before .before .before .before .before .stop .given .1) (run .ensures) .less) loop-again)

@@ -1,11 +1,11 @@
 use mathlib.Core.Path.{_≡_, refl, sym, ap, _∙_, subst}
-use mathlib.Core.List.{List, [], _∷_}
+use mathlib.Core.List.{List, [], _∷_, _++_}
 use Prim.Native.Nat.{ℕ, _-_, _≤_, _<_}
 use native.Mathlib.Omega.{arith}
 use types.Run.{OneOf, miss}
 use denote.Enum.Declared.{tagOf}
 use denote.Ref.{now}
-use lib.ListN.{length, take, drop}
+use lib.ListN.{length, take, drop, length-append, length-drop}
 use lib.Seq.{length-take-le}
 use Rattle.controller.specs.declared.Controller.{Controller}
 use Rattle.controller.specs.declared.Requested.{Requested}
@@ -24,7 +24,7 @@ use Rattle.laws.specs.Decimal.{Parsed}
 use Rattle.calls.specs.Call.{Call}
 use Rattle.acts.specs.Makes.{Made}
 use Rattle.acts.specs.Hears.{answeredIn, heard-as}
-use Rattle.acts.specs.Script.{Brings, brings-none, brings-then, brings-line, brings-more, line-behind, line-short, none-waits, made-read, made-asked, part-length}
+use Rattle.acts.specs.Script.{Brings, brings-none, brings-then, brings-line, brings-more, line-behind, line-short, none-waits, made-read, made-asked}
 use Rattle.runs.specs.Runs.{Stops}
 use borrow.Author.Needs.{needs}
 use Rattle.runs.proofs.answer.Statement.{statement}
@@ -40,6 +40,10 @@ asked {c} bytes r e f h = subst (λ (k : read.Call). Made c (asCall bytes k) (r 
 roomy : {call : read.Call} {n room : ℕ} → call ≡ C.Request n room → Within call → (n ≤ 2048) × (room ≤ 64)
 unfolding Within
 roomy e w = subst Within e w
+
+-- a reply in the first bytes of a buffer leaves its length
+part-length : (spare part : List ℕ) (k : ℕ) → k ≤ length spare → length part ≡ length (take k spare) → length (part ++ drop k spare) ≡ length spare
+part-length spare part k h e = omega (arith, e, length-append part (drop k spare), length-take-le k spare h, length-drop k spare)
 
 -- the lines behind it find that controller
 step : (input : List ℕ) (held : Intake) (t : Taken) → t ≡ nextOf held input → {first c d : Controller} {start : Intake} {from to : ℕ} {call : read.Call} {old new : List ℕ}
