@@ -1,12 +1,10 @@
 -- What a call gives from the contract of the box's call that it makes. Assumes nothing.
 use mathlib.Core.Path.{_≡_, refl, sym, ap, _∙_, subst}
-use mathlib.Core.List.{List, [], _∷_}
-use Prim.Native.Nat.{ℕ, _≤_, _<_}
-use types.Run.{OneOf, miss}
-use borrow.Author.Tests.{le-leb, lt-leb}
-use denote.Enum.Declared.{tagOf}
-use Rattle.laws.specs.Decimal.{Parsed, good, bad}
-use Rattle.laws.specs.Pick.{pick-t, pick-f}
+use mathlib.Core.List.{List, []}
+use Prim.Native.Nat.{ℕ, _≤_, min}
+use lib.ListN.{length, take}
+use Rattle.laws.specs.Decimal.{Parsed, good}
+use Rattle.lines.specs.Places.{take-least}
 use Rattle.paper.specs.Answer.{done}
 use Rattle.settings.specs.declared.Settings.{Settings}
 use Rattle.controller.specs.declared.Controller.{Controller}
@@ -19,14 +17,11 @@ use Rattle.controller.specs.Sound.{Sound}
 use Rattle.series.specs.Events.{eventOf, run}
 use Rattle.calls.specs.Call.{Call, order}
 use Rattle.calls.specs.declared.Call as read
-use Rattle.calls.specs.declared.Call.the-variants as C
 use Rattle.calls.specs.declared.Order.{Order}
 use Rattle.calls.specs.declared.Order.the-variants.{Restart}
-use Rattle.calls.proofs.Call.{the-type as call-type}
-use Rattle.calls.specs.Reads.{asCall}
-use Rattle.acts.specs.Acts.{orderEvents, callEvents, eventsIn, madeBy, restarted, saidOf, saidTo}
-use Rattle.acts.specs.Makes.{saysAct, Acts, inUse, restart-kept}
-use Rattle.acts.specs.Hears.{roomed, heardIn}
+use Rattle.acts.specs.Acts.{orderEvents, callEvents, eventsIn, madeBy, restarted, framed, saidOf, saidTo}
+use Rattle.acts.specs.Makes.{saysAct, Made, Acts, inUse, restart-kept}
+use Rattle.acts.specs.Hears.{roomed, heardIn, roomed-in}
 use Rattle.acts.specs.declared.Answer.the-variants as A
 use Rattle.acts.specs.declared.Acted.{Acted}
 
@@ -55,25 +50,16 @@ ordered-as {c} {r = r} e h = subst (λ (o : Order). Acts c (good (order o) []) r
 pub heard-by : {c : Controller} (s : List ℕ) {a b : read.Call} {r : Acted} → a ≡ b → Acts c (heardIn s b) r → Acts c (heardIn s a) r
 heard-by {c} s {r = r} e h = subst (λ (call : read.Call). Acts c (heardIn s call) r) (sym e) h
 
--- a frame with room for its reply, and one without
-pub roomed-acts : {c : Controller} (p : Parsed Call) {room : ℕ} {r : Acted} → room ≤ 64 → Acts c p r → Acts c (roomed room p) r
-unfolding roomed
-roomed-acts {c} p {r = r} h a = subst (λ (q : Parsed Call). Acts c q r) (sym (pick-t _ _ _ (le-leb _ 64 h))) a
+-- what is heard as another call
+pub acts-as : {c : Controller} {p q : Parsed Call} {r : Acted} → p ≡ q → Acts c p r → Acts c q r
+acts-as {c} {r = r} e a = subst (λ (p : Parsed Call). Acts c p r) e a
 
-pub unroomed-acts : {c : Controller} (p : Parsed Call) {room : ℕ} {r : Acted} → 64 < room → Acts c bad r → Acts c (roomed room p) r
-unfolding roomed
-unroomed-acts {c} p {r = r} h a = subst (λ (q : Parsed Call). Acts c q r) (sym (pick-f _ _ _ (lt-leb _ 64 h))) a
-
--- what needs no box leaves it
-abbrev idle : List ℕ
-idle = 4 ∷ 5 ∷ []
-
-pub acts-aside : {c : Controller} (s : List ℕ) (call : read.Call) → OneOf idle (tagOf call-type call) → Sound c → Acts c (heardIn s call) (record { next = c; answer = A.Aside })
-unfolding heardIn asCall madeBy eventsIn callEvents run saidTo saysAct
-acts-aside s (C.Tick x i) h k = absurd (miss idle 0 tt h)
-acts-aside s (C.Request n room) h k = absurd (miss idle 1 tt h)
-acts-aside s (C.Modbus n room) h k = absurd (miss idle 2 tt h)
-acts-aside s (C.Order o) h k = absurd (miss idle 3 tt h)
-acts-aside s (C.Item i) h k = record { made = record { next = refl; sound = k }; says = refl }
-acts-aside s (C.Bytes v n m) h k = record { made = record { next = refl; sound = k }; says = refl }
-acts-aside s C.Unknown h k = absurd (miss idle 6 tt h)
+-- a frame of at most n bytes with room for its reply: it was served
+pub acts-framed : {c d : Controller} (frame : List ℕ → Call) (bytes : List ℕ) (n : ℕ) {room size : ℕ} → room ≤ 64 → size ≡ min n (length bytes) → saidTo c (good (frame (take n bytes)) []) ≡ framed
+    → Made c (good (frame (take size bytes)) []) d → Acts c (roomed room (good (frame (take n bytes)) [])) (record { next = d; answer = A.Frame })
+unfolding saysAct
+acts-framed {c} {d} frame bytes n small e told m =
+    acts-as (roomed-in small) (record {
+      made = subst (λ (s : List ℕ). Made c (good (frame s) []) d) (ap (λ (k : ℕ). take k bytes) e ∙ take-least n bytes) m;
+      says = sym told;
+    })

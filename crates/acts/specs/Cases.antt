@@ -13,7 +13,7 @@ use Rattle.calls.specs.Reads.{asCall}
 use Rattle.calls.specs.declared.Call.the-variants.{Tick, Request, Modbus, Unknown}
 use Rattle.calls.specs.declared.Order.the-variants.{Link, Counters}
 use Rattle.calls.specs.declared.Use.the-variants.{ReadFrame, Hour}
-use Rattle.acts.specs.Hears.{roomed, heardIn}
+use Rattle.acts.specs.Hears.{roomed, heardIn, answeredIn}
 use Rattle.acts.specs.Acts.{blank, orderEvents, callEvents, eventsIn, madeBy, aside, unread, counted, saidOf, saidTo}
 
 -- a line that is no call, the counters and a call that needs no box leave the controller; the link start is set; a reply has the room that its request asks for
@@ -34,7 +34,7 @@ pub said :
 unfolding saidTo saidOf freshOf restarted
 said = (refl, refl, refl)
 
--- a tick is not heard, nor is a frame with room for 65 bytes of a reply; one that says more bytes than there are has all of them
+-- a tick is not heard, nor is a frame with room for 65 bytes of a reply; one that says more bytes than there are has all of them; a line request is heard and not answered
 pub heard :
     (heardIn [] (Tick (pos 5) 0) ≡ bad)
     × (heardIn (7 ∷ 8 ∷ []) (Request 1 64) ≡ good (calls.request (7 ∷ []) 64) [])
@@ -42,5 +42,6 @@ pub heard :
     × (heardIn (7 ∷ 8 ∷ []) (Modbus 9 0) ≡ good (calls.modbus (7 ∷ 8 ∷ []) 0) [])
     × (heardIn [] (Modbus 0 65) ≡ bad)
     × (heardIn [] Unknown ≡ bad)
-unfolding heardIn roomed asCall pick
-heard = (refl, refl, refl, refl, refl, refl)
+    × (answeredIn (7 ∷ 8 ∷ []) (Request 1 64) ≡ bad)
+unfolding heardIn answeredIn roomed asCall pick
+heard = (refl, refl, refl, refl, refl, refl, refl)

@@ -1,10 +1,10 @@
 -- Which calls are heard where a program makes every tick by itself. Assumes nothing.
-use mathlib.Core.Path.{_≡_, refl}
+use mathlib.Core.Path.{_≡_, refl, sym}
 use mathlib.Core.List.{List}
-use Prim.Native.Nat.{ℕ}
+use Prim.Native.Nat.{ℕ, _≤_, _<_}
 use lib.Dec.{leb}
-use borrow.Author.Tests.{le-leb}
-use Rattle.laws.specs.Pick.{pick, pick-t}
+use borrow.Author.Tests.{le-leb, lt-leb}
+use Rattle.laws.specs.Pick.{pick, pick-t, pick-f}
 use Rattle.laws.specs.Decimal.{Parsed, bad}
 use Rattle.calls.specs.Call.{Call}
 use Rattle.calls.specs.declared.Call as declared
@@ -25,13 +25,31 @@ heardIn s (C.Item i) = asCall s (C.Item i)
 heardIn s (C.Bytes u n k) = asCall s (C.Bytes u n k)
 heardIn s C.Unknown = bad
 
+pub roomed-in : {p : Parsed Call} {room : ℕ} → room ≤ 64 → p ≡ roomed room p
+unfolding roomed
+roomed-in {room = room} h = sym (pick-t _ _ _ (le-leb room 64 h))
+
+pub roomed-out : (p : Parsed Call) {room : ℕ} → 64 < room → bad ≡ roomed room p
+unfolding roomed
+roomed-out p {room = room} h = sym (pick-f _ _ _ (lt-leb room 64 h))
+
 -- every call of a line but a tick
 pub heard-as : (s : List ℕ) (call : declared.Call) → Unticked call → Within call → heardIn s call ≡ asCall s call
-unfolding heardIn roomed Within asCall
+unfolding heardIn Within asCall
 heard-as s (C.Tick x i) u w = absurd u
-heard-as s (C.Request n room) u w = pick-t _ _ _ (le-leb room 64 (w .1))
-heard-as s (C.Modbus n room) u w = pick-t _ _ _ (le-leb room 64 (w .1))
+heard-as s (C.Request n room) u w = sym (roomed-in (w .1))
+heard-as s (C.Modbus n room) u w = sym (roomed-in (w .1))
 heard-as s (C.Order o) u w = refl
 heard-as s (C.Item i) u w = refl
 heard-as s (C.Bytes v n k) u w = refl
 heard-as s C.Unknown u w = refl
+
+-- where it makes every line request by itself, too, that is no call either
+unfoldable pub answeredIn : List ℕ → declared.Call → Parsed Call
+answeredIn s (C.Tick x i) = bad
+answeredIn s (C.Request n room) = bad
+answeredIn s (C.Modbus n room) = heardIn s (C.Modbus n room)
+answeredIn s (C.Order o) = heardIn s (C.Order o)
+answeredIn s (C.Item i) = heardIn s (C.Item i)
+answeredIn s (C.Bytes u n k) = heardIn s (C.Bytes u n k)
+answeredIn s C.Unknown = bad

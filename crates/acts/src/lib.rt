@@ -103,10 +103,10 @@ pub fn order(c: Controller, ordered: Order) -> Acted
     }
 }
 
-// A reply that goes nowhere has at most so many bytes.
-const REPLY: usize = 64;
+// A reply has at most so many bytes.
+pub const REPLY: usize = 64;
 
-// Bytes for it.
+// Bytes for one that goes nowhere.
 fn no_reply() -> [u8; 64]
     ensures { λ r. ⌜ 64 ≡ length r ⌝ }
 {
@@ -170,10 +170,14 @@ pub fn other(c: Controller, call: Call, bytes: &[u8]) -> Acted
         Call::Request(n, room) => requested(c, n as usize, room as usize, bytes),
         Call::Modbus(n, room) => polled(c, n as usize, room as usize, bytes),
         Call::Order(ordered) => order(c, ordered),
-        Call::Unknown => unread(c),
-        _ => Acted {
+        Call::Item(_) => Acted {
             next: c,
             answer: Answer::Aside,
         },
+        Call::Bytes(_, _, _) => Acted {
+            next: c,
+            answer: Answer::Aside,
+        },
+        Call::Unknown => unread(c),
     }
 }

@@ -3,13 +3,12 @@ use calls::Call;
 use controller::Controller;
 use pieces::Words;
 ghost use mathlib.Core.List.{[]};
-ghost use Prim.Native.Nat.{_≤_};
 ghost use lib.ListN.{length, take};
 ghost use Rattle.laws.specs.Decimal.{good};
 ghost use Rattle.controller.specs.Sound.{Sound};
 ghost use Rattle.calls.specs.Call.{modbus};
-ghost use Rattle.calls.specs.Reads.{asCall, Other, Within};
 ghost use Rattle.acts.specs.Makes.{Made};
+ghost use Rattle.acts.specs.Hears.{roomed, answeredIn};
 
 // The controller after the call, and the place after the text of its answer.
 pub struct Answered {
@@ -17,29 +16,41 @@ pub struct Answered {
     pub len: usize,
 }
 
-// A MODBUS frame of the first n bytes; the buffer that it is lent, the start of `spare`, is shown whole.
-fn poll(
-    c: Controller,
-    n: usize,
-    room: usize,
-    bytes: &[u8],
-    spare: &mut [u8],
-    out: &mut [u8],
-) -> Answered
-    requires sound { ⌜ Sound c ⌝ }
-    requires room { ⌜ (n ≤ length (now bytes)) × (room ≤ length (now spare)) ⌝ }
-    ensures { λ r. ⌜ Made c (good (modbus (take n (now (bytes .entry))) room) []) (r .controller) ⌝ }
+// ? for what is no call here.
+fn put_unread(out: &mut [u8]) -> usize {
+    pieces::line(out, 0, Words::none(b'?'))
+}
+
+// A MODBUS frame; the buffer that it is lent is shown whole.
+fn serve(c: Controller, frame: &[u8], reply: &mut [u8], out: &mut [u8]) -> Answered
+    requires { ⌜ Sound c ⌝ }
+    ensures { λ r. ⌜ Made c (good (modbus (now (frame .entry)) (length (now (reply .entry)))) []) (r .controller) ⌝ }
 {
-    pieces::lend(spare, room);
-    let polled = panel::poll(c, &bytes[..n], &mut spare[..room]);
+    let polled = panel::poll(c, frame, reply);
     let said = polled.answer;
     let controller = polled.next;
-    let n = pieces::within(room, spare);
-    let len = pieces::shown(out, 0, boxed::modbus(said), &spare[..n]);
+    let len = pieces::shown(out, 0, boxed::modbus(said), reply);
     Answered { controller, len }
 }
 
-// The text of the answer to a call that needs no box; ? where the line is no call.
+// A MODBUS frame of the first n bytes, with room for a reply.
+fn poll(c: Controller, n: usize, room: usize, bytes: &[u8], out: &mut [u8]) -> Answered
+    requires { ⌜ Sound c ⌝ }
+    ensures { λ r. ⌜ Made c (roomed room (good (modbus (take n (now (bytes .entry))) room) [])) (r .controller) ⌝ }
+{
+    if acts::REPLY < room {
+        return Answered {
+            controller: c,
+            len: put_unread(out),
+        };
+    }
+    let mut reply = pieces::no_reply();
+    pieces::lend(&mut reply, room);
+    let size = text::least(n, bytes.len());
+    serve(c, &bytes[..size], &mut reply[..room], out)
+}
+
+// The text of the answer to a call that needs no box.
 fn put_aside(out: &mut [u8], call: Call, bytes: &[u8], spare: &mut [u8]) -> usize {
     match call {
         Call::Item(item) => asides::item(out, item, spare),
@@ -47,19 +58,17 @@ fn put_aside(out: &mut [u8], call: Call, bytes: &[u8], spare: &mut [u8]) -> usiz
             let size = pieces::within(n as usize, bytes);
             asides::bytes(out, made, number, &bytes[..size], spare)
         }
-        _ => pieces::line(out, 0, Words::none(b'?')),
+        _ => put_unread(out),
     }
 }
 
 // The call is made, and its answer put at the start of `out`.
 fn put(c: Controller, call: Call, bytes: &[u8], spare: &mut [u8], out: &mut [u8]) -> Answered
-    requires sound { ⌜ Sound c ⌝ }
-    requires call { ⌜ Other call × Within call ⌝ }
-    requires room { ⌜ (2048 ≤ length (now bytes)) × (64 ≤ length (now spare)) ⌝ }
-    ensures { λ r. ⌜ Made c (asCall (now (bytes .entry)) call) (r .controller) ⌝ }
+    requires { ⌜ Sound c ⌝ }
+    ensures { λ r. ⌜ Made c (answeredIn (now (bytes .entry)) call) (r .controller) ⌝ }
 {
     match call {
-        Call::Modbus(n, room) => poll(c, n as usize, room as usize, bytes, spare, out),
+        Call::Modbus(n, room) => poll(c, n as usize, room as usize, bytes, out),
         Call::Order(order) => {
             let acted = acts::order(c, order);
             let said = acted.answer;
@@ -80,7 +89,7 @@ fn place_after(out: &[u8], at: usize, len: usize) -> usize {
     from + pieces::within(len, &out[from..])
 }
 
-// The call is made on the first of `bytes`, and its answer put at `at`; the buffer that it is lent is the start of `spare`.
+// The call is made on the first of `bytes`, and its answer put at `at`; a writer's buffer is the start of `spare`.
 pub fn answer(
     c: Controller,
     call: Call,
@@ -89,10 +98,8 @@ pub fn answer(
     out: &mut [u8],
     at: usize,
 ) -> Answered
-    requires sound { ⌜ Sound c ⌝ }
-    requires call { ⌜ Other call × Within call ⌝ }
-    requires room { ⌜ (2048 ≤ length (now bytes)) × (64 ≤ length (now spare)) ⌝ }
-    ensures { λ r. ⌜ Made c (asCall (now (bytes .entry)) call) (r .controller) ⌝ }
+    requires { ⌜ Sound c ⌝ }
+    ensures { λ r. ⌜ Made c (answeredIn (now (bytes .entry)) call) (r .controller) ⌝ }
 {
     let from = pieces::within(at, out);
     let mut answered = put(c, call, bytes, spare, &mut out[from..]);

@@ -1,11 +1,7 @@
 // The whole lines of a block of input, each answered.
 use controller::Controller;
 use lines::Intake;
-use runs::Run;
 use runs::Stop;
-ghost use mathlib.Core.Path.{_≡_};
-ghost use Prim.Native.Nat.{_≤_};
-ghost use lib.ListN.{length};
 ghost use Rattle.controller.specs.Sound.{Sound};
 ghost use Rattle.blocks.specs.Carries.{Carries};
 
@@ -15,37 +11,24 @@ pub struct Carried {
     pub intake: Intake,
 }
 
-// What a run leaves.
-fn left_by(run: Run) -> Carried
-    ensures { λ r. ⌜ r ≡ record { controller = run .controller; intake = run .intake } ⌝ }
-{
-    let controller = run.controller;
-    let intake = run.intake;
-    Carried { controller, intake }
-}
-
 // Answers the whole lines of what is held; the answers are written out by way of `out`.
-pub fn answer(
-    mut c: Controller,
-    mut held: Intake,
-    input: &[u8],
-    bytes: &mut [u8],
-    spare: &mut [u8],
-    out: &mut [u8],
-) -> Carried
-    requires sound { ⌜ Sound c ⌝ }
-    requires room { ⌜ (2048 ≤ length (now bytes)) × (64 ≤ length (now spare)) ⌝ }
+pub fn answer(mut c: Controller, mut held: Intake, input: &[u8], out: &mut [u8]) -> Carried
+    requires { ⌜ Sound c ⌝ }
     ensures { λ r. ⌜ Carries c held (now (input .entry)) r ⌝ }
 {
+    let mut bytes = io::buffer();
+    let mut spare = io::buffer();
     let mut len: usize = 0;
     loop {
-        let run = runs::answer(c, held, input, bytes, spare, out, len);
+        let run = runs::answer(c, held, input, &mut bytes, out, len);
         let stop = run.stop;
         let Stop::Call(call) = stop else {
             runs::write_out(out, run.len);
-            return left_by(run);
+            let controller = run.controller;
+            let intake = run.intake;
+            return Carried { controller, intake };
         };
-        let answered = answers::answer(run.controller, call, bytes, spare, out, run.len);
+        let answered = answers::answer(run.controller, call, &bytes, &mut spare, out, run.len);
         c = answered.controller;
         len = answered.len;
         held = run.intake;

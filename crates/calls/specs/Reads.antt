@@ -81,16 +81,6 @@ Unticked (C.Item i) = Unit {0}
 Unticked (C.Bytes u n k) = Unit {0}
 Unticked C.Unknown = Unit {0}
 
--- and every call but a tick and a line request
-abbrev pub Other : declared.Call → Type 0
-Other (C.Tick x i) = ⊥
-Other (C.Request n room) = ⊥
-Other (C.Modbus n room) = Unit {0}
-Other (C.Order o) = Unit {0}
-Other (C.Item i) = Unit {0}
-Other (C.Bytes u n k) = Unit {0}
-Other C.Unknown = Unit {0}
-
 -- the answer is the line's call; its bytes stand at the buffer's start, the rest of which is as it was: all of it where the line is no call
 pub record ReadsCall (l old new : List ℕ) (r : declared.Call) : Type 0 where
   pub reads : asCall new r ≡ readIn (length old) l

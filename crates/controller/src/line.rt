@@ -13,8 +13,6 @@ use asking::Zeroing;
 use dosing::Units;
 ghost use mathlib.Core.Path.{_≡_};
 ghost use Rattle.controller.specs.State.{withZ};
-ghost use Rattle.controller.specs.Ready.{isReady};
-ghost use Rattle.controller.specs.Line.{timely};
 ghost use Rattle.controller.specs.Sound.{Sound};
 ghost use Rattle.controller.specs.Says.{Replies};
 

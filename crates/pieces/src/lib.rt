@@ -1,4 +1,5 @@
 // The pieces of an answer's text, each put at a place of a lent buffer and answering the place after it. A piece without room is left out.
+ghost use mathlib.Core.Path.{_≡_};
 ghost use Prim.Native.Nat.{_+_, _*_, _<_, _≤_};
 ghost use lib.ListN.{length};
 ghost use Rattle.io.specs.Counts.{Counts};
@@ -81,6 +82,13 @@ fn blank(buffer: &mut [u8]) {
 pub fn lend(spare: &mut [u8], room: usize) {
     let n = within(room, spare);
     blank(&mut spare[..n]);
+}
+
+// Bytes for a reply.
+pub fn no_reply() -> [u8; 64]
+    ensures { λ r. ⌜ 64 ≡ length r ⌝ }
+{
+    [0u8; 64]
 }
 
 // A minus, where there is one.

@@ -34,11 +34,11 @@ fn made(c: Controller, line: &[u8], bytes: &mut [u8]) -> Controller
 }
 
 // Makes the calls of the whole lines of what is held, up to the empty one.
-pub fn bring(mut c: Controller, mut held: Intake, input: &[u8], bytes: &mut [u8]) -> Brought
-    requires sound { ⌜ Sound c ⌝ }
-    requires room { ⌜ 2048 ≤ length (now bytes) ⌝ }
+pub fn bring(mut c: Controller, mut held: Intake, input: &[u8]) -> Brought
+    requires { ⌜ Sound c ⌝ }
     ensures { λ r. ⌜ Brings c held (now (input .entry)) (r .controller) (r .intake) ⌝ }
 {
+    let mut bytes = io::buffer();
     loop {
         let long = held.long;
         let start = held.at;
@@ -52,7 +52,7 @@ pub fn bring(mut c: Controller, mut held: Intake, input: &[u8], bytes: &mut [u8]
                 open: false,
             };
         };
-        c = made(c, &input[from..to], bytes);
+        c = made(c, &input[from..to], &mut bytes);
         if (to == start) & !long {
             return Brought {
                 controller: c,

@@ -17,7 +17,6 @@ use Rattle.lines.specs.declared.Taken.{Taken}
 use Rattle.lines.specs.declared.Next.{Next}
 use Rattle.lines.specs.declared.Next.the-variants.{Line, More}
 use Rattle.lines.specs.Places.{partOf}
-use Rattle.lines.specs.Intake.{Behind}
 use Rattle.lines.specs.Intake as lines
 use Rattle.script.specs.Sight.{sightOf}
 use Rattle.script.specs.Told.{tick-told}

@@ -6,8 +6,6 @@ use lines::Intake;
 fn main() {
     let mut input = io::large_buffer();
     let mut output = io::large_buffer();
-    let mut bytes = io::buffer();
-    let mut spare = io::buffer();
     let mut c = Controller::fresh();
     let mut held = Intake::start();
     let mut reads: u64 = 9223372036854775808;
@@ -17,7 +15,7 @@ fn main() {
             return;
         }
         let intake = refilled.intake;
-        let carried = blocks::answer(c, intake, &input, &mut bytes, &mut spare, &mut output);
+        let carried = blocks::answer(c, intake, &input, &mut output);
         c = carried.controller;
         held = carried.intake;
         reads -= 1;

@@ -10,8 +10,8 @@ use Rattle.lines.specs.Intake.{Waits}
 use Rattle.script.specs.Sight.{sightOf}
 use Rattle.script.specs.declared.Sighted.the-variants as S
 use Rattle.calls.specs.declared.Call as read
-use Rattle.calls.specs.Reads.{asCall, Other, Within}
 use Rattle.acts.specs.Makes.{Made}
+use Rattle.acts.specs.Hears.{answeredIn}
 use Rattle.acts.specs.Script.{Brings}
 use Rattle.runs.specs.declared.Stop.{Stop}
 use Rattle.runs.specs.declared.Stop.the-variants as at
@@ -26,15 +26,13 @@ pub record Reaches (first : Controller) (start : Intake) (input : List ℕ) (r :
 
 -- a call was read that is no tick and no line request: whoever makes it leaves what the lines behind it would have found
 pub record Pending (first : Controller) (start : Intake) (input bytes : List ℕ) (c : Controller) (held : Intake) (call : read.Call) : Type 0 where
-  pub made : (d : Controller) → Made c (asCall bytes call) d → Brings first start input d held
-  pub within : Within call
-  pub other : Other call
+  pub made : (d : Controller) → Made c (answeredIn bytes call) d → Brings first start input d held
   pub less : length input - held .at < length input - start .at
 
--- at such a call, or where every whole line is answered
+-- at such a call, or where every whole line is answered, if there was room for the bytes of a line
 unfoldable pub Stops : Controller → Intake → List ℕ → List ℕ → Controller → Intake → Stop → Type 0
 Stops first start input bytes c held (at.Call call) = Pending first start input bytes c held call
-Stops first start input bytes c held at.More = Brings first start input c held × Waits held input
+Stops first start input bytes c held at.More = Brings first start input c held × (2048 ≤ length bytes → Waits held input)
 
 -- every line before it is answered
 pub record Ran (first : Controller) (start : Intake) (input bytes : List ℕ) (r : Run) : Type 0 where
@@ -47,6 +45,6 @@ pub ran-pending : {first : Controller} {start : Intake} {input bytes : List ℕ}
 unfolding Stops
 ran-pending {first} {start} {input} {bytes} r e h = subst (Stops first start input bytes (r .controller) (r .intake)) e (h .stops)
 
-pub ran-on : {first : Controller} {start : Intake} {input bytes : List ℕ} (r : Run) → r .stop ≡ at.More → Ran first start input bytes r → Brings first start input (r .controller) (r .intake) × Waits (r .intake) input
+pub ran-on : {first : Controller} {start : Intake} {input bytes : List ℕ} (r : Run) → r .stop ≡ at.More → Ran first start input bytes r → Brings first start input (r .controller) (r .intake) × (2048 ≤ length bytes → Waits (r .intake) input)
 unfolding Stops
 ran-on {first} {start} {input} {bytes} r e h = subst (Stops first start input bytes (r .controller) (r .intake)) e (h .stops)

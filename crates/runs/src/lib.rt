@@ -86,20 +86,27 @@ fn ticks(mut c: Controller, mut held: Intake, input: &[u8], out: &mut [u8], at: 
     }
 }
 
-// Answers the whole lines of what is held, behind the first `len` bytes of `out`, up to one that is no tick and no line request.
+// Answers the whole lines of what is held, behind the first `len` bytes of `out`, up to one that is no tick and no line request; none where `bytes` has no room for those of a line.
 pub fn answer(
     mut c: Controller,
     mut held: Intake,
     input: &[u8],
     bytes: &mut [u8],
-    spare: &mut [u8],
     out: &mut [u8],
     mut len: usize,
 ) -> Run
-    requires sound { ⌜ Sound c ⌝ }
-    requires room { ⌜ (2048 ≤ length (now bytes)) × (64 ≤ length (now spare)) ⌝ }
+    requires { ⌜ Sound c ⌝ }
     ensures { λ r. ⌜ Ran c held (now (input .entry)) (now (bytes .exit)) r ⌝ }
 {
+    if bytes.len() < calls::BYTES {
+        return Run {
+            controller: c,
+            intake: held,
+            len,
+            stop: Stop::More,
+        };
+    }
+    let mut reply = pieces::no_reply();
     loop {
         let reached = ticks(c, held, input, out, len);
         c = reached.controller;
@@ -126,10 +133,10 @@ pub fn answer(
         };
         let size = n as usize;
         let most = room as usize;
-        pieces::lend(spare, most);
-        let asked = c.request(&bytes[..size], &mut spare[..most]);
+        pieces::lend(&mut reply, most);
+        let asked = c.request(&bytes[..size], &mut reply[..most]);
         let said = asked.answer;
         c = asked.next;
-        len = boxed::say_request(out, len, said, most, spare);
+        len = boxed::say_request(out, len, said, most, &reply);
     }
 }

@@ -13,7 +13,7 @@ use Rattle.text.specs.Scan.{LF, TAB, expect, onGood, fieldAt}
 use Rattle.text.specs.ScanLaws.{bad-good}
 use Rattle.operands.specs.Numbers.{minus, plus, signedAt, signedField}
 use Rattle.lines.specs.Lines.{Plain}
-use Rattle.calls.specs.Call.{Call, tick, tickAt, linkAt, whyAt, orLast, settingsAt, restartAt, roomAt, bytesCall, writeFieldAt, readFieldAt, doseAt, onAt, flagField, callBy, atEnd, callOf}
+use Rattle.calls.specs.Call.{Call, tick, tickAt, linkAt, whyAt, orLast, settingsAt, restartAt, roomAt, bytesCall, writeFieldAt, readFieldAt, doseAt, onAt, callBy, atEnd, callOf}
 use Rattle.script.specs.Sight.{Seen, seen, unseen, ifTick, onlyTick, tickLine}
 
 -- ---- bytes behind an LF change nothing of what is read before it

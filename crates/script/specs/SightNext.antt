@@ -1,22 +1,21 @@
 -- What is read at the place of the next line is that line's tick. Assumes nothing.
-use mathlib.Core.Path.{_≡_, refl, sym, ap, ap₂, _∙_}
-use mathlib.Core.Bool.{Bool, true, false, _||_}
-use mathlib.Core.List.{List, [], _∷_, _++_}
+use mathlib.Core.Path.{_≡_, refl, sym, ap, _∙_}
+use mathlib.Core.Bool.{Bool, _||_}
+use mathlib.Core.List.{List}
 use Prim.Native.Nat.{ℕ, suc, _+_, _-_, _≤_, _<_}
 use native.Mathlib.Omega.{arith}
 use native.Mathlib.Decide.{decLt}
 use lib.Dec.{ltb}
 use lib.ListN.{length, take, drop, length-take, length-drop}
 use lib.Seq.{take-take}
-use borrow.Author.Tests.{lt-ltb, le-ltb, ltb-true, ltb-false}
+use borrow.Author.Tests.{lt-ltb, le-ltb}
 use Rattle.laws.specs.Pick.{pick, pick-t, pick-f, pick-if, pick-same}
-use Rattle.laws.specs.Decimal.{Parsed, good, bad}
 use Rattle.text.specs.ScanLaws.{bad-good}
 use Rattle.lines.specs.declared.Intake.{Intake}
 use Rattle.lines.specs.declared.Taken.{Taken}
 use Rattle.lines.specs.Places.{plainLength, endOf, partOf, part-held, plain-taken, plain-line, plain-begun}
 use Rattle.lines.specs.Intake.{overlong, lineTo, nextOf}
-use Rattle.calls.specs.Call.{Call, callOf}
+use Rattle.calls.specs.Call.{callOf}
 use Rattle.script.specs.Sight.{Seen, seen, unseen, onlyTick, placed, handedTick, sightOf, tickLine, leadsTick, tickEnd, ReadsTick}
 use Rattle.script.specs.SightLaws.{ahead, line-whole, line-begun}
 use Rattle.script.specs.declared.Sighted.{Sighted}

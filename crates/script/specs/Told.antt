@@ -11,8 +11,7 @@ use Rattle.laws.specs.Pick.{pick, pick-if}
 use Rattle.laws.specs.Decimal.{Parsed, good, bad}
 use Rattle.lines.specs.declared.Intake.{Intake}
 use Rattle.lines.specs.declared.Taken.{Taken}
-use Rattle.lines.specs.declared.Next.{Next}
-use Rattle.lines.specs.declared.Next.the-variants.{Line, More}
+use Rattle.lines.specs.declared.Next.the-variants.{Line}
 use Rattle.lines.specs.Places.{endOf, partOf}
 use Rattle.lines.specs.Intake.{overlong, lineTo, nextOf, Behind, NextStands, next-steps}
 use Rattle.calls.specs.Call.{Call, tick, request, modbus, order, item, bytes, atEnd, callBy, callOf}
@@ -20,7 +19,6 @@ use Rattle.calls.specs.declared.Call as read
 use Rattle.calls.specs.declared.Call.the-variants as C
 use Rattle.calls.specs.Reads.{asCall, Unticked}
 use Rattle.script.specs.Sight.{Seen, seen, unseen, ifTick, onlyTick, placed, handedTick, sightOf}
-use Rattle.script.specs.declared.Sighted.{Sighted}
 use Rattle.script.specs.declared.Sighted.the-variants as S
 
 unseen-seen : {X : Type 0} {x : ℤ} {k : ℕ} → unseen ≡ seen x k → X

@@ -6,7 +6,6 @@ use lines::Intake;
 use panel::PollAnswer;
 use preset::Brought;
 ghost use mathlib.Core.Path.{_≡_};
-ghost use Prim.Native.Nat.{_≤_};
 ghost use lib.ListN.{length};
 ghost use Rattle.controller.specs.Sound.{Sound};
 ghost use Rattle.slave.specs.Serves.{lenOf, Replies, Serves};
@@ -35,7 +34,6 @@ fn at_start() -> Brought
 fn set_up(input: &mut [u8]) -> Brought
     ensures { λ r. ⌜ Sound (r .controller) ⌝ }
 {
-    let mut bytes = io::buffer();
     let mut brought = at_start();
     let mut reads: u64 = MANY;
     while 0 < reads {
@@ -44,7 +42,7 @@ fn set_up(input: &mut [u8]) -> Brought
             return brought;
         }
         let intake = refilled.intake;
-        brought = preset::bring(brought.controller, intake, input, &mut bytes);
+        brought = preset::bring(brought.controller, intake, input);
         if brought.open {
             return brought;
         }

@@ -1,5 +1,5 @@
 -- What a pass over the first samples tells. Assumes nothing.
-use mathlib.Core.Path.{_≡_, refl, sym, ap, _∙_}
+use mathlib.Core.Path.{_≡_, refl, ap, _∙_}
 use mathlib.Core.Bool.{true}
 use mathlib.Core.List.{List, [], _∷_}
 use Prim.Native.Nat.{ℕ, zero, suc, _+_, _*_, _-_, _^_, _≤_, _<_}
@@ -17,7 +17,7 @@ use Rattle.laws.specs.Pick.{pick-all, pick-if}
 use Rattle.laws.specs.Whole.{abs-sub}
 use Rattle.window.specs.declared.Seen.{Seen}
 use Rattle.window.specs.Mean.{roundAway, meanOf}
-use Rattle.window.specs.Range.{Le, Each, AllI32, Total}
+use Rattle.window.specs.Range.{Each, AllI32, Total}
 use Rattle.window.specs.Pass.{lifted, startOf, withOf, passed, Passed, signedOf, leftSum, leftCount, seen-mean, seen-sum}
 use Rattle.window.proofs.Sum.{i32-le}
 

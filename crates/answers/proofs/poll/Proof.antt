@@ -1,19 +1,49 @@
-use mathlib.Core.Path.{sym}
+use mathlib.Core.Path.{refl, sym, ap, ap₂, _∙_, subst}
+use mathlib.Core.List.{List, []}
+use Prim.Native.Nat.{ℕ, _≤_}
 use native.Mathlib.Omega.{arith}
+use denote.Ref.{now}
+use lib.ListN.{length, take}
 use lib.Seq.{length-take-le}
-use Rattle.acts.specs.Script.{made-polled}
+use Rattle.laws.specs.Decimal.{Parsed, good}
+use Rattle.lines.specs.Places.{take-least}
+use Rattle.series.specs.Events.{run}
+use Rattle.calls.specs.Call.{Call, modbus}
+use Rattle.acts.specs.Acts.{eventsIn, madeBy}
+use Rattle.acts.specs.Makes.{Made}
+use Rattle.acts.specs.Hears.{roomed-in, roomed-out}
 use borrow.Author.Needs.{needs}
 use Rattle.answers.proofs.poll.Statement.{statement}
 use Rattle.answers.proofs.poll.Tie as tie
+
+-- with room for more it is no call
+returns : tie.Need-returns
+unfolding madeBy eventsIn run
+returns c =
+    let start = c .before .before .before .before .before .before .before in
+    subst (λ (p : Parsed Call). Made (start .args .c) p (start .args .c)) (roomed-out _ (c .before .before .before .before .if1 .taken)) (record { next = refl; sound = start .pre })
+
+-- its reply has room
+fits : (c : tie.After-least) → c .before .before .before .before .before .before .before .before .args .room ≤ length (c .before .before .lend .last .0)
+fits c = omega (arith, c .before .before .lend .kept .0, c .before .before .before .before .no-reply .ensures, c .before .before .before .before .before .if1 .left)
+
+returns-2 : tie.Need-returns-2
+returns-2 c =
+    let start = c .before .before .before .before .before .before .before .before .before .before .before .before .before .before .before in
+    let bytes = now (start .args .bytes) in
+    let frame = ap (λ (n : ℕ). take n bytes) (c .before .before .before .before .before .before .before .least .ensures) ∙ take-least (start .args .n) bytes in
+    let room = length-take-le _ _ (fits (c .before .before .before .before .before .before .before)) in
+    subst (λ (p : Parsed Call). Made (start .args .c) p (c .before .before .before .serve .result .controller)) (ap₂ {C = Parsed Call} (λ (s : List ℕ) (k : ℕ). good (modbus s k) []) frame room ∙ roomed-in (c .before .before .before .before .before .before .before .before .before .before .before .before .if1 .left))
+    (c .before .before .before .serve .ensures)
 
 pub poll-spec : {M : Type 1} → statement M
 poll-spec =
     tie.close
     (tie.spec
-    (λ c κs. search needs)
-    (λ c. sym (length-take-le _ _ (c .before .before .before .before .before .before .before .before .pre .1 .0)))
-    (λ c. omega (arith, c .before .before .before .lend .kept .0, c .before .before .before .before .before .before .before .before .pre .1 .1))
-    (λ c. sym (length-take-le _ _ (omega (arith, c .before .before .before .before .lend .kept .0, c .before .before .before .before .before .before .before .before .before .pre .1 .1))))
-    (λ c κs. c .before .before .before .before .before .before .before .before .before .pre .0)
-    (λ c κs. search needs) (λ c κs. search needs) (λ c. search needs) (λ c. search needs) (λ c κs. search needs) (λ c. search needs) (λ c. search needs)
-    (λ c. made-polled (length-take-le _ _ (omega (arith, c .before .before .before .before .before .before .before .before .before .before .before .before .before .before .before .before .lend .kept .0, c .before .before .before .before .before .before .before .before .before .before .before .before .before .before .before .before .before .before .before .before .before .pre .1 .1))) (c .before .before .before .before .before .before .before .before .before .before .before .poll .result) (c .before .before .before .before .before .before .before .before .before .before .before .poll .ensures)))
+    (λ c κs. tt) (λ c. search needs) returns (λ c κs. tt) (λ c. c .before .no-reply .ensures) (λ c κs. tt) (λ c κs. tt)
+    (λ c. sym (length-take-le _ _ (omega (arith, c .before .least .ensures))))
+    (λ c. fits (c .before))
+    (λ c. sym (length-take-le _ _ (fits (c .before .before))))
+    (λ c κs. c .before .before .before .before .before .before .before .before .before .before .before .pre)
+    (λ c. search needs)
+    returns-2)

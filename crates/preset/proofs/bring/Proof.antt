@@ -1,4 +1,4 @@
-use mathlib.Core.Path.{_≡_, refl, _∙_}
+use mathlib.Core.Path.{_≡_, sym, _∙_}
 use Prim.Native.Nat.{_-_}
 use native.Mathlib.Omega.{arith}
 use denote.Ref.{now}
@@ -9,7 +9,7 @@ use Rattle.preset.proofs.bring.Statement.{statement}
 use Rattle.preset.proofs.bring.Tie as tie
 
 abbrev Inv-loop : tie.InvT-loop
-Inv-loop c₀ held₀ input bytes₀ c held bytes = Brings c₀ held₀ input c held × (length bytes ≡ length bytes₀)
+Inv-loop c₀ held₀ input bytes₀ c held bytes = Brings c₀ held₀ input c held × (4096 ≡ length bytes)
 
 abbrev μ-loop : tie.MeasureT-loop
 μ-loop c₀ held₀ input bytes₀ c held bytes = length input - held .at
@@ -21,17 +21,11 @@ lies c = line-behind _ _ _ (c .before .before .before .before .next-line .ensure
 made-requires : tie.Need-made-requires Inv-loop μ-loop
 made-requires c κs =
     let inv = c .before .before .before .before .before .before .before .loop .inv in
-    let pre = c .before .before .before .before .before .before .before .before .before .before .pre in
-    (inv .0 .sound, (line-short _ _ _ (c .before .before .before .before .before .before .next-line .ensures) (c .before .before .before .next .given .1), omega (arith, inv .1, pre .1)))
+    (inv .0 .sound, (line-short _ _ _ (c .before .before .before .before .before .before .next-line .ensures) (c .before .before .before .next .given .1), omega (arith, inv .1)))
 
-loop-less : tie.Need-loop-less Inv-loop μ-loop
-loop-less c = let b = lies (c .before .before .before .before .before .before) in omega (arith, b .place, b .ahead, b .inside)
-
-loop-again : tie.Need-loop-again Inv-loop μ-loop
-loop-again c =
-    let inv = c .before .before .before .before .before .before .before .before .before .before .before .loop .inv in
-    let made = c .before .before .before .made in
-    (brings-line _ _ _ (c .before .before .before .before .before .before .before .before .before .before .next-line .ensures) (inv .0) (c .before .before .before .before .before .before .before .next .given .1) (made .ensures), made .kept .1 .1 .0 ∙ inv .1)
+-- what a line makes of the box, the lines behind it find
+brings : (c : tie.After-made Inv-loop μ-loop) → Brings (c .before .before .before .before .before .before .before .before .before .before .before .args .c) (c .before .before .before .before .before .before .before .before .before .before .before .args .held) (now (c .before .before .before .before .before .before .before .before .before .before .before .args .input)) (c .made .result) (c .before .before .before .before .before .before .before .next-line .result .intake)
+brings c = brings-line _ _ _ (c .before .before .before .before .before .before .before .next-line .ensures) (c .before .before .before .before .before .before .before .before .loop .inv .0) (c .before .before .before .before .next .given .1) (c .made .ensures)
 
 pub bring-spec : {M : Type 1} → statement M
 bring-spec =
@@ -39,14 +33,13 @@ bring-spec =
     (tie.spec
     Inv-loop
     μ-loop
-    (λ c. (brings-none (c .before .before .pre .0), refl))
-    (λ c κs. tt) (λ c. c .match .keys1) (λ c. c .match .keys2) (λ c. c .before .before .before .before .loop .inv .1)
+    (λ c κs. tt) (λ c. (brings-none (c .before .before .pre), c .buffer .ensures))
+    (λ c κs. tt) (λ c. c .match .keys1) (λ c. c .match .keys2)
     (λ c. brings-more _ _ _ (c .before .before .before .next-line .ensures) (c .before .before .before .before .loop .inv .0) (c .enum-told .given .1))
     (λ c. lies c .order)
     (λ c. lies c .order)
     (λ c. omega (arith, lies c .inside))
-    made-requires
-    (λ c. c .before .before .before .made .kept .1 .1 .0 ∙ c .before .before .before .before .before .before .before .before .before .before .before .loop .inv .1)
-    (λ c. brings-line _ _ _ (c .before .before .before .before .before .before .before .before .before .before .next-line .ensures) (c .before .before .before .before .before .before .before .before .before .before .before .loop .inv .0) (c .before .before .before .before .before .before .before .next .given .1) (c .before .before .before .made .ensures))
-    loop-less
-    loop-again)
+    (λ c. c .before .before .before .before .before .before .before .loop .inv .1) made-requires
+    (λ c. brings (c .before .before))
+    (λ c. let b = lies (c .before .before .before .before .before) in omega (arith, b .place, b .ahead, b .inside))
+    (λ c. (brings (c .before .before), c .before .before .before .before .before .before .before .before .before .before .loop .inv .1 ∙ sym (c .before .before .made .kept .1 .1 .0))))

@@ -1,4 +1,4 @@
-use mathlib.Core.Path.{_≡_, refl, sym, ap, _∙_}
+use mathlib.Core.Path.{sym, ap, _∙_}
 use Rattle.acts.specs.declared.Answer.{Answer}
 use Rattle.acts.specs.declared.Answer.the-variants as A
 use Rattle.acts.specs.Makes.{saysAct}

@@ -1,15 +1,15 @@
 use mathlib.Core.Path.{_≡_, sym, ap, _∙_}
 use mathlib.Core.List.{List}
-use Prim.Native.Nat.{ℕ, _+_, _≤_, _<_}
+use Prim.Native.Nat.{ℕ, _+_, _<_}
 use native.Mathlib.Omega.{arith}
 use denote.Ref.{now}
 use lib.IntN.{ℤ}
-use lib.ListN.{length, getD, drop}
+use lib.ListN.{length, drop}
 use mir.Syntax.{w32}
 use mir.Val.{SFits}
 use mir.Facts.{toZ-ofZ}
-use Rattle.laws.specs.Decimal.{Parsed, good, bad}
-use Rattle.text.specs.Scan.{LF, expect, onGood, fieldAt}
+use Rattle.laws.specs.Decimal.{good}
+use Rattle.text.specs.Scan.{LF, expect, onGood}
 use Rattle.text.specs.ScanLaws.{byte-inside, expect-hit, expect-miss}
 use Rattle.operands.specs.Numbers.{signedField, leadsSigned, ReadsSigned}
 use Rattle.operands.specs.Parsing.{on-good, on-bad, num, field-most}

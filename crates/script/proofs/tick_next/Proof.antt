@@ -1,13 +1,13 @@
 use mathlib.Core.Path.{_≡_, sym, ap, _∙_, subst}
 use mathlib.Core.List.{List}
-use Prim.Native.Nat.{ℕ, _≤_, _<_, min}
+use Prim.Native.Nat.{ℕ, _<_, min}
 use native.Mathlib.Omega.{arith}
 use native.Mathlib.Decide.{decLt}
 use denote.Ref.{now}
 use lib.ListN.{length, take, drop, drop-of-length-le, length-take}
 use lib.Seq.{length-take-le}
 use Rattle.laws.specs.Pick.{pick-t, pick-f}
-use Rattle.laws.specs.Decimal.{good, bad}
+use Rattle.laws.specs.Decimal.{good}
 use Rattle.text.specs.Scan.{expect}
 use Rattle.text.specs.ScanLaws.{bad-good}
 use Rattle.lines.specs.declared.Intake.{Intake}
@@ -16,7 +16,6 @@ use Rattle.calls.specs.Call.{Call}
 use Rattle.script.specs.Sight.{tickLine, ReadsTick, sightOf}
 use Rattle.script.specs.SightNext.{kept, sight-is}
 use Rattle.script.specs.declared.Sighted.{Sighted}
-use Rattle.script.specs.declared.Sighted.the-variants as S
 use borrow.Author.Needs.{needs}
 use Rattle.script.proofs.tick_next.Statement.{statement}
 use Rattle.script.proofs.tick_next.Tie as tie

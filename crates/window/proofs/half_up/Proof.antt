@@ -3,8 +3,6 @@ use borrow.Author.Needs.{needs}
 use Rattle.window.specs.Mean.{halfUp}
 use Rattle.window.proofs.half_up.Statement.{statement}
 use Rattle.window.proofs.half_up.Tie as tie
-use Rattle.window.proofs.half_up.Reads as reads
-use Rattle.window.proofs.half_up.Lts as lts
 
 -- src/lib.rt:99:6
 mul-result : tie.Need-mul-result

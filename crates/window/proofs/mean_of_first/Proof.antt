@@ -1,5 +1,5 @@
 -- What the pass tells is what the mean asks, and the mean of i32s is an i32.
-use mathlib.Core.Path.{_≡_, ap, _∙_}
+use mathlib.Core.Path.{_≡_, _∙_}
 use Prim.Native.Nat.{ℕ, _*_, _≤_}
 use native.Mathlib.Omega.{arith}
 use borrow.Author.Needs.{needs}
@@ -11,7 +11,7 @@ use mir.Val.{toZ, ofZ, SFits}
 use mir.Facts.{toZ-ofZ}
 use Rattle.window.specs.Mean.{meanOf, roundAway}
 use Rattle.window.specs.MeanLaws.{mean-fits}
-use Rattle.window.specs.Pass.{leftSum, leftCount}
+use Rattle.window.specs.Pass.{leftSum}
 use Rattle.window.proofs.Sum.{total-size}
 use Rattle.window.proofs.Told.{abs-i32, told-mean, left-small, left-count}
 use Rattle.window.proofs.mean_of_first.Statement.{statement}

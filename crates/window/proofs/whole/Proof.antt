@@ -1,11 +1,7 @@
 -- Where no sample is far the sum seen is the whole sum.
-use mathlib.Core.Path.{_≡_, sym, _∙_}
-use mathlib.Core.Bool.{true}
 use borrow.Author.Needs.{needs}
-use lib.IntN.{pos, negsuc}
-use lib.Signed.{ltZ}
 use mir.Syntax.{w32, w64}
-use mir.Val.{toZ, ofZ, SFits}
+use mir.Val.{SFits}
 use mir.Facts.{toZ-ofZ}
 use Rattle.window.proofs.Told.{told-sum}
 use Rattle.window.proofs.whole.Statement.{statement}
