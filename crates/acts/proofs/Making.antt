@@ -1,10 +1,8 @@
 -- What a call gives from the contract of the box's call that it makes. Assumes nothing.
 use mathlib.Core.Path.{_≡_, refl, sym, ap, _∙_, subst}
 use mathlib.Core.List.{List, []}
-use Prim.Native.Nat.{ℕ, _≤_, min}
-use lib.ListN.{length, take}
+use Prim.Native.Nat.{ℕ}
 use Rattle.laws.specs.Decimal.{Parsed, good}
-use Rattle.lines.specs.Places.{take-least}
 use Rattle.paper.specs.Answer.{done}
 use Rattle.settings.specs.declared.Settings.{Settings}
 use Rattle.controller.specs.declared.Controller.{Controller}
@@ -19,9 +17,9 @@ use Rattle.calls.specs.Call.{Call, order}
 use Rattle.calls.specs.declared.Call as read
 use Rattle.calls.specs.declared.Order.{Order}
 use Rattle.calls.specs.declared.Order.the-variants.{Restart}
-use Rattle.acts.specs.Acts.{orderEvents, callEvents, eventsIn, madeBy, restarted, framed, saidOf, saidTo}
-use Rattle.acts.specs.Makes.{saysAct, Made, Acts, inUse, restart-kept}
-use Rattle.acts.specs.Hears.{roomed, heardIn, roomed-in}
+use Rattle.acts.specs.Acts.{orderEvents, callEvents, eventsIn, madeBy, restarted, saidOf, saidTo}
+use Rattle.acts.specs.Makes.{saysAct, Acts, inUse, restart-kept}
+use Rattle.acts.specs.Hears.{heardIn}
 use Rattle.acts.specs.declared.Answer.the-variants as A
 use Rattle.acts.specs.declared.Acted.{Acted}
 
@@ -53,13 +51,3 @@ heard-by {c} s {r = r} e h = subst (λ (call : read.Call). Acts c (heardIn s cal
 -- what is heard as another call
 pub acts-as : {c : Controller} {p q : Parsed Call} {r : Acted} → p ≡ q → Acts c p r → Acts c q r
 acts-as {c} {r = r} e a = subst (λ (p : Parsed Call). Acts c p r) e a
-
--- a frame of at most n bytes with room for its reply: it was served
-pub acts-framed : {c d : Controller} (frame : List ℕ → Call) (bytes : List ℕ) (n : ℕ) {room size : ℕ} → room ≤ 64 → size ≡ min n (length bytes) → saidTo c (good (frame (take n bytes)) []) ≡ framed
-    → Made c (good (frame (take size bytes)) []) d → Acts c (roomed room (good (frame (take n bytes)) [])) (record { next = d; answer = A.Frame })
-unfolding saysAct
-acts-framed {c} {d} frame bytes n small e told m =
-    acts-as (roomed-in small) (record {
-      made = subst (λ (s : List ℕ). Made c (good (frame s) []) d) (ap (λ (k : ℕ). take k bytes) e ∙ take-least n bytes) m;
-      says = sym told;
-    })

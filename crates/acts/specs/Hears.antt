@@ -1,11 +1,13 @@
 -- Which calls are heard where a program makes every tick by itself. Assumes nothing.
-use mathlib.Core.Path.{_≡_, refl, sym}
-use mathlib.Core.List.{List}
-use Prim.Native.Nat.{ℕ, _≤_, _<_}
+use mathlib.Core.Path.{_≡_, refl, sym, ap, _∙_}
+use mathlib.Core.List.{List, []}
+use Prim.Native.Nat.{ℕ, _≤_, _<_, min}
+use lib.ListN.{length, take}
 use lib.Dec.{leb}
 use borrow.Author.Tests.{le-leb, lt-leb}
 use Rattle.laws.specs.Pick.{pick, pick-t, pick-f}
-use Rattle.laws.specs.Decimal.{Parsed, bad}
+use Rattle.laws.specs.Decimal.{Parsed, good, bad}
+use Rattle.lines.specs.Places.{take-least}
 use Rattle.calls.specs.Call.{Call}
 use Rattle.calls.specs.declared.Call as declared
 use Rattle.calls.specs.declared.Call.the-variants as C
@@ -32,6 +34,10 @@ roomed-in {room = room} h = sym (pick-t _ _ _ (le-leb room 64 h))
 pub roomed-out : (p : Parsed Call) {room : ℕ} → 64 < room → bad ≡ roomed room p
 unfolding roomed
 roomed-out p {room = room} h = sym (pick-f _ _ _ (lt-leb room 64 h))
+
+-- a frame of at most n bytes is one of the bytes that there are
+pub framed-in : (frame : List ℕ → Call) (bytes : List ℕ) (n : ℕ) {room size : ℕ} → room ≤ 64 → size ≡ min n (length bytes) → good (frame (take size bytes)) [] ≡ roomed room (good (frame (take n bytes)) [])
+framed-in frame bytes n small e = ap (λ (s : List ℕ). good (frame s) []) (ap (λ (k : ℕ). take k bytes) e ∙ take-least n bytes) ∙ roomed-in small
 
 -- every call of a line but a tick
 pub heard-as : (s : List ℕ) (call : declared.Call) → Unticked call → Within call → heardIn s call ≡ asCall s call

@@ -34,10 +34,11 @@ unfoldable pub Stops : Controller → Intake → List ℕ → List ℕ → Contr
 Stops first start input bytes c held (at.Call call) = Pending first start input bytes c held call
 Stops first start input bytes c held at.More = Brings first start input c held × (2048 ≤ length bytes → Waits held input)
 
--- every line before it is answered
+-- every line before it is answered, and none without that room
 pub record Ran (first : Controller) (start : Intake) (input bytes : List ℕ) (r : Run) : Type 0 where
   pub sound : Sound (r .controller)
   pub stops : Stops first start input bytes (r .controller) (r .intake) (r .stop)
+  pub none : length bytes < 2048 → (r .controller ≡ first) × (r .intake ≡ start) × (r .stop ≡ at.More)
 
 -- ---- where it stopped
 

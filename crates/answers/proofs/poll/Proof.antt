@@ -1,4 +1,4 @@
-use mathlib.Core.Path.{refl, sym, ap, ap₂, _∙_, subst}
+use mathlib.Core.Path.{refl, sym, ap, _∙_, subst}
 use mathlib.Core.List.{List, []}
 use Prim.Native.Nat.{ℕ, _≤_}
 use native.Mathlib.Omega.{arith}
@@ -6,12 +6,11 @@ use denote.Ref.{now}
 use lib.ListN.{length, take}
 use lib.Seq.{length-take-le}
 use Rattle.laws.specs.Decimal.{Parsed, good}
-use Rattle.lines.specs.Places.{take-least}
 use Rattle.series.specs.Events.{run}
 use Rattle.calls.specs.Call.{Call, modbus}
 use Rattle.acts.specs.Acts.{eventsIn, madeBy}
 use Rattle.acts.specs.Makes.{Made}
-use Rattle.acts.specs.Hears.{roomed-in, roomed-out}
+use Rattle.acts.specs.Hears.{roomed-out, framed-in}
 use borrow.Author.Needs.{needs}
 use Rattle.answers.proofs.poll.Statement.{statement}
 use Rattle.answers.proofs.poll.Tie as tie
@@ -30,10 +29,9 @@ fits c = omega (arith, c .before .before .lend .kept .0, c .before .before .befo
 returns-2 : tie.Need-returns-2
 returns-2 c =
     let start = c .before .before .before .before .before .before .before .before .before .before .before .before .before .before .before in
-    let bytes = now (start .args .bytes) in
-    let frame = ap (λ (n : ℕ). take n bytes) (c .before .before .before .before .before .before .before .least .ensures) ∙ take-least (start .args .n) bytes in
-    let room = length-take-le _ _ (fits (c .before .before .before .before .before .before .before)) in
-    subst (λ (p : Parsed Call). Made (start .args .c) p (c .before .before .before .serve .result .controller)) (ap₂ {C = Parsed Call} (λ (s : List ℕ) (k : ℕ). good (modbus s k) []) frame room ∙ roomed-in (c .before .before .before .before .before .before .before .before .before .before .before .before .if1 .left))
+    let size = c .before .before .before .before .before .before .before .least in
+    let room = ap (λ (k : ℕ). good (modbus (take (size .result) (now (start .args .bytes))) k) []) (length-take-le _ _ (fits (c .before .before .before .before .before .before .before))) in
+    subst (λ (p : Parsed Call). Made (start .args .c) p (c .before .before .before .serve .result .controller)) (room ∙ framed-in (λ (s : List ℕ). modbus s (start .args .room)) (now (start .args .bytes)) (start .args .n) (c .before .before .before .before .before .before .before .before .before .before .before .before .if1 .left) (size .ensures))
     (c .before .before .before .serve .ensures)
 
 pub poll-spec : {M : Type 1} → statement M

@@ -112,7 +112,7 @@ loop-again c =
 -- without room for the bytes of a line none is answered
 returns : tie.Need-returns Inv-loop μ-loop
 unfolding Stops
-returns c = let sound = c .before .before .before .before .pre in record { sound = sound; stops = (brings-none sound, λ h. absurd (omega (arith, c .if1 .taken))) }
+returns c = let sound = c .before .before .before .before .pre in record { sound = sound; stops = (brings-none sound, λ h. absurd (omega (arith, c .if1 .taken))); none = λ h. (refl, refl, refl) }
 
 -- every whole line is answered
 returns-2 : tie.Need-returns-2 Inv-loop μ-loop
@@ -120,7 +120,7 @@ unfolding Stops
 returns-2 c =
     let next = c .before .before .before .next-line .ensures in
     let brings = brings-more _ _ _ next (ticked (c .before .before .before .before .before .before .before)) (c .enum-told .given .1) in
-    record { sound = brings .sound; stops = (brings, λ h. none-waits _ _ _ next (c .enum-told .given .1)) }
+    record { sound = brings .sound; stops = (brings, λ h. none-waits _ _ _ next (c .enum-told .given .1)); none = λ h. absurd (omega (arith, c .before .before .before .before .before .before .before .before .before .loop .inv .2, c .before .before .before .before .before .before .before .before .before .before .before .if1 .left)) }
 
 -- a call that is no tick and no line request
 returns-3 : tie.Need-returns-3 Inv-loop μ-loop
@@ -139,6 +139,7 @@ returns-3 c =
         made = λ d m. step _ _ _ next (ticked (c .before .before .before .before .before .before .before .before .before .before .before .before .before .before)) line (read .ensures) (omega (arith, inv .2, room)) (subst (λ (q : Parsed Call). Made (ticks .result .controller) q d) (answered-as _ (read .result) (c .match2 .keys2) unticked (read .ensures .within)) m);
         less = omega (arith, inv .1, further (c .before .before .before .before .before .before));
       };
+      none = λ h. absurd (omega (arith, read .kept .1 .0, inv .2, room));
     }
 
 -- a line request's bytes lie in the buffer
