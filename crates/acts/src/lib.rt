@@ -1,4 +1,6 @@
 // What a call makes of the controller, and what it answers.
+#![tactic(auto)]
+
 ghost use Rattle.std.specs.Prelude.{◌≡◌, [], length, take};
 ghost use Rattle.laws.specs.Decimal.{good, bad};
 ghost use Rattle.controller.specs.Sound.{Sound};
@@ -15,7 +17,7 @@ use settings::Settings;
 use setup::{ResetAnswer, SetAnswer};
 
 // What an order answers; that a frame was served, whose reply goes nowhere; that a call needs no box; or that a line is no call.
-#[derive(Drop)]
+#[derive(Clone, Copy)]
 pub enum Answer {
     Link,
     Set(SetAnswer),
@@ -29,7 +31,7 @@ pub enum Answer {
 }
 
 // The controller in use after a call, and the answer.
-#[derive(Drop)]
+#[derive(Clone, Copy)]
 pub struct Acted {
     pub next: Controller,
     pub answer: Answer,

@@ -1,4 +1,6 @@
 // The answer to a call that is no tick and no line request.
+#![tactic(auto)]
+
 ghost use Rattle.std.specs.Prelude.{[], length, take};
 ghost use Rattle.laws.specs.Decimal.{good};
 ghost use Rattle.controller.specs.Sound.{Sound};
@@ -11,7 +13,7 @@ use controller::Controller;
 use pieces::Words;
 
 // The controller after the call, and the place after the text of its answer.
-#[derive(Drop)]
+#[derive(Clone, Copy)]
 pub struct Answered {
     pub controller: Controller,
     pub len: usize,

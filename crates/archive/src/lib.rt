@@ -1,4 +1,6 @@
 // What the programs renew and restore print: the journal in the other form, or the line of a refusal.
+#![tactic(auto)]
+
 ghost use Rattle.std.specs.Prelude.{◌≡◌, min, replicate};
 ghost use Rattle.report.specs.Report.{refusal_text, refusal_of};
 ghost use Rattle.archive.specs.Promises.{Holds, Shows, PrintsRenewed, PrintsRestored};
@@ -7,7 +9,7 @@ use conversion::Converted;
 use journal::Refusal;
 
 // What is printed: its bytes, how many they are, and 0 behind them. A journal in the other form has no more.
-#[derive(Drop)]
+#[derive(Clone, Copy)]
 pub struct Printout {
     pub bytes: [u8; journal::ROOM],
     pub len: usize,

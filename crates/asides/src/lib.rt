@@ -1,4 +1,6 @@
 // The text of the answers of the writers and readers, which need no box.
+#![tactic(auto)]
+
 mod hours;
 
 ghost use Rattle.io.specs.Counts.{IsPrefixLen};

@@ -1,4 +1,6 @@
 // What a request on the line asks, stage by stage up to R4, and its reply; no controller and no settings.
+#![tactic(auto)]
+
 ghost use Rattle.std.specs.Prelude.{◌≡◌, ◌≤◌, length, take};
 ghost use Rattle.frame.specs.Says.{says_wrote};
 ghost use Rattle.message.specs.Message.{split_of};
@@ -21,56 +23,56 @@ pub const C4: u8 = 0xC4;
 pub const C5: u8 = 0xC5;
 
 // A finished body: its parts, or R6 for one too short or with a check that is not 0.
-#[derive(Drop)]
+#[derive(Clone, Copy)]
 pub enum Checked {
     Good(Parts),
     Bad,
 }
 
 // The stage of R9 and R6: a finished body, or R9 where there is none.
-#[derive(Drop)]
+#[derive(Clone, Copy)]
 pub enum Framed {
     Finished(Checked),
     Unfinished,
 }
 
 // What stands in the bytes offered, with the place of the second closing FF, or R9's place.
-#[derive(Drop)]
+#[derive(Clone, Copy)]
 pub struct Heard {
     pub place: usize,
     pub framed: Framed,
 }
 
 // The stage of R5: the address.
-#[derive(Drop)]
+#[derive(Clone, Copy)]
 pub enum Addressed {
     Ours,
     R5(usize),
 }
 
 // The stage of R7: the operation code and the data.
-#[derive(Drop)]
+#[derive(Clone, Copy)]
 pub enum Coded {
     Known,
     R7(usize),
 }
 
 // The stage of R3: C0 when not in Ready.
-#[derive(Drop)]
+#[derive(Clone, Copy)]
 pub enum Timed {
     Allowed,
     R3(usize),
 }
 
 // The stage of R4: what C0 asks of the samples.
-#[derive(Drop)]
+#[derive(Clone, Copy)]
 pub enum Zeroing {
     Allowed,
     R4(usize),
 }
 
 // What a reply holds beside the address form and the operation code.
-#[derive(Drop)]
+#[derive(Clone, Copy)]
 pub enum Reply {
     Nothing,
     Byte(u8),
@@ -78,7 +80,7 @@ pub enum Reply {
 }
 
 // What framing a reply answers: its length, or a refusal: a form that its bytes would not give back, which has no number in document 01, R14 or R8.
-#[derive(Drop)]
+#[derive(Clone, Copy)]
 pub enum Sent {
     Frame(usize),
     Improper,
@@ -87,7 +89,7 @@ pub enum Sent {
 }
 
 // A reply's data: the first len of the bytes.
-#[derive(Drop)]
+#[derive(Clone, Copy)]
 struct Data {
     bytes: [u8; 4],
     len: usize,

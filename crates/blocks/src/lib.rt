@@ -1,4 +1,6 @@
 // The whole lines of a block of input, each answered.
+#![tactic(auto)]
+
 ghost use Rattle.controller.specs.Sound.{Sound};
 ghost use Rattle.blocks.specs.Carries.{Carries};
 
@@ -7,7 +9,7 @@ use lines::Intake;
 use runs::Stop;
 
 // What is carried on behind the whole lines of a block.
-#[derive(Drop)]
+#[derive(Clone, Copy)]
 pub struct Carried {
     pub controller: Controller,
     pub intake: Intake,

@@ -1,5 +1,7 @@
 // The boundary table of document 01. The cases marked P are one statement: see specs/.
 // The others run here on the controller: each prints its name, a tab and what was seen.
+#![tactic(auto)]
+
 ghost use Rattle.std.specs.Prelude.{◌≡◌, ◌≤◌};
 ghost use Rattle.controller.specs.Sound.{Sound};
 ghost use Rattle.boundary.specs.Table.{al1};

@@ -1,4 +1,6 @@
 // The answers of the box: their letter and numbers, and the text of a reason.
+#![tactic(auto)]
+
 mod causes;
 
 ghost use Rattle.std.specs.Prelude.{◌≡◌, true, ◌+◌, ◌≤◌, ◌<◌, length};

@@ -1,4 +1,6 @@
 // What a line of a script asks: one reader, and the calls that it answers.
+#![tactic(auto)]
+
 mod asks;
 mod fields;
 
@@ -12,7 +14,7 @@ use journal::{Form, Line};
 use settings::Settings;
 
 // n numbers read at a place; the others are 0.
-#[derive(Drop)]
+#[derive(Clone, Copy)]
 struct Numbers {
     good: bool,
     next: usize,
@@ -20,7 +22,7 @@ struct Numbers {
 }
 
 // An order to the box; it carries no bytes.
-#[derive(Drop)]
+#[derive(Clone, Copy)]
 pub enum Order {
     // The link start, set or cleared.
     Link(bool),
@@ -34,7 +36,7 @@ pub enum Order {
 }
 
 // What a writer or reader is given; it needs no box and carries no bytes.
-#[derive(Drop)]
+#[derive(Clone, Copy)]
 pub enum Item {
     // A weight, for its writer.
     Weight(Weight),
@@ -45,7 +47,7 @@ pub enum Item {
 }
 
 // What a writer or reader makes of bytes; it needs no box.
-#[derive(Drop)]
+#[derive(Clone, Copy)]
 pub enum Use {
     // A frame of a body, into a buffer of some room.
     WriteFrame,
@@ -59,7 +61,7 @@ pub enum Use {
 }
 
 // The call of a line, or that it is none. A call with bytes says how many stand at the start of the lent buffer.
-#[derive(Drop)]
+#[derive(Clone, Copy)]
 pub enum Call {
     // A tick: the sample and the inputs.
     Tick(i32, u8),

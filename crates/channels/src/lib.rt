@@ -1,4 +1,6 @@
 // The channels: inputs and outputs as bits, start, the runs of mismatches and F14.
+#![tactic(auto)]
+
 ghost use Rattle.std.specs.Prelude.{◌≡◌, ◌+◌, ◌/◌, ◌%◌, ◌<◌, ltb, eqb};
 ghost use Rattle.std.specs.Bool.{xor};
 ghost use Rattle.laws.specs.Pick.{pick};
@@ -9,7 +11,7 @@ use dosing::Gates;
 use settings::Settings;
 
 // The runs of mismatches of channels 1 to 3.
-#[derive(Drop)]
+#[derive(Clone, Copy)]
 pub struct Runs {
     pub one: u32,
     pub two: u32,
@@ -17,7 +19,7 @@ pub struct Runs {
 }
 
 // No run has reached its limit, or F14 with the lowest channel whose run has.
-#[derive(Drop)]
+#[derive(Clone, Copy)]
 pub enum Watch {
     Clear,
     F14(u8),

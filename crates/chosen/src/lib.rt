@@ -1,4 +1,6 @@
 // What the product program prints for a first line and a journal.
+#![tactic(auto)]
+
 ghost use Rattle.std.specs.Prelude.{◌≡◌, min};
 ghost use Rattle.report.specs.Report.{refusal_of};
 ghost use Rattle.report.specs.Promises.{Holds};
@@ -11,7 +13,7 @@ use report::Printout;
 use text::Num;
 
 // The product of a line, or that it has none.
-#[derive(Drop)]
+#[derive(Clone, Copy)]
 pub enum Choice {
     Product(u8),
     R2,

@@ -1,4 +1,6 @@
 // The clock of a recording: the hour and its ticks, and what each line that is heard adds to the journal.
+#![tactic(auto)]
+
 ghost use Rattle.std.specs.Prelude.{◌≡◌, true, [], ◌∷◌, ◌+◌, ◌≤◌, ◌<◌, length};
 ghost use Rattle.journal.specs.Line.{text_of, in_range};
 ghost use Rattle.journal.specs.declared.Form.TheVariants.{New};
@@ -11,7 +13,7 @@ use journal::{Form, Line};
 use text::Num;
 
 // Before the first line, recording, or over after a refusal.
-#[derive(Drop)]
+#[derive(Clone, Copy)]
 pub enum Stage {
     First,
     Recording,
@@ -19,7 +21,7 @@ pub enum Stage {
 }
 
 // The hour, how many of its ticks have come, whether nothing of it was missed so far, and whether the box is known: no line that is no call has come since the last accepted restart.
-#[derive(Drop)]
+#[derive(Clone, Copy)]
 pub struct Clock {
     pub stage: Stage,
     pub hour: u32,
@@ -29,7 +31,7 @@ pub struct Clock {
 }
 
 // What a line was: a counted tick, one that completed a dose, an accepted restart, no call, or any other call.
-#[derive(Drop)]
+#[derive(Clone, Copy)]
 pub enum Heard {
     Ticked,
     Dosed(Record),
@@ -39,7 +41,7 @@ pub enum Heard {
 }
 
 // The next clock, and how many bytes a line added to the journal.
-#[derive(Drop)]
+#[derive(Clone, Copy)]
 pub struct Marked {
     pub next: Clock,
     pub len: usize,

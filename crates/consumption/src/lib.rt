@@ -1,1 +1,2 @@
 // What the hours of a recording are: a total that stands for consumption. Everything here is a statement: see specs/.
+#![tactic(auto)]

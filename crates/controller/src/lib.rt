@@ -1,4 +1,6 @@
 // The controller: fresh, restarted, tick and line request.
+#![tactic(auto)]
+
 mod line;
 mod restart;
 mod tick;
@@ -12,21 +14,21 @@ use settings::Settings;
 use window::Window;
 
 // F14 names its channel.
-#[derive(Drop)]
+#[derive(Clone, Copy)]
 pub enum Fault {
     F14(u8),
     F21,
 }
 
 // No fault, or the fault that lasts until restart.
-#[derive(Drop)]
+#[derive(Clone, Copy)]
 pub enum Condition {
     Clear,
     Faulted(Fault),
 }
 
 // The box between two calls.
-#[derive(Drop)]
+#[derive(Clone, Copy)]
 pub struct Controller {
     pub set: Settings,
     // The samples held.
@@ -54,7 +56,7 @@ pub struct Controller {
 }
 
 // What a tick answers: the outputs, with the dose record if one completed; or the fault; or R1.
-#[derive(Drop)]
+#[derive(Clone, Copy)]
 pub enum TickAnswer {
     Outputs(u8),
     Dose { outputs: u8, record: Record },
@@ -63,14 +65,14 @@ pub enum TickAnswer {
 }
 
 // The controller after a tick, and the answer.
-#[derive(Drop)]
+#[derive(Clone, Copy)]
 pub struct Ticked {
     pub next: Controller,
     pub answer: TickAnswer,
 }
 
 // What a restart answers; R2 names the row.
-#[derive(Drop)]
+#[derive(Clone, Copy)]
 pub enum RestartAnswer {
     Done,
     R2(u32),
@@ -78,14 +80,14 @@ pub enum RestartAnswer {
 }
 
 // A refused restart makes no controller: what stands in `next` is then no sound controller.
-#[derive(Drop)]
+#[derive(Clone, Copy)]
 pub struct Restarted {
     pub next: Controller,
     pub answer: RestartAnswer,
 }
 
 // What a line request answers: the place of the second closing FF and the reply's length, or a refusal with its place.
-#[derive(Drop)]
+#[derive(Clone, Copy)]
 pub enum RequestAnswer {
     Sent { place: usize, len: usize },
     R9(usize),
@@ -98,7 +100,7 @@ pub enum RequestAnswer {
 }
 
 // The controller after a line request, and the answer.
-#[derive(Drop)]
+#[derive(Clone, Copy)]
 pub struct Requested {
     pub next: Controller,
     pub answer: RequestAnswer,

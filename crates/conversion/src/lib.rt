@@ -1,4 +1,6 @@
 // Old journals to new and back: the same lines in the other form, written into a lent buffer.
+#![tactic(auto)]
+
 ghost use Rattle.std.specs.Prelude.{◌≡◌, ◌&&◌, ◌+◌, ◌≤◌, eqb, length, drop};
 ghost use Rattle.std.proofs.lemmas.List.Edits.{sets};
 ghost use Rattle.paper.specs.Answer.{told, Fills};
@@ -17,7 +19,7 @@ use hourly::{Judged, Products};
 use journal::{Form, Refusal};
 
 // What a conversion answers: the length of the journal in the other form, a refusal of a journal, the line of a dose whose product has no place in the old form, or that the buffer is too short.
-#[derive(Drop)]
+#[derive(Clone, Copy)]
 pub enum Converted {
     Journal(usize),
     Refused(Refusal),

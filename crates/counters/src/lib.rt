@@ -1,18 +1,20 @@
 // The counters, and the record of a completed dose.
+#![tactic(auto)]
+
 ghost use Rattle.std.specs.Prelude.{◌≡◌, ◌+◌, ◌%◌};
 ghost use Rattle.counters.specs.Says.{Counts, Records};
 
 use dosing::Dose;
 
 // The number of doses, and the sum of their amounts.
-#[derive(Drop)]
+#[derive(Clone, Copy)]
 pub struct Counters {
     pub count: u32,
     pub total: u32,
 }
 
 // The record of a completed dose: the count after it, the amount, 1 if Settle ended stable else 0, and the product.
-#[derive(Drop)]
+#[derive(Clone, Copy)]
 pub struct Record {
     pub count: u32,
     pub amount: u32,

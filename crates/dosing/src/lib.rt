@@ -1,4 +1,6 @@
 // The phase rules of AL0 to AL3 as one step: no samples, no counters.
+#![tactic(auto)]
+
 ghost use Rattle.std.specs.Prelude.{◌≡◌, not, ◌&&◌, ◌+◌, ◌-◌, eqb, pos, neg_ℤ, ◌-ℤ◌};
 ghost use Rattle.std.specs.Int.Signed.{lt_z, le_z};
 ghost use Rattle.dosing.specs.Rules.{gates, shut, to, complete, reached_wf, reached_wc, not_below_zero, zeroed, full, coarse_stage, fine_stage, ready_to_fill, fill, hold, settle_ends, discharge_opens, settle, amount_of, discharge, load, calm, dose_coarse, dose_fine, dose_settle, ready_to_dose, ready};
@@ -10,13 +12,13 @@ use settings::Settings;
 pub const SETTLE_TICKS: u64 = 256;
 
 // A weight in display units.
-#[derive(Drop)]
+#[derive(Clone, Copy)]
 pub struct Units {
     pub v: i32,
 }
 
 // Outputs 1 to 3.
-#[derive(Drop)]
+#[derive(Clone, Copy)]
 pub struct Gates {
     pub one: bool,
     pub two: bool,
@@ -24,7 +26,7 @@ pub struct Gates {
 }
 
 // The phases of the paper, with the weights and the number of the tick that they keep.
-#[derive(Drop)]
+#[derive(Clone, Copy)]
 pub enum Phase {
     Ready,
     // Fill, coarse stage and fine stage (AL0, AL1).
@@ -44,7 +46,7 @@ pub enum Phase {
 }
 
 // What the phase rule sees of a tick: F, Z, w, whether start is on, whether it is stable.
-#[derive(Drop)]
+#[derive(Clone, Copy)]
 pub struct Seen {
     pub f: Units,
     pub z: Units,
@@ -54,14 +56,14 @@ pub struct Seen {
 }
 
 // A completed dose, if one completed.
-#[derive(Drop)]
+#[derive(Clone, Copy)]
 pub enum Dose {
     Nothing,
     Complete { amount: u32, settled: bool },
 }
 
 // What the phase rule makes of a tick: the phase after it, Z, outputs 1 to 3, and the dose.
-#[derive(Drop)]
+#[derive(Clone, Copy)]
 pub struct Moved {
     pub phase: Phase,
     pub z: Units,
@@ -70,7 +72,7 @@ pub struct Moved {
 }
 
 // A weight, or a difference of two, which an i32 need not hold.
-#[derive(Drop)]
+#[derive(Clone, Copy)]
 struct Wide {
     v: i64,
 }

@@ -1,4 +1,6 @@
 // An entry of the journal: the text of a D or an H line of either form, or of the V line, written into a lent buffer.
+#![tactic(auto)]
+
 ghost use Rattle.std.specs.Prelude.{◌≡◌, [], ◌∷◌, ◌+◌, ◌≤◌, length};
 ghost use Rattle.laws.specs.Decimal.{decimal};
 ghost use Rattle.text.specs.Scan.{TAB};
@@ -13,7 +15,7 @@ use journal::{D, Form, H, Line, TWO, V};
 use text::{LF, TAB};
 
 // What the writer of a line answers: its length, or a refusal.
-#[derive(Drop)]
+#[derive(Clone, Copy)]
 pub enum Wrote {
     Line(usize),
     R10,

@@ -1,10 +1,12 @@
 // The weight field of a reply: six decimal digits in three bytes, and CON.
+#![tactic(auto)]
+
 ghost use Rattle.std.specs.Prelude.{◌≡◌, true, ◌≤◌, ◌<◌, ◌^◌, nat_abs};
 ghost use Rattle.field.specs.Field.{bcd_of, is_bcd, value_of, bit_of, has_bit, negative, con_of, field_of, writable, signed, weight_of};
 ghost use Rattle.field.specs.Says.{Sizes, WritesWeight, ReadsWeight, Echoes};
 
 // What a field stands for.
-#[derive(Drop)]
+#[derive(Clone, Copy)]
 pub struct Weight {
     pub value: i32,
     pub stable: bool,
@@ -13,7 +15,7 @@ pub struct Weight {
 }
 
 // The four bytes of a field, in the order in which they are sent.
-#[derive(Drop)]
+#[derive(Clone, Copy)]
 pub struct Field {
     pub low: u8,
     pub middle: u8,
@@ -21,13 +23,13 @@ pub struct Field {
     pub con: u8,
 }
 
-#[derive(Drop)]
+#[derive(Clone, Copy)]
 pub enum Written {
     Bytes(Field),
     R16,
 }
 
-#[derive(Drop)]
+#[derive(Clone, Copy)]
 pub enum Got {
     Values(Weight),
     R16,

@@ -1,4 +1,6 @@
 // Tenso-M frames: the check byte, the frame writer and the frame reader.
+#![tactic(auto)]
+
 ghost use Rattle.std.specs.Prelude.{◌≡◌, ◌++◌, ◌+◌, ◌-◌, ◌≤◌, length, take, replicate};
 ghost use Rattle.std.proofs.lemmas.List.Edits.{sets};
 ghost use Rattle.paper.specs.Answer.{Answer, told, bytes_in};
@@ -15,7 +17,7 @@ mod table;
 use table::TABLE;
 
 // What the writer answers: the length of the frame, or a refusal.
-#[derive(Drop)]
+#[derive(Clone, Copy)]
 pub enum Wrote {
     Frame(usize),
     R14,
@@ -23,7 +25,7 @@ pub enum Wrote {
 }
 
 // What the reader answers: the place of the second closing FF and the body's length, R9 with its place, or R6 with the place of the second closing FF.
-#[derive(Drop)]
+#[derive(Clone, Copy)]
 pub enum Found {
     Body { place: usize, len: usize },
     R9(usize),
@@ -31,14 +33,14 @@ pub enum Found {
 }
 
 // The reader's answer beside the body; the places past the body are 0.
-#[derive(Drop)]
+#[derive(Clone, Copy)]
 pub struct Read {
     pub found: Found,
     pub body: [u8; 255],
 }
 
 // How far reading has come: the places of FF bytes and the length of the body.
-#[derive(Drop)]
+#[derive(Clone, Copy)]
 enum State {
     Seek,
     Lead(usize),

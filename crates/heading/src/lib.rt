@@ -1,11 +1,13 @@
 // The first line of standard input, of any length, and the journal behind it.
+#![tactic(auto)]
+
 ghost use Rattle.heading.specs.Heading.{Turns, ReadsHeading, Behind};
 
 use libc::STDIN_FILENO;
 use lines::{Intake, Next};
 
 // The first line, from one place of the buffer to another, its LF left out; that more has to be read; or that there is none.
-#[derive(Drop)]
+#[derive(Clone, Copy)]
 pub enum Found {
     Line { from: usize, to: usize },
     More,
@@ -13,7 +15,7 @@ pub enum Found {
 }
 
 // What is known of the first line, and what is held behind it.
-#[derive(Drop)]
+#[derive(Clone, Copy)]
 pub struct Headed {
     pub found: Found,
     pub intake: Intake,

@@ -1,4 +1,6 @@
 // Holes in the dose numbers: whether a count follows the one before it, and the hours that a hole makes missing.
+#![tactic(auto)]
+
 ghost use Rattle.std.specs.Prelude.{◌≡◌, ◌-◌};
 ghost use Rattle.holes.specs.Holes.{follows};
 ghost use Rattle.holes.specs.Marks.{Adds};
@@ -7,7 +9,7 @@ ghost use Rattle.holes.specs.Promises.{GoesOn, MarksHole};
 use journal::Line;
 
 // The D line before the next line: none yet, or its hour and count.
-#[derive(Drop)]
+#[derive(Clone, Copy)]
 pub enum Before {
     Nothing,
     At(u32, u32),

@@ -1,4 +1,6 @@
 // The hours of a journal: one pass that counts its lines, and an hour's answer.
+#![tactic(auto)]
+
 ghost use Rattle.std.specs.Prelude.{◌≡◌, false, ◌-◌, ◌<◌, max, replicate};
 ghost use Rattle.hourly.specs.Hours.{asks_for};
 ghost use Rattle.hourly.specs.Says.{says_hour};
@@ -10,7 +12,7 @@ use journal::{Line, Past, Refusal};
 use text::{LF, Num};
 
 // What a measured hour hands to the predictor: the sum and the largest amount, both exact, and the mean.
-#[derive(Drop)]
+#[derive(Clone, Copy)]
 pub struct Figures {
     pub sum: f64,
     pub largest: f64,
@@ -18,7 +20,7 @@ pub struct Figures {
 }
 
 // The hour's answer.
-#[derive(Drop)]
+#[derive(Clone, Copy)]
 pub enum Hour {
     Measured(Figures),
     Idle,
@@ -26,14 +28,14 @@ pub enum Hour {
 }
 
 // What asking for one hour answers.
-#[derive(Drop)]
+#[derive(Clone, Copy)]
 pub enum Asked {
     Hour(Hour),
     Refused(Refusal),
 }
 
 // What the lines tell of one hour: the number of its doses, their sum, the largest amount, whether its H was there, and whether it lies in a hole.
-#[derive(Drop)]
+#[derive(Clone, Copy)]
 pub struct Tally {
     pub doses: u32,
     pub sum: f64,
@@ -43,14 +45,14 @@ pub struct Tally {
 }
 
 // Which doses are asked for: those of all products, or those of one.
-#[derive(Drop)]
+#[derive(Clone, Copy)]
 pub enum Products {
     All,
     One(u8),
 }
 
 // What an accepted journal holds: the number of its lines with an hour, and the hours of the first and the last.
-#[derive(Drop)]
+#[derive(Clone, Copy)]
 pub struct Summary {
     pub lines: usize,
     pub first: u32,
@@ -58,14 +60,14 @@ pub struct Summary {
 }
 
 // What the pass says of a journal.
-#[derive(Drop)]
+#[derive(Clone, Copy)]
 pub enum Judged {
     Lines(Summary),
     Refused(Refusal),
 }
 
 // What the pass over a journal finds: what it says of it, and the tallies of the hours from the first on.
-#[derive(Drop)]
+#[derive(Clone, Copy)]
 pub struct Tallied {
     pub judged: Judged,
     pub table: [Tally; journal::SPAN],

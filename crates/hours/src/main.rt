@@ -1,4 +1,6 @@
 // Reads a journal on standard input and prints every hour from first to last, or the one line of a refusal.
+#![tactic(auto)]
+
 use hourly::Products;
 
 fn main() {

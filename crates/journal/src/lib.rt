@@ -1,4 +1,6 @@
 // The journal: its V, D and H lines in two forms, their reader, the order of their hours, and what refuses a journal.
+#![tactic(auto)]
+
 ghost use Rattle.std.specs.Prelude.{◌≡◌};
 ghost use Rattle.laws.specs.Pick.{pick};
 ghost use Rattle.journal.specs.Line.{versioned, is_version, line_of, whole};
@@ -10,14 +12,14 @@ ghost use Rattle.journal.specs.Promises.{StandsAt, ReadsLine, Heads, CountsField
 use text::{LF, Num, TAB};
 
 // The form of a journal: without a V line, its D lines have no product; or with one, and its D lines have it last.
-#[derive(Drop)]
+#[derive(Clone, Copy)]
 pub enum Form {
     Old,
     New,
 }
 
 // A line: a completed dose, or that the box was on for all of an hour.
-#[derive(Drop)]
+#[derive(Clone, Copy)]
 pub enum Line {
     Dose {
         hour: u32,
@@ -32,7 +34,7 @@ pub enum Line {
 }
 
 // What the reader of one line answers: the V line of the new form, a line with an hour, or neither.
-#[derive(Drop)]
+#[derive(Clone, Copy)]
 pub enum One {
     Version,
     Line(Line),
@@ -40,7 +42,7 @@ pub enum One {
 }
 
 // What stands before the first line with an hour: so many bytes and lines, by the journal's form.
-#[derive(Drop)]
+#[derive(Clone, Copy)]
 pub struct Head {
     pub form: Form,
     pub bytes: usize,
@@ -48,14 +50,14 @@ pub struct Head {
 }
 
 // What stands at a place of a journal: a line and the place after its LF, or no line.
-#[derive(Drop)]
+#[derive(Clone, Copy)]
 pub enum At {
     Line { line: Line, next: usize },
     NoLine,
 }
 
 // Why a journal is refused, with the line.
-#[derive(Drop)]
+#[derive(Clone, Copy)]
 pub enum Refusal {
     R10(usize),
     R11(usize),
@@ -64,14 +66,14 @@ pub enum Refusal {
 }
 
 // A refusal's number, and the line that it names.
-#[derive(Drop)]
+#[derive(Clone, Copy)]
 pub struct Named {
     pub number: u64,
     pub line: u64,
 }
 
 // What the lines so far say of the hours: whether there are any, whether the last one is closed by an H, the first hour and the last.
-#[derive(Drop)]
+#[derive(Clone, Copy)]
 pub struct Past {
     pub begun: bool,
     pub closed: bool,

@@ -1,10 +1,12 @@
 // An input that comes in blocks: the next whole line of what is held, and the bytes that are carried over to the next block.
+#![tactic(auto)]
+
 ghost use Rattle.std.specs.Prelude.{◌≡◌, false, ◌+◌, ◌≤◌, length};
 ghost use Rattle.lines.specs.Places.{end_of, Carries};
 ghost use Rattle.lines.specs.Intake.{HoldsNothing, HandsOver};
 
 // What is carried from read to read: the bytes of the buffer from `at` to `have` are not done with; `long` says that the line that they go on is too long already.
-#[derive(Drop)]
+#[derive(Clone, Copy)]
 pub struct Intake {
     pub at: usize,
     pub have: usize,
@@ -12,13 +14,13 @@ pub struct Intake {
 }
 
 // The next whole line, from one place of the buffer to another, or that more has to be read.
-#[derive(Drop)]
+#[derive(Clone, Copy)]
 pub enum Next {
     Line { from: usize, to: usize },
     More,
 }
 
-#[derive(Drop)]
+#[derive(Clone, Copy)]
 pub struct Taken {
     pub intake: Intake,
     pub next: Next,

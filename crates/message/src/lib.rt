@@ -1,4 +1,6 @@
 // What stands in a body: the address form, the operation code and the data.
+#![tactic(auto)]
+
 ghost use Rattle.std.specs.Prelude.{◌≡◌, ◌+◌, ◌≤◌, length, replicate};
 ghost use Rattle.std.proofs.lemmas.List.Edits.{sets};
 ghost use Rattle.paper.specs.Answer.{Hands};
@@ -7,7 +9,7 @@ ghost use Rattle.message.specs.Message.{serial_of, address_bytes, proper, framab
 ghost use Rattle.message.specs.Says.{says_built, Splits, Builds};
 
 // The address form: an address, or an extended address, which is a serial number.
-#[derive(Drop)]
+#[derive(Clone, Copy)]
 pub enum Form {
     Address(u8),
     Serial(u32),
@@ -19,7 +21,7 @@ impl Form {
 }
 
 // The parts of a body; its data stand from place `from` up to place `to`.
-#[derive(Drop)]
+#[derive(Clone, Copy)]
 pub struct Parts {
     pub form: Form,
     pub operation: u8,
@@ -27,14 +29,14 @@ pub struct Parts {
     pub to: usize,
 }
 
-#[derive(Drop)]
+#[derive(Clone, Copy)]
 pub enum Split {
     Parts(Parts),
     R6,
 }
 
 // What building answers: the length of the body, or a refusal: a form that its bytes would not give back, which has no number in document 01, or R14.
-#[derive(Drop)]
+#[derive(Clone, Copy)]
 pub enum Built {
     Body(usize),
     Improper,
@@ -42,7 +44,7 @@ pub enum Built {
 }
 
 // The answer beside the body, without its check; the places past the body are 0.
-#[derive(Drop)]
+#[derive(Clone, Copy)]
 pub struct Body {
     pub built: Built,
     pub bytes: [u8; 254],

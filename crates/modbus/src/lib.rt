@@ -1,4 +1,6 @@
 // MODBUS RTU of a slave: the CRC, what a frame asks, and the replies to it.
+#![tactic(auto)]
+
 mod asks;
 mod crc;
 mod replies;
@@ -14,7 +16,7 @@ const REGISTERS: usize = 11;
 const LINK: u16 = 10;
 
 // What a frame asks: registers from a first one on, the link start set or cleared, or what an exception answers.
-#[derive(Drop)]
+#[derive(Clone, Copy)]
 pub enum Ask {
     Registers { start: u16, quantity: u16 },
     Link(bool),
@@ -22,21 +24,21 @@ pub enum Ask {
 }
 
 // Whom a frame asks: this slave alone, or all, which is a link start.
-#[derive(Drop)]
+#[derive(Clone, Copy)]
 pub enum Asked {
     Ours(Ask),
     ForAll(bool),
 }
 
 // What is heard in a frame: what it asks, or nothing.
-#[derive(Drop)]
+#[derive(Clone, Copy)]
 pub enum Hearing {
     Asked(Asked),
     R17,
 }
 
 // What serving answers: the reply's length, or that the buffer is too short.
-#[derive(Drop)]
+#[derive(Clone, Copy)]
 pub enum Sent {
     Bytes(usize),
     R8,

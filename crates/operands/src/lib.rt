@@ -1,4 +1,6 @@
 // The numbers and bytes of a call, read at a place of its line.
+#![tactic(auto)]
+
 ghost use Rattle.std.specs.Prelude.{◌≡◌, true, ◌+◌, ◌≤◌, length};
 ghost use Rattle.operands.specs.Numbers.{ReadsSigned, MakesSet};
 ghost use Rattle.operands.specs.Bytes.{is_hex, standing, CountsBytes};
@@ -7,7 +9,7 @@ use settings::Settings;
 use text::Num;
 
 // A number that may be below 0, read at a place: its value and the place after it, or none.
-#[derive(Drop)]
+#[derive(Clone, Copy)]
 pub enum Signed {
     Good(i32, usize),
     Bad,

@@ -1,4 +1,6 @@
 // MODBUS frames of a panel.
+#![tactic(auto)]
+
 ghost use Rattle.std.specs.Prelude.{◌≡◌};
 ghost use Rattle.controller.specs.State.{with_link};
 ghost use Rattle.controller.specs.Sound.{Sound};
@@ -8,7 +10,7 @@ use controller::Controller;
 use modbus::{Hearing, Sent};
 
 // What a MODBUS frame answers: the reply's length, 0 where there is none, or a refusal.
-#[derive(Drop)]
+#[derive(Clone, Copy)]
 pub enum PollAnswer {
     Sent(usize),
     R17,
@@ -16,7 +18,7 @@ pub enum PollAnswer {
 }
 
 // The controller after a MODBUS frame, and the answer.
-#[derive(Drop)]
+#[derive(Clone, Copy)]
 pub struct Polled {
     pub next: Controller,
     pub answer: PollAnswer,

@@ -1,9 +1,11 @@
 // The pieces of an answer's text, each put at a place of a lent buffer and answering the place after it. A piece without room is left out.
+#![tactic(auto)]
+
 ghost use Rattle.std.specs.Prelude.{◌≡◌, ◌+◌, ◌*◌, ◌<◌, ◌≤◌, length};
 ghost use Rattle.io.specs.Counts.{IsPrefixLen};
 
 // The letter of an answer, and its numbers: so many as `count` says, the first after a minus where `minus` is.
-#[derive(Drop)]
+#[derive(Clone, Copy)]
 pub struct Words {
     pub letter: u8,
     pub minus: bool,

@@ -1,4 +1,6 @@
 // Lines of a script bring a box where it shall be, up to the first empty line.
+#![tactic(auto)]
+
 ghost use Rattle.std.specs.Prelude.{◌≤◌, length};
 ghost use Rattle.controller.specs.Sound.{Sound};
 ghost use Rattle.calls.specs.Call.{call_of};
@@ -10,7 +12,7 @@ use controller::Controller;
 use lines::{Intake, Next};
 
 // The box behind the lines of a block, what is pending, and whether the empty line has come.
-#[derive(Drop)]
+#[derive(Clone, Copy)]
 pub struct Brought {
     pub controller: Controller,
     pub intake: Intake,

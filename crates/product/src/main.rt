@@ -1,4 +1,6 @@
 // Reads a product alone on a line and then a journal on standard input, and prints every hour from first to last for that product, or the one line of a refusal.
+#![tactic(auto)]
+
 ghost use Rattle.std.specs.Prelude.{◌≡◌, length};
 ghost use Rattle.chosen.specs.Choice.{no_product, product_line};
 ghost use Rattle.chosen.specs.Says.{says_choice};

@@ -1,4 +1,6 @@
 // What a master asks of the box's parts: whether C0 may zero and to what, a reply's data, and the registers; no controller.
+#![tactic(auto)]
+
 ghost use Rattle.std.specs.Prelude.{◌≡◌, eqb};
 ghost use Rattle.laws.specs.Pick.{pick};
 ghost use Rattle.scale.specs.Scale.{as_window, weight_by};
@@ -15,7 +17,7 @@ use settings::Settings;
 use single::{Single, Words};
 
 // Whether the samples allow a request, and Z after it.
-#[derive(Drop)]
+#[derive(Clone, Copy)]
 pub struct Zero {
     pub may: bool,
     pub z: Units,

@@ -1,7 +1,7 @@
 -- The weights that are compared with a limit, for every sound controller. Assumes nothing.
 use Rattle.std.proofs.Common.{sym, ap, ◌∙◌, arith}
-use Rattle.std.specs.Prelude.{◌≤◌, ℤ, nat_abs, ◌+ℤ◌, ◌-ℤ◌}
-use Rattle.std.proofs.Math.IntN.{-ℤ-+ℤ_cancel}
+use Rattle.std.specs.Prelude.{◌≤◌, nat_abs, ◌+ℤ◌, ◌-ℤ◌}
+use Rattle.std.proofs.Math.IntN.{ℤ, -ℤ-+ℤ_cancel}
 use Rattle.laws.specs.Whole.{abs-sub}
 use Rattle.dosing.specs.Gates.{Kept}
 use Rattle.dosing.specs.Laws.{shift}

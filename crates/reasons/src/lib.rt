@@ -1,4 +1,6 @@
 // Why an output is as it is: the first reason that holds.
+#![tactic(auto)]
+
 ghost use Rattle.std.specs.Prelude.{◌≡◌, ◌*◌, ◌-◌, ◌≤◌, eqb, leb, ◌-ℤ◌, nat_abs};
 ghost use Rattle.laws.specs.Pick.{pick};
 ghost use Rattle.paper.specs.Answer.{done};
@@ -13,7 +15,7 @@ use dosing::{Gates, Phase, Units};
 use settings::Settings;
 
 // The phases by their names, without the stage.
-#[derive(Drop)]
+#[derive(Clone, Copy)]
 pub enum Name {
     Ready,
     Fill,
@@ -25,7 +27,7 @@ pub enum Name {
 }
 
 // Why an output is as it is; R19 for a number that is no output's.
-#[derive(Drop)]
+#[derive(Clone, Copy)]
 pub enum Reason {
     Open,
     // The channel is 0 for F21.

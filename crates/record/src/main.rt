@@ -1,4 +1,6 @@
 // From samples on standard input to a journal on standard output.
+#![tactic(auto)]
+
 ghost use Rattle.recorder.specs.Recording.{Carries};
 
 use libc::STDOUT_FILENO;
@@ -6,7 +8,7 @@ use lines::Intake;
 use recorder::Recorder;
 
 // What is carried on behind a turn, and whether there may be more.
-#[derive(Drop)]
+#[derive(Clone, Copy)]
 struct Turned {
     state: Recorder,
     intake: Intake,

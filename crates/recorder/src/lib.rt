@@ -1,4 +1,6 @@
 // From samples to a journal: what each line of a script adds to it.
+#![tactic(auto)]
+
 ghost use Rattle.std.specs.Prelude.{◌≡◌, length};
 ghost use Rattle.controller.specs.Says.{says_tick};
 ghost use Rattle.recorder.specs.Recording.{heard_tick, Carries};
@@ -12,14 +14,14 @@ use lines::{Intake, Next};
 use script::Sighted;
 
 // What is carried from line to line.
-#[derive(Drop)]
+#[derive(Clone, Copy)]
 pub struct Recorder {
     pub controller: Controller,
     pub clock: Clock,
 }
 
 // What a buffer's lines gave: what is carried on, what is still pending, and how many bytes they added to the journal.
-#[derive(Drop)]
+#[derive(Clone, Copy)]
 pub struct Fed {
     pub next: Recorder,
     pub intake: Intake,

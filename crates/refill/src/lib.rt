@@ -1,4 +1,6 @@
 // One read of standard input behind what is left in a buffer.
+#![tactic(auto)]
+
 ghost use Rattle.std.specs.Prelude.{◌≤◌, length};
 ghost use Rattle.refill.specs.Refills.{Keeps, Refills};
 
@@ -6,7 +8,7 @@ use libc::STDIN_FILENO;
 use lines::Intake;
 
 // What is carried on behind a read, and whether it brought anything.
-#[derive(Drop)]
+#[derive(Clone, Copy)]
 pub struct Refilled {
     pub intake: Intake,
     pub more: bool,

@@ -1,10 +1,12 @@
 // The registers of the box as MODBUS numbers them, 0 to 10.
+#![tactic(auto)]
+
 ghost use Rattle.registers.specs.Registers.{Lists};
 
 use single::Words;
 
 // What stands in the registers.
-#[derive(Drop)]
+#[derive(Clone, Copy)]
 pub struct Values {
     // The C3 weight and the C2 weight, each as the words of an f32.
     pub c3: Words,

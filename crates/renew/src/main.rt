@@ -1,4 +1,6 @@
 // Reads a journal of the old form on standard input and prints it in the new form, or the one line of a refusal.
+#![tactic(auto)]
+
 use libc::{STDIN_FILENO, STDOUT_FILENO};
 
 fn main() {

@@ -1,4 +1,6 @@
 // Every call of the box from standard input, one answer to a line.
+#![tactic(auto)]
+
 use controller::Controller;
 use lines::Intake;
 

@@ -1,4 +1,6 @@
 // What the hour program prints for a journal.
+#![tactic(auto)]
+
 ghost use Rattle.std.specs.Prelude.{◌≡◌, [], ◌∷◌, ◌+◌, ◌≤◌, min, length, replicate};
 ghost use Rattle.std.proofs.lemmas.List.Edits.{sets};
 ghost use Rattle.paper.specs.Answer.{in_room, Fills};
@@ -15,7 +17,7 @@ use journal::Refusal;
 use text::{LF, TAB};
 
 // What making the text answers: its length, the journal's refusal, or that the buffer is too short.
-#[derive(Drop)]
+#[derive(Clone, Copy)]
 pub enum Printed {
     Text(usize),
     Refused(Refusal),
@@ -26,14 +28,14 @@ pub enum Printed {
 pub const ENOUGH: usize = 33480;
 
 // A report: its bytes, how many they are, and 0 behind them.
-#[derive(Drop)]
+#[derive(Clone, Copy)]
 pub struct Printout {
     pub bytes: [u8; ENOUGH],
     pub len: usize,
 }
 
 // What is printed of an hour: its doses, their sum and the mean's bits; or I; or X.
-#[derive(Drop)]
+#[derive(Clone, Copy)]
 enum Shown {
     Measured { doses: u32, sum: u64, bits: u64 },
     Idle,

@@ -1,4 +1,6 @@
 // Reads a journal of the new form on standard input and prints it in the old form, or the one line of a refusal.
+#![tactic(auto)]
+
 use libc::{STDIN_FILENO, STDOUT_FILENO};
 
 fn main() {

@@ -5,13 +5,13 @@ ghost use Rattle.roundtrip.specs.Frames.{EchoesBody};
 use frame::{Found, Wrote};
 
 // What writing and reading back answers: the length of the body, or the writer's refusal.
-#[derive(Drop)]
+#[derive(Clone, Copy)]
 pub enum Echoed {
     Body(usize),
     R14,
 }
 
-#[derive(Drop)]
+#[derive(Clone, Copy)]
 pub struct Echo {
     pub echoed: Echoed,
     pub body: [u8; 255],

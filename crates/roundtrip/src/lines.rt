@@ -5,7 +5,7 @@ use entry::Wrote;
 use journal::{Form, Line, One};
 
 // What writing and reading back answers: the line, or the writer's refusal.
-#[derive(Drop)]
+#[derive(Clone, Copy)]
 pub enum Echoed {
     Line(Line),
     R10,

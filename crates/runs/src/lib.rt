@@ -1,4 +1,6 @@
 // Runs of ticks and line requests, each answered as it is made.
+#![tactic(auto)]
+
 ghost use Rattle.std.specs.Prelude.{◌≤◌, length};
 ghost use Rattle.controller.specs.Sound.{Sound};
 ghost use Rattle.runs.specs.Runs.{Reaches, Ran};
@@ -10,14 +12,14 @@ use lines::{Intake, Next};
 use script::Sighted;
 
 // Why a run stops: at a call that is no tick and no line request, whose bytes stand at the start of the lent buffer, or for more input.
-#[derive(Drop)]
+#[derive(Clone, Copy)]
 pub enum Stop {
     Call(Call),
     More,
 }
 
 // Where a run stopped: the controller, what is pending, the end of the answers, and why.
-#[derive(Drop)]
+#[derive(Clone, Copy)]
 pub struct Run {
     pub controller: Controller,
     pub intake: Intake,
@@ -47,7 +49,7 @@ fn with_room(out: &[u8], len: usize) -> usize
 }
 
 // How far ticks came: the controller, what is pending, and the end of the answers.
-#[derive(Drop)]
+#[derive(Clone, Copy)]
 struct Reached {
     controller: Controller,
     intake: Intake,

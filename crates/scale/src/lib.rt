@@ -1,4 +1,6 @@
 // What a tick and a request read off the samples: F, its filter, the calm run, stable, over capacity, what the phase rule sees and the weight.
+#![tactic(auto)]
+
 ghost use Rattle.std.specs.Prelude.{◌≡◌, ◌-ℤ◌};
 ghost use Rattle.dosing.specs.Rules.{units};
 ghost use Rattle.scale.specs.Scale.{as_window, net_of, showable};
@@ -9,14 +11,14 @@ use field::Weight;
 use settings::Settings;
 
 // A weight that a reply can show, or R16 for one that is beyond six digits or has a point above 7.
-#[derive(Drop)]
+#[derive(Clone, Copy)]
 pub enum Weighed {
     Weight(Weight),
     R16,
 }
 
 // A difference of two weights, which an i32 need not hold.
-#[derive(Drop)]
+#[derive(Clone, Copy)]
 struct Wide {
     v: i64,
 }

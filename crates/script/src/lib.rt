@@ -1,4 +1,6 @@
 // The tick that stands next in a script, read where it stands.
+#![tactic(auto)]
+
 ghost use Rattle.script.specs.Sight.{ReadsTick, Sights};
 
 use lines::Intake;
@@ -6,7 +8,7 @@ use operands::Signed;
 use text::Num;
 
 // The next whole line, where it is a tick, and the place after its LF; or anything else.
-#[derive(Drop)]
+#[derive(Clone, Copy)]
 pub enum Sighted {
     Tick {
         sample: i32,

@@ -1,10 +1,12 @@
 // The settings, the table of their ranges, and the check that names the first bad one.
+#![tactic(auto)]
+
 ghost use Rattle.std.specs.Prelude.{◌≡◌, map};
 ghost use Rattle.settings.specs.Table.{table, least_level, most_level};
 ghost use Rattle.settings.specs.Columns.{value_of, range_of, bounds};
 ghost use Rattle.settings.specs.Says.{Checks, IsDefault};
 
-#[derive(Drop)]
+#[derive(Clone, Copy)]
 pub struct Settings {
     pub algorithm: u32,
     pub capacity: u32,
@@ -27,14 +29,14 @@ pub struct Settings {
 }
 
 // What the check answers: the set is good, or the row of the first bad setting (1 is the first).
-#[derive(Drop)]
+#[derive(Clone, Copy)]
 pub enum Checked {
     Good,
     R2(u32),
 }
 
 // A least and a greatest value.
-#[derive(Drop)]
+#[derive(Clone, Copy)]
 struct Range {
     from: u32,
     to: u32,

@@ -1,4 +1,6 @@
 // Settings, counter reset, counters and link start.
+#![tactic(auto)]
+
 ghost use Rattle.std.specs.Prelude.{◌≡◌};
 ghost use Rattle.controller.specs.Sound.{Sound};
 ghost use Rattle.setup.specs.Setup.{taken};
@@ -12,7 +14,7 @@ use settings::{Checked, Settings};
 use window::Window;
 
 // What new settings answer; R2 names the row.
-#[derive(Drop)]
+#[derive(Clone, Copy)]
 pub enum SetAnswer {
     Taken,
     R3,
@@ -20,21 +22,21 @@ pub enum SetAnswer {
 }
 
 // The controller after new settings, and the answer.
-#[derive(Drop)]
+#[derive(Clone, Copy)]
 pub struct Configured {
     pub next: Controller,
     pub answer: SetAnswer,
 }
 
 // What a counter reset answers.
-#[derive(Drop)]
+#[derive(Clone, Copy)]
 pub enum ResetAnswer {
     Done,
     R3,
 }
 
 // The controller after a counter reset, and the answer.
-#[derive(Drop)]
+#[derive(Clone, Copy)]
 pub struct Cleared {
     pub next: Controller,
     pub answer: ResetAnswer,

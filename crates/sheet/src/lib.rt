@@ -1,4 +1,6 @@
 // What the week program prints for a journal and a first hour.
+#![tactic(auto)]
+
 ghost use Rattle.std.specs.Prelude.{◌≡◌, [], ◌+◌, ◌≤◌, min, length, replicate};
 ghost use Rattle.std.proofs.lemmas.List.Edits.{sets};
 ghost use Rattle.paper.specs.Answer.{in_room, Fills};
@@ -15,7 +17,7 @@ use text::{LF, Num, TAB};
 use weekly::{Day, Kind, Said};
 
 // What printing a week answers: the length of its text, the journal's refusal, a first hour above the greatest, or that the buffer is too short.
-#[derive(Drop)]
+#[derive(Clone, Copy)]
 pub enum Printed {
     Text(usize),
     Refused(Refusal),
@@ -24,7 +26,7 @@ pub enum Printed {
 }
 
 // The first hour of a line, or that it has none.
-#[derive(Drop)]
+#[derive(Clone, Copy)]
 pub enum First {
     Hour(u32),
     R21,
@@ -34,7 +36,7 @@ pub enum First {
 pub const ENOUGH: usize = 140;
 
 // A report: its bytes, how many they are, and 0 behind them.
-#[derive(Drop)]
+#[derive(Clone, Copy)]
 pub struct Printout {
     pub bytes: [u8; ENOUGH],
     pub len: usize,

@@ -1,7 +1,7 @@
 -- Each weight is exactly the whole number as an f32 and comes back from its two words; 0 is all bits 0. Assumes nothing.
 use Rattle.std.specs.Prelude.{◌≡◌, refl, Bool, true, false, not, ℕ, suc, ◌^◌, ◌<◌, T, ℤ, pos, negsuc, nat_abs, Float}
 use Rattle.std.proofs.Common.{sym, ap, ◌∙◌, div-add-mod', arith, le→leb, lt→ltb, le-leb}
-use Rattle.std.specs.Float.{fin, binary32}
+use Rattle.std.specs.Float.{nan, inf, fin, binary32}
 use Rattle.std.specs.Float.Ieee.{of_int, to_bits, of_bits, to_signed, in_float, in_signed, is_nan}
 use Rattle.std.specs.Float.Ieee.Fits.{of_int-fits}
 use Rattle.std.specs.Float.Ieee.Bits.{of_bits-to_bits, to_bits-lt}
@@ -39,6 +39,8 @@ single-back (negsuc n) h = negative_back binary32 31 n (in-float (negsuc n) h) (
 value-no-nan : (x : Float) (s : Bool) (n d : ℕ) → HasValue x s n d → T (not (is_nan x))
 unfolding is_nan
 value-no-nan (fin t m e) s n d v = tt
+value-no-nan nan s n d v = elim v [ ]
+value-no-nan (inf t) s n d v = elim v [ ]
 
 pub single-no-nan : (w : ℤ) → InRange w → T (not (is_nan (single_of w)))
 single-no-nan w h = value-no-nan (single_of w) (is_neg w) (nat_abs w) 1 (single-exact w h)

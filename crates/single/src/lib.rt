@@ -1,4 +1,6 @@
 // A weight as an IEEE single in two registers, the high word first.
+#![tactic(auto)]
+
 ghost use Rattle.std.specs.Prelude.{◌≡◌};
 ghost use Rattle.single.specs.Single.{InRange, bits_of, Gives};
 
@@ -6,14 +8,14 @@ ghost use Rattle.single.specs.Single.{InRange, bits_of, Gives};
 const MOST: i32 = 924998;
 
 // Two registers, in the order in which they are sent.
-#[derive(Drop)]
+#[derive(Clone, Copy)]
 pub struct Words {
     pub high: u16,
     pub low: u16,
 }
 
 // What a weight is in registers: its words, or that it is none within the range.
-#[derive(Drop)]
+#[derive(Clone, Copy)]
 pub enum Single {
     Words(Words),
     Outside,

@@ -1,4 +1,6 @@
 // One box on a MODBUS line: lines of a script bring it where it shall be, and after an empty line each read is a frame.
+#![tactic(auto)]
+
 ghost use Rattle.std.specs.Prelude.{◌≡◌, length};
 ghost use Rattle.controller.specs.Sound.{Sound};
 ghost use Rattle.slave.specs.Serves.{len_of, Replies, Serves};
@@ -10,7 +12,7 @@ use panel::PollAnswer;
 use preset::Brought;
 
 // The box after a frame, and how many bytes its reply has.
-#[derive(Drop)]
+#[derive(Clone, Copy)]
 struct Replied {
     next: Controller,
     len: usize,

@@ -1,4 +1,6 @@
 // Steps 4 and 5 and steps 7 and 8 of a tick, by their parts; no controller.
+#![tactic(auto)]
+
 ghost use Rattle.std.specs.Prelude.{◌≡◌};
 ghost use Rattle.stepping.specs.Stepping.{unstarted_of};
 ghost use Rattle.stepping.specs.Says.{Rests, Samples, Steps};
@@ -8,14 +10,14 @@ use dosing::{Dose, Gates, Phase, Units};
 use settings::Settings;
 
 // What steps 4 and 5 make of the samples held: F and S.
-#[derive(Drop)]
+#[derive(Clone, Copy)]
 pub struct Sampled {
     pub f: Units,
     pub s: u32,
 }
 
 // What steps 7 and 8 make of a tick.
-#[derive(Drop)]
+#[derive(Clone, Copy)]
 pub struct Stepped {
     pub phase: Phase,
     pub z: Units,

@@ -1,4 +1,6 @@
 // Numbers as text: written into a lent buffer, and read at a place.
+#![tactic(auto)]
+
 ghost use Rattle.std.specs.Prelude.{◌≡◌, ◌+◌, ◌≤◌, ◌<◌, leb, length};
 ghost use Rattle.std.proofs.lemmas.List.Edits.{sets};
 ghost use Rattle.laws.specs.Decimal.{glyph, decimal, hex_of};
@@ -6,7 +8,7 @@ ghost use Rattle.text.specs.Put.{CountsDigits, PutsDecimal, PutsHex, PutsByte};
 ghost use Rattle.text.specs.Scan.{IsLeast, StandsAt, TellsDigit, ReadsNumber, ReadsField};
 
 // A number read at a place: its value and the place after it, or none.
-#[derive(Drop)]
+#[derive(Clone, Copy)]
 pub enum Num {
     Good(u32, usize),
     Bad,

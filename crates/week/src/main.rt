@@ -1,4 +1,6 @@
 // Reads a first hour alone on a line and then a journal on standard input, and prints the week's sheet, or the one line of a refusal.
+#![tactic(auto)]
+
 ghost use Rattle.std.specs.Prelude.{◌≡◌, [], length};
 ghost use Rattle.paper.specs.Answer.{refused};
 ghost use Rattle.paper.specs.Numbers.{R21};

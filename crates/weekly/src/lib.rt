@@ -1,4 +1,6 @@
 // The week of a journal: seven days of twenty-four hours from a given first hour, and what each day was.
+#![tactic(auto)]
+
 ghost use Rattle.std.specs.Prelude.{◌≡◌, map, ◌-◌, ◌≤◌, ◌<◌};
 ghost use Rattle.hourly.specs.Says.{says_hour};
 ghost use Rattle.hourly.specs.Tally.{hour_among};
@@ -19,7 +21,7 @@ pub type Week = [Row; 7];
 pub const LATEST: u32 = 9999832;
 
 // What asking for a week says: it was made, or the journal's refusal, or a first hour above the greatest.
-#[derive(Drop)]
+#[derive(Clone, Copy)]
 pub enum Said {
     Made,
     Refused(Refusal),
@@ -27,25 +29,25 @@ pub enum Said {
 }
 
 // An hour and a day's hours in structs: an answer holds them so.
-#[derive(Drop)]
+#[derive(Clone, Copy)]
 pub struct Slot {
     pub hour: Hour,
 }
 
-#[derive(Drop)]
+#[derive(Clone, Copy)]
 pub struct Slots {
     pub hours: [Slot; 24],
 }
 
 // What asking for a week answers; where it is refused every hour is missing.
-#[derive(Drop)]
+#[derive(Clone, Copy)]
 pub struct Weekly {
     pub said: Said,
     pub rows: [Slots; 7],
 }
 
 // W, I or X.
-#[derive(Drop)]
+#[derive(Clone, Copy)]
 pub enum Kind {
     Worked,
     Holiday,
@@ -53,7 +55,7 @@ pub enum Kind {
 }
 
 // What a day was: its kind, how many hours are measured, and the sum over them.
-#[derive(Drop)]
+#[derive(Clone, Copy)]
 pub struct Day {
     pub kind: Kind,
     pub covered: u32,
@@ -61,14 +63,14 @@ pub struct Day {
 }
 
 // What asking for a week's days answers; where it is refused every day is unknown.
-#[derive(Drop)]
+#[derive(Clone, Copy)]
 pub struct Days {
     pub said: Said,
     pub days: [Day; 7],
 }
 
 // What some hours of a day have shown.
-#[derive(Drop)]
+#[derive(Clone, Copy)]
 struct Seen {
     sum: u64,
     covered: u32,

@@ -1,6 +1,6 @@
 -- Samples in a list, and the list without one of them. Assumes nothing.
 use Rattle.std.specs.Prelude.{◌≡◌, refl, Bool, true, false, List, [], ◌∷◌, ◌⊎◌, ℤ, ◌+ℤ◌, ◌-ℤ◌, length}
-use Rattle.std.proofs.Common.{sym, ◌∙◌, inl, inr}
+use Rattle.std.proofs.Common.{sym, ◌∙◌, subst, inl, inr}
 use Rattle.std.proofs.Math.Path.{ap}
 use Prim.Native.Nat.{suc}
 use Rattle.std.proofs.Math.IntN.{+ℤ_assoc, +ℤ_comm}
@@ -39,7 +39,7 @@ lesser-in a b xs = pick-if (λ (z : ℤ). In z (a ∷ b ∷ xs)) (lt_z b a) (λ 
 -- what stands among c and xs stands among a, b and xs, where c does
 widen : (z c a b : ℤ) (xs : List ℤ) → In c (a ∷ b ∷ xs) → In z (c ∷ xs) → In z (a ∷ b ∷ xs)
 unfolding In
-widen z c a b xs i (inl e) = rw e i
+widen z c a b xs i (inl e) = subst (λ (q : ℤ). In q (a ∷ b ∷ xs)) (sym e) i
 widen z c a b xs i (inr j) = inr (inr j)
 
 pub largest-in : (x : ℤ) (xs : List ℤ) → In (largest x xs) (x ∷ xs)

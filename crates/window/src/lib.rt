@@ -1,4 +1,6 @@
 // The samples held, newest first, and their mean.
+#![tactic(auto)]
+
 ghost use Rattle.std.specs.Prelude.{◌≡◌, ◌+◌, ◌*◌, ◌%◌, ◌<◌, ◌≤◌, min, ltb, pos, nat_abs, length, take, get_or};
 ghost use Rattle.laws.specs.Pick.{pick};
 ghost use Rattle.window.specs.Mean.{half_up, round_away, greater, lesser, mean_of};
@@ -8,7 +10,7 @@ ghost use Rattle.window.specs.Window.{places};
 ghost use Rattle.window.specs.Calls.{IsEmpty, Pushes, Means};
 
 // The newest sample stands first; `held` of the places are in use.
-#[derive(Drop)]
+#[derive(Clone, Copy)]
 pub struct Window {
     pub samples: [i32; Window::PLACES],
     pub held: usize,
@@ -59,7 +61,7 @@ pub fn mean_of(samples: &[i32], held: usize, n: usize) -> i32
 }
 
 // What a pass over samples tells.
-#[derive(Drop)]
+#[derive(Clone, Copy)]
 struct Seen {
     // The sum, modulo 2^32.
     sum: u32,
@@ -86,7 +88,7 @@ impl Seen {
 }
 
 // A sum to divide, and by how many.
-#[derive(Drop)]
+#[derive(Clone, Copy)]
 struct Left {
     sum: i64,
     count: usize,

@@ -1,0 +1,12 @@
+use borrow.Author.Rules.{rules}
+use Rattle.laws.specs.Pick.{picks}
+use Rattle.channels.proofs.run_after.Goals as goal
+
+pub returns-then-run-lt-MISMATCHES : goal.returns-then-run-lt-MISMATCHES
+returns-then-run-lt-MISMATCHES c = search picks
+
+pub returns-else-run-lt-MISMATCHES : goal.returns-else-run-lt-MISMATCHES
+returns-else-run-lt-MISMATCHES c = search picks
+
+pub returns-else-wrong : goal.returns-else-wrong
+returns-else-wrong c = search picks

@@ -1,0 +1,26 @@
+use mathlib.Core.Path.{◌≡◌}
+use borrow.Author.Rules.{rules}
+use Rattle.laws.specs.Pick.{pick_true, pick-false, so}
+use Rattle.dosing.specs.Rules.{reached_wf, reached_wc, coarse_stage}
+use Rattle.dosing.proofs.coarse_stage.Goals as goal
+use Rattle.dosing.proofs.coarse_stage.Goals.{After-reached_wc, After-reached_wf, Else-reached_wc}
+
+at-wf : (c : After-reached_wf) → c.reached_wf.result ≡ reached_wf c.args.set c.args.t.w.v
+at-wf c = simp (c.reached_wf.ensures, c.widened-x.ensures)
+
+at-wc : (c : After-reached_wc) → c.reached_wc.result ≡ reached_wc c.args.set c.args.t.w.v
+at-wc c = simp (c.reached_wc.ensures, c.widened-x.ensures)
+
+pub returns-then-reached_wf : goal.returns-then-reached_wf
+unfolding coarse_stage
+returns-then-reached_wf c = simp (c.rests.ensures, c.full.ensures, so (at-wf (goal.at.returns-then-reached_wf c).After-reached_wf) c.if-reached_wf.true, pick_true)
+
+pub returns-then-reached_wc : goal.returns-then-reached_wc
+unfolding coarse_stage
+returns-then-reached_wc c = simp (c.opens.ensures, so (at-wf (goal.at.returns-then-reached_wc c).After-reached_wf) c.if-reached_wf.false, so (at-wc (goal.at.returns-then-reached_wc c).After-reached_wc) c.if-reached_wc.true, pick_true, pick-false)
+
+pub returns : goal.returns
+unfolding coarse_stage
+returns c =
+    let d = (goal.at.returns c).Else-reached_wc in
+    simp (c.opens-2.ensures, so (at-wf d.before.before.before) d.if-reached_wf.false, so (at-wc d.before) d.if-reached_wc.false, pick-false)

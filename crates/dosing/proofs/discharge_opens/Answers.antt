@@ -1,0 +1,7 @@
+use borrow.Author.Rules.{rules}
+use Rattle.dosing.specs.Rules.{discharge_opens}
+use Rattle.dosing.proofs.discharge_opens.Goals as goal
+
+pub returns : goal.returns
+unfolding discharge_opens
+returns c = simp (c.outcome.ensures, c.outputs-g.ensures)

@@ -1,0 +1,18 @@
+use mathlib.Core.Path.{◌≡◌}
+use lib.IntN.{◌-ℤ◌}
+use borrow.Author.Rules.{rules}
+use Rattle.laws.specs.Pick.{pick_true, pick-false, so}
+use Rattle.dosing.specs.Rules.{reached_wf, dose_fine}
+use Rattle.dosing.proofs.dose_fine.Goals as goal
+use Rattle.dosing.proofs.dose_fine.Goals.{After-reached_wf}
+
+at-wf : (c : After-reached_wf) → c.reached_wf.result ≡ reached_wf c.args.set (c.args.wh.v -ℤ c.args.t.w.v)
+at-wf c = simp (c.reached_wf.ensures, c.difference.ensures)
+
+pub returns-then-reached_wf : goal.returns-then-reached_wf
+unfolding dose_fine
+returns-then-reached_wf c = simp (c.rests.ensures, so (at-wf (goal.at.returns-then-reached_wf c).After-reached_wf) c.if-reached_wf.true, pick_true)
+
+pub returns : goal.returns
+unfolding dose_fine
+returns c = simp (c.opens.ensures, so (at-wf (goal.at.returns c).After-reached_wf) c.if-reached_wf.false, pick-false)

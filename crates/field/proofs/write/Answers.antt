@@ -1,0 +1,33 @@
+use mathlib.Core.Path.{◌≡◌, ap, sym, ◌∙◌}
+use native.Mathlib.Omega.{arith}
+use lib.IntN.{nat_abs}
+use mir.Syntax.{w32}
+use mir.Val.{SFits}
+use mir.Facts.{to_z-of_z}
+use borrow.Author.Rules.{rules}
+use Rattle.paper.specs.Answer.{done}
+use Rattle.field.specs.RoundTrip.{small-writable, written_small}
+use Rattle.field.proofs.Answers.{seven-digits, point-above}
+use Rattle.field.proofs.write.Goals as goal
+use Rattle.field.proofs.write.Goals.{After-size_of-size}
+
+sized : (c : After-size_of-size) → c.type_size.result ≡ nat_abs c.args.weight.value
+sized c =
+    let fits : SFits w32 c.args.weight.value = record { sfits = c.struct_told-1.given.0.1 } in
+    c.type_size.ensures ∙ ap nat_abs (to_z-of_z fits)
+
+pub returns-then-size-gt999999 : goal.returns-then-size-gt999999
+returns-then-size-gt999999 c = seven-digits c.args.weight (omega (arith, sized (goal.at.returns-then-size-gt999999 c).After-size_of-size))
+
+pub returns-then-weight-gt7 : goal.returns-then-weight-gt7
+returns-then-weight-gt7 c = point-above c.args.weight (omega arith)
+
+pub field_of-requires : goal.field_of-requires
+field_of-requires c =
+    let s = (goal.at.field_of-requires c).After-size_of-size in
+    (sized s, small-writable s.args.weight (omega (arith, sized s)) (omega arith))
+
+pub returns : goal.returns
+returns c =
+    let s = (goal.at.returns c).After-size_of-size in
+    ap done c.field_of.ensures ∙ sym (written_small s.args.weight (omega (arith, sized s)) (omega arith))

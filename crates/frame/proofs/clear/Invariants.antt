@@ -1,0 +1,19 @@
+-- The zeros from place i on are still to be stored.
+use mathlib.Core.Path.{◌≡◌, refl, sym, ◌∙◌}
+use mathlib.Core.List.{List, ◌++◌, append-nil}
+use Prim.Native.Nat.{ℕ, suc, ◌≤◌, ◌<◌, ◌-◌, ◌+◌}
+use native.Mathlib.Omega.{arith}
+use native.Mathlib.Numerals.{add-one}
+use lib.ListN.{length, take, set, replicate, length-set, length-replicate, drop_of_length-le}
+use lib.Seq.{sets, sets-eq}
+use Rattle.frame.proofs.clear.Given as goal
+
+-- 0 from place i to the end
+zeros : List ℕ → ℕ → List ℕ
+zeros l i = sets l i (replicate (length l - i) 0)
+
+abbrev pub invariant-loop-i : goal.invariant-loop-i
+invariant-loop-i l = (length l.buf ≡ length l.initial.buf) × (zeros l.buf l.i ≡ zeros l.initial.buf l.n)
+
+abbrev pub decreases-loop-i : goal.decreases-loop-i
+decreases-loop-i l = length l.buf - l.i

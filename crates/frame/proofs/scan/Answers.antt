@@ -1,0 +1,102 @@
+use mathlib.Core.Path.{◌≡◌, refl, sym, ◌∙◌}
+use mathlib.Core.List.{List}
+use Prim.Native.Nat.{ℕ, ◌+◌, ◌-◌, ◌≤◌}
+use native.Mathlib.Omega.{arith}
+use borrow.Author.Rules.{rules}
+use lib.ListN.{length, take, drop, drop_of_length-le}
+use Rattle.frame.specs.Read.{ended, run, read_all}
+use Rattle.frame.specs.ReadLaws.{run-ended}
+use Rattle.frame.specs.Stands.{stands, fits, Held, HoldsReading, Skips, Takes}
+use Rattle.frame.specs.declared.State.{State}
+use Rattle.frame.specs.declared.State.TheVariants as S
+use Rattle.frame.proofs.Laws.{run_step}
+use Rattle.frame.proofs.scan.Goals as goal
+use Rattle.frame.proofs.scan.Goals.{After-step-st, At-loop-i}
+
+-- with this state and buffer the bytes from place i on give the reading of all
+record Left (s buf : List ℕ) (st : State) (i : ℕ) : Type 0 where
+  inside : i ≤ length s
+  same : run (stands st buf) i (drop i s) ≡ read_all s
+  held : Held st buf
+
+finished : {s buf : List ℕ} {st : State} {i n k : ℕ} → st ≡ S.Ended n k → Left s buf st i → HoldsReading st buf (read_all s)
+unfolding stands
+finished {s} {buf} {st} {i} {n} {k} e t =
+    let z : stands st buf ≡ ended (take n buf) k = rw e in
+    record { reading = z ∙ sym (run-ended _ _ _ _) ∙ rw z at t.same; held = t.held }
+
+searched : {s buf : List ℕ} {st : State} {i r : ℕ} → st ≡ S.Seek → Left s buf st i → Skips s i r → Left s buf st r
+unfolding stands
+searched e t k = record { inside = k.inside; same = rw e k.same ∙ t.same; held = t.held }
+
+filled : {s buf new : List ℕ} {st : State} {i n k p : ℕ} → st ≡ S.Body p n → Left s buf st i → Takes s i n buf new k → Left s new (S.Body p (n + k)) (i + k)
+unfolding stands fits
+filled {p = p} e t k = record { inside = k.inside; same = rw e (k.same p) ∙ t.same; held = record { body-fits = k.fits; full = k.full } }
+
+pub loop-i-init : goal.loop-i-init
+unfolding read_all stands fits
+loop-i-init c = record { inside = omega arith; same = refl; held = record { body-fits = tt; full = c.requires } }
+
+pub step-st-requires : goal.step-st-requires
+step-st-requires c = c.loop-i.invariant.held
+
+-- after a turn's step
+turn : (c : After-step-st) →
+    Left c.args.bytes.now c.step-st.new.1.0 c.step-st.result (c.loop-i.i + 1)
+turn c =
+    let at-loop = c.AT-At-loop-i in
+    let s = c.args.bytes.now in
+    record {
+      inside = omega arith;
+      same = rw c.step-st.ensures.reading (sym (run_step (stands at-loop.loop-i.st at-loop.loop-i.buf) at-loop.loop-i.i s (omega arith)) ∙ at-loop.loop-i.invariant.same);
+      held = c.step-st.ensures.held;
+    }
+
+pub shape_of-buf-in-Ended : goal.shape_of-buf-in-Ended
+shape_of-buf-in-Ended c = omega (arith, c.step-st.ensures.held.full)
+
+-- Ended
+pub returns-in-Ended : goal.returns-in-Ended
+returns-in-Ended c = finished c.in-Ended.is (turn (goal.at.returns-in-Ended c).After-step-st)
+
+pub loop-i-smaller-in-Seek : goal.loop-i-smaller-in-Seek
+loop-i-smaller-in-Seek c = omega (arith, c.skip-i.ensures.on, c.skip-i.ensures.inside)
+
+-- Seek
+pub loop-i-preserved-in-Seek : goal.loop-i-preserved-in-Seek
+loop-i-preserved-in-Seek c = searched c.in-Seek.is (turn (goal.at.loop-i-preserved-in-Seek c).After-step-st) c.skip-i.ensures
+
+pub fill-k-requires : goal.fill-k-requires
+unfolding fits
+fill-k-requires c =
+    let t = turn (goal.at.fill-k-requires c).After-step-st in
+    (t.inside, t.held.full, rw c.in-Body.is at t.held.body-fits)
+
+pub overflow_add-st : goal.overflow_add-st
+overflow_add-st c = omega (arith, c.fill-k.ensures.fits)
+
+pub overflow_add-i-in-Body : goal.overflow_add-i-in-Body
+overflow_add-i-in-Body c = omega (arith, c.fill-k.ensures.inside)
+
+pub loop-i-smaller-in-Body : goal.loop-i-smaller-in-Body
+loop-i-smaller-in-Body c = omega (arith, c.fill-k.ensures.inside)
+
+-- Body
+pub loop-i-preserved-in-Body : goal.loop-i-preserved-in-Body
+loop-i-preserved-in-Body c =
+    filled c.in-Body.is (turn (goal.at.loop-i-preserved-in-Body c).After-step-st) c.fill-k.ensures
+
+-- Lead, Mark
+pub loop-i-preserved : goal.loop-i-preserved
+loop-i-preserved c = turn (goal.at.loop-i-preserved c).After-step-st
+
+pub shape_of-buf : goal.shape_of-buf
+shape_of-buf c = omega (arith, c.loop-i.invariant.held.full)
+
+pub returns : goal.returns
+unfolding run
+returns c =
+    let at-loop = (goal.at.returns c).At-loop-i in
+    let s = c.args.bytes.now in
+    let all : length s ≤ at-loop.loop-i.i = omega arith in
+    record { reading = rw (drop_of_length-le s all) at at-loop.loop-i.invariant.same; held = at-loop.loop-i.invariant.held }

@@ -1,0 +1,8 @@
+use Rattle.laws.specs.Pick.{picks}
+use Rattle.journal.proofs.first_hour.Goals as goal
+
+pub returns-then-past : goal.returns-then-past
+returns-then-past c = search picks
+
+pub returns : goal.returns
+returns c = search picks

@@ -1,0 +1,10 @@
+use borrow.Author.Rules.{rules}
+use Rattle.journal.specs.Journal.{too_far}
+use Rattle.journal.proofs.too_far.Goals as goal
+
+pub returns-then-past : goal.returns-then-past
+unfolding too_far
+returns-then-past c = rw c.if-past.true
+
+pub returns : goal.returns
+returns c = rw c.if-past.false

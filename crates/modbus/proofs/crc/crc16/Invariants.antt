@@ -1,0 +1,15 @@
+-- The bytes from place i on still enter.
+use mathlib.Core.Path.{◌≡◌, refl, sym, ap, ◌∙◌}
+use Prim.Native.Nat.{ℕ, ◌+◌, ◌-◌, ◌≤◌}
+use native.Mathlib.Omega.{arith}
+use borrow.Author.Rules.{rules}
+use lib.ListN.{length, drop, drop_of_length-le}
+use Rattle.modbus.specs.Crc.{enter_all, crc}
+use Rattle.modbus.proofs.Laws.{enter_all-step}
+use Rattle.modbus.proofs.crc.crc16.Given as goal
+
+abbrev pub invariant-loop-i : goal.invariant-loop-i
+invariant-loop-i l = (l.i ≤ length l.bytes) × (enter_all l.c (drop l.i l.bytes) ≡ crc l.bytes)
+
+abbrev pub decreases-loop-i : goal.decreases-loop-i
+decreases-loop-i l = length l.bytes - l.i

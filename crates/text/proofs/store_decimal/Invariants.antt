@@ -1,0 +1,19 @@
+-- What is left to store gives the whole: the digits of v, the last of them at p.
+use borrow.Author.Rules.{rules}
+use native.Mathlib.Omega.{arith}
+use mathlib.Core.Path.{◌≡◌, refl, ap}
+use mathlib.Core.List.{[]}
+use Prim.Native.Nat.{◌+◌, ◌<◌, ◌/◌}
+use lib.ListN.{length, length-set}
+use lib.Seq.{sets}
+use Rattle.laws.specs.Decimal.{decimal}
+use Rattle.laws.specs.DecimalLaws.{decimal-small, decimal_step, decimal-more, decimal-some}
+use Rattle.text.proofs.Laws.{store-last}
+use Rattle.text.proofs.store_decimal.Given as goal
+
+abbrev pub invariant-loop-v : goal.invariant-loop-v
+invariant-loop-v l =
+    (length l.out ≡ length l.initial.out) × (l.p + 1 ≡ l.at + length (decimal l.v)) × (l.p < length l.initial.out) × (sets l.out l.at (decimal l.v) ≡ sets l.initial.out l.at (decimal l.n))
+
+abbrev pub decreases-loop-v : goal.decreases-loop-v
+decreases-loop-v l = l.v

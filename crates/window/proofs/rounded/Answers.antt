@@ -1,0 +1,79 @@
+-- Each signed value is read back from its bits, since it fits; then the laws of `Round`.
+use mathlib.Core.Path.{◌≡◌}
+use mathlib.Core.Bool.{true, false}
+use Prim.Native.Nat.{◌^◌, ◌<◌}
+use native.Mathlib.Omega.{arith}
+use borrow.Author.Rules.{rules}
+use lib.IntN.{pos, ◌-ℤ◌, nat_abs}
+use lib.Signed.{lt_z}
+use mir.Syntax.{w64}
+use mir.Val.{to_z, of_z, SFits}
+use mir.Facts.{to_z-of_z, to_z_pos}
+use Rattle.laws.specs.Whole.{fits64, abs-sub, from-zero-non_neg}
+use Rattle.window.specs.Mean.{half_up}
+use Rattle.window.proofs.Round.{turned, round-below, round-from, half-small}
+use Rattle.window.proofs.rounded.Goals as goal
+use Rattle.window.proofs.rounded.Goals.{Else-s-lt0, Start, Then-s-lt0}
+
+-- the rounded magnitude of a sum below 0, and of one from 0 on
+module _ (c : tie.After-half-up) where
+  below : c.half_up.result ≡ half_up (nat_abs c.before.before.args.s) c.before.before.args.n
+  below = rw (size_back c.before) at c.half_up.ensures
+
+  below-small : c.half_up.result < 2 ^ 63
+  below-small = rw below (half-small _ _ (omega arith) (omega arith))
+
+  signed : SFits w64 (pos 0 -ℤ pos c.half_up.result)
+  signed = fits64 _ (omega (arith, below-small, abs-sub (pos 0) (pos c.half_up.result)))
+
+module _ (c : tie.After-half-up2) where
+  above : c.half-up2.result ≡ half_up (nat_abs c.before.before.args.s) c.before.before.args.n
+  above = rw (back c.before.before) at c.half-up2.ensures
+
+  above-small : c.half-up2.result < 2 ^ 63
+  above-small = rw above (half-small _ _ (omega arith) (omega arith))
+
+back : (c : Start) → to_z w64 (of_z w64 c.args.s) ≡ c.args.s
+back c = to_z-of_z c.ranges.s
+
+neg : (c : Then-s-lt0) → lt_z c.args.s (pos 0) ≡ true
+neg c = rw (back c.AT-Start) at c.if-s-lt0.true
+
+not_neg : (c : Else-s-lt0) → lt_z c.args.s (pos 0) ≡ false
+not_neg c = rw (back c.AT-Start) at c.if-s-lt0.false
+
+-- the magnitude of a sum below 0, as it is handed on
+size_back : (c : Then-s-lt0) → to_z w64 (of_z w64 (pos 0 -ℤ to_z w64 (of_z w64 c.args.s))) ≡ pos (nat_abs c.args.s)
+size_back c =
+    let s = c.args.s in
+    let f : SFits w64 (pos (nat_abs s)) = fits64 (pos (nat_abs s)) (omega arith) in
+    rw (back c.AT-Start, turned s (neg c)) (to_z-of_z f)
+
+pub overflow_sub-s : goal.overflow_sub-s
+overflow_sub-s c =
+    let s = c.args.s in
+    rw (back (goal.at.overflow_sub-s c).Start, turned s (neg c)) (fits64 (pos (nat_abs s)) (omega arith))
+
+pub overflow_cast-s : goal.overflow_cast-s
+overflow_cast-s c = rw (size_back c) (tt, omega arith)
+
+pub half_up-requires : goal.half_up-requires
+half_up-requires c = rw (size_back c) (omega arith, omega arith, omega arith)
+
+pub overflow_cast-result : goal.overflow_cast-result
+overflow_cast-result c = fits64 _ (below-small c)
+
+pub overflow_sub-result : goal.overflow_sub-result
+overflow_sub-result c = rw (to_z_pos w64 (below-small c)) (signed c)
+
+pub overflow_cast-s-else-s-lt0 : goal.overflow_cast-s-else-s-lt0
+overflow_cast-s-else-s-lt0 c = rw (back (goal.at.overflow_cast-s-else-s-lt0 c).Start) (from-zero-non_neg c.args.s (not_neg c), omega arith)
+
+pub overflow_cast-result-else-s-lt0 : goal.overflow_cast-result-else-s-lt0
+overflow_cast-result-else-s-lt0 c = fits64 _ (above-small c)
+
+pub returns-then-s-lt0 : goal.returns-then-s-lt0
+returns-then-s-lt0 c = rw (to_z_pos w64 (below-small c), to_z-of_z (signed c), below c) (round-below _ _ (neg (goal.at.returns-then-s-lt0 c).Then-s-lt0))
+
+pub returns-else-s-lt0 : goal.returns-else-s-lt0
+returns-else-s-lt0 c = rw (to_z_pos w64 (above-small c), above c) (round-from _ _ (not_neg (goal.at.returns-else-s-lt0 c).Else-s-lt0))
