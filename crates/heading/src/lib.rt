@@ -3,8 +3,11 @@
 
 ghost use Rattle.heading.specs.Heading.{Turns, ReadsHeading, Behind};
 
-use libc::STDIN_FILENO;
 use lines::{Intake, Next};
+use std::rt::Stdin;
+
+// Standard input.
+const STDIN_FILENO: i32 = 0;
 
 // The first line, from one place of the buffer to another, its LF left out; that more has to be read; or that there is none.
 #[derive(Clone, Copy)]
@@ -22,14 +25,14 @@ pub struct Headed {
 }
 
 // Looks for the first line in what is held; where it is not there in full, reads on.
-fn turn(intake: Intake, buffer: &mut [u8]) -> Headed
+fn turn(stdin: Stdin, intake: Intake, buffer: &mut [u8]) -> Headed
     ensures { Turns intake buffer.old buffer.new result }
 {
     let taken = intake.next_line(buffer);
     let left = taken.intake;
     let next = taken.next;
     let Next::Line { from, to } = next else {
-        let refilled = refill::refill(left, buffer);
+        let refilled = refill::refill(stdin, left, buffer);
         let held = refilled.intake;
         if refilled.more {
             return Headed {
@@ -49,10 +52,10 @@ fn turn(intake: Intake, buffer: &mut [u8]) -> Headed
 }
 
 // Reads to the end of the first line; the turns are counted down from a number that no input uses up.
-pub fn read_heading(buffer: &mut [u8]) -> Headed
+pub fn read_heading(stdin: Stdin, buffer: &mut [u8]) -> Headed
     ensures { ReadsHeading buffer.new result }
 {
-    let mut headed = turn(Intake::start(), buffer);
+    let mut headed = turn(stdin, Intake::start(), buffer);
     let mut turns: u64 = 9223372036854775808;
     while 0 < turns {
         let found = headed.found;
@@ -60,7 +63,7 @@ pub fn read_heading(buffer: &mut [u8]) -> Headed
             return headed;
         };
         let intake = headed.intake;
-        headed = turn(intake, buffer);
+        headed = turn(stdin, intake, buffer);
         turns -= 1;
     }
     headed

@@ -8,7 +8,9 @@ ghost use Rattle.heading.specs.Heading.{Inside, said_of};
 
 use chosen::Choice;
 use heading::Found;
-use libc::STDOUT_FILENO;
+
+// Standard output.
+const STDOUT_FILENO: i32 = 1;
 
 // The product of the first line; R2 where it is none, and where there is no first line.
 fn choice_in(found: Found, buffer: &[u8]) -> Choice
@@ -23,9 +25,9 @@ fn choice_in(found: Found, buffer: &[u8]) -> Choice
 }
 
 // The product and the journal, and what is printed for them.
-fn main() {
+fn main(rt: HostRuntime) {
     let mut bytes = [0u8; journal::READ];
-    let headed = heading::read_heading(&mut bytes);
+    let headed = heading::read_heading(rt.stdin(), &mut bytes);
     let found = headed.found;
     let choice = choice_in(found, &bytes);
     let n = heading::read_journal(&mut bytes, headed);

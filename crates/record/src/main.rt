@@ -3,9 +3,12 @@
 
 ghost use Rattle.recorder.specs.Recording.{Carries};
 
-use libc::STDOUT_FILENO;
 use lines::Intake;
 use recorder::Recorder;
+use std::rt::Stdin;
+
+// Standard output.
+const STDOUT_FILENO: i32 = 1;
 
 // What is carried on behind a turn, and whether there may be more.
 #[derive(Clone, Copy)]
@@ -16,7 +19,13 @@ struct Turned {
 }
 
 // Notes what is held and prints what it adds; where no whole line is left, reads on.
-fn turn(state: Recorder, intake: Intake, input: &mut [u8], output: &mut [u8]) -> Turned
+fn turn(
+    stdin: Stdin,
+    state: Recorder,
+    intake: Intake,
+    input: &mut [u8],
+    output: &mut [u8],
+) -> Turned
     requires { Carries state }
     ensures { Carries result.state }
 {
@@ -32,7 +41,7 @@ fn turn(state: Recorder, intake: Intake, input: &mut [u8], output: &mut [u8]) ->
             more: true,
         };
     }
-    let refilled = refill::refill(left, input);
+    let refilled = refill::refill(stdin, left, input);
     let held = refilled.intake;
     Turned {
         state: next,
@@ -42,14 +51,15 @@ fn turn(state: Recorder, intake: Intake, input: &mut [u8], output: &mut [u8]) ->
 }
 
 // Reads to the end of the input; the turns are counted down from a number that no input uses up.
-fn main() {
+fn main(rt: HostRuntime) {
+    let stdin = rt.stdin();
     let mut input = io::large_buffer();
     let mut output = io::large_buffer();
     let mut state = Recorder::start();
     let mut intake = Intake::start();
     let mut turns: u64 = 9223372036854775808;
     while 0 < turns {
-        let t = turn(state, intake, &mut input, &mut output);
+        let t = turn(stdin, state, intake, &mut input, &mut output);
         if !t.more {
             return;
         }

@@ -1,7 +1,12 @@
 // Reads a journal of the old form on standard input and prints it in the new form, or the one line of a refusal.
 #![tactic(auto)]
 
-use libc::{STDIN_FILENO, STDOUT_FILENO};
+// Standard input.
+const STDIN_FILENO: i32 = 0;
+
+// Standard output.
+const STDOUT_FILENO: i32 = 1;
+
 
 fn main() {
     let mut bytes = [0u8; journal::READ];

@@ -5,14 +5,15 @@ use controller::Controller;
 use lines::Intake;
 
 // Reads to the end of the input; the reads are counted down from a number that no input uses up.
-fn main() {
+fn main(rt: HostRuntime) {
+    let stdin = rt.stdin();
     let mut input = io::large_buffer();
     let mut output = io::large_buffer();
     let mut c = Controller::fresh();
     let mut held = Intake::start();
     let mut reads: u64 = 9223372036854775808;
     while 0 < reads {
-        let refilled = refill::refill(held, &mut input);
+        let refilled = refill::refill(stdin, held, &mut input);
         if !refilled.more {
             return;
         }

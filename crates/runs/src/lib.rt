@@ -7,9 +7,11 @@ ghost use Rattle.runs.specs.Runs.{Reaches, Ran};
 
 use calls::Call;
 use controller::Controller;
-use libc::STDOUT_FILENO;
 use lines::{Intake, Next};
 use script::Sighted;
+
+// Standard output.
+const STDOUT_FILENO: i32 = 1;
 
 // Why a run stops: at a call that is no tick and no line request, whose bytes stand at the start of the lent buffer, or for more input.
 #[derive(Clone, Copy)]

@@ -6,10 +6,14 @@ ghost use Rattle.controller.specs.Sound.{Sound};
 ghost use Rattle.slave.specs.Serves.{len_of, Replies, Serves};
 
 use controller::Controller;
-use libc::{STDIN_FILENO, STDOUT_FILENO};
 use lines::Intake;
 use panel::PollAnswer;
 use preset::Brought;
+use std::io::Read;
+use std::rt::Stdin;
+
+// Standard output.
+const STDOUT_FILENO: i32 = 1;
 
 // The box after a frame, and how many bytes its reply has.
 #[derive(Clone, Copy)]
@@ -33,13 +37,13 @@ fn at_start() -> Brought
 }
 
 // Reads lines up to the empty one, or to the end of the input.
-fn set_up(input: &mut [u8]) -> Brought
+fn set_up(stdin: Stdin, input: &mut [u8]) -> Brought
     ensures { Sound result.controller }
 {
     let mut brought = at_start();
     let mut reads: u64 = MANY;
     while 0 < reads {
-        let refilled = refill::refill(brought.intake, input);
+        let refilled = refill::refill(stdin, brought.intake, input);
         if !refilled.more {
             return brought;
         }
@@ -99,14 +103,16 @@ fn serve(c: Controller, frame: &[u8]) -> Controller
 }
 
 // Serves frame after frame to the end of the input.
-fn serve_frames(mut c: Controller)
+fn serve_frames(mut stdin: Stdin, mut c: Controller)
     requires { Sound c }
 {
     let mut frame = no_frame();
     let mut reads: u64 = MANY;
     while 0 < reads {
-        let got = libc::read(STDIN_FILENO, &mut frame);
-        let n = io::count(got, &frame);
+        let read = stdin.read(&mut frame);
+        let Ok(n) = read else {
+            return;
+        };
         if n == 0 {
             return;
         }
@@ -116,13 +122,14 @@ fn serve_frames(mut c: Controller)
 }
 
 // Brings the box where it shall be, then serves what follows.
-fn main() {
+fn main(rt: HostRuntime) {
+    let stdin = rt.stdin();
     let mut input = io::large_buffer();
-    let brought = set_up(&mut input);
+    let brought = set_up(stdin, &mut input);
     if !brought.open {
         return;
     }
     let behind = brought.intake;
     let held = lines::carry(&mut input, behind.at, behind.have);
-    serve_frames(serve(brought.controller, &input[..held]));
+    serve_frames(stdin, serve(brought.controller, &input[..held]));
 }

@@ -9,8 +9,10 @@ ghost use Rattle.sheet.specs.Says.{says_first};
 ghost use Rattle.heading.specs.Heading.{Inside, said_of};
 
 use heading::Found;
-use libc::STDOUT_FILENO;
 use sheet::First;
+
+// Standard output.
+const STDOUT_FILENO: i32 = 1;
 
 // The first hour of the first line; R21 where it is none, and where there is no first line.
 fn first_in(found: Found, buffer: &[u8]) -> First
@@ -25,9 +27,9 @@ fn first_in(found: Found, buffer: &[u8]) -> First
 }
 
 // The first hour and the journal, and what is printed for them.
-fn main() {
+fn main(rt: HostRuntime) {
     let mut bytes = [0u8; journal::READ];
-    let headed = heading::read_heading(&mut bytes);
+    let headed = heading::read_heading(rt.stdin(), &mut bytes);
     let found = headed.found;
     let first = first_in(found, &bytes);
     let n = heading::read_journal(&mut bytes, headed);

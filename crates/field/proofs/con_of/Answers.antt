@@ -7,19 +7,19 @@ use borrow.Author.Rules.{rules}
 use Rattle.field.specs.Field.{con_of, bit_of, negative}
 use Rattle.field.specs.RoundTrip.{con-most}
 use Rattle.field.proofs.con_of.Goals as goal
-use Rattle.field.proofs.con_of.Goals.{After-bit_of-over}
+use Rattle.field.proofs.con_of.Goals.{After-bit_of-over, Start}
 
-module _ (c : tie.After-bit-of3) where
-  abbrev start : tie.Start
-  start = c.before.before.before.before.before
+module _ (c : After-bit_of-over) where
+  abbrev start : Start
+  start = c.AT-Start
 
-  sign : c.before.before.bit-of.result ≡ bit_of (negative start.args.v.value) 128
+  sign : c.bit_of-sign.result ≡ bit_of (negative start.args.v.value) 128
   sign =
-      c.before.before.bit-of.ensures
+      c.bit_of-sign.ensures
       ∙ ap (λ (b : Bool). bit_of b _)
-      (c.before.before.before.is_negative.ensures ∙ ap negative (to_z-of_z (record { sfits = c.before.before.before.before.struct_told.given.0.1 })))
+      (c.is_negative.ensures ∙ ap negative (to_z-of_z (record { sfits = c.struct_told-1.given.0.1 })))
 
-  sum : c.before.before.bit-of.result + c.before.bit-of2.result + c.bit-of3.result + start.args.v.point ≡ con_of start.args.v
+  sum : c.bit_of-sign.result + c.bit_of-stable.result + c.bit_of-over.result + start.args.v.point ≡ con_of start.args.v
   unfolding con_of
   sum = omega (arith, sign)
 

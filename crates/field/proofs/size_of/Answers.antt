@@ -9,9 +9,9 @@ use mir.Facts.{to_z-of_z}
 use Rattle.laws.specs.Whole.{fits64, from_zero}
 use Rattle.field.proofs.Sign.{turned}
 use Rattle.field.proofs.size_of.Goals as goal
-use Rattle.field.proofs.size_of.Goals.{Else-wide-lt0, Start}
+use Rattle.field.proofs.size_of.Goals.{Else-wide-lt0, Start, Then-wide-lt0}
 
-module _ (c : tie.Start) where
+module _ (c : Start) where
   most : nat_abs c.args.value ≤ 2 ^ 31
   most = nat_abs-le c.args.value c.ranges.value.sfits
 
@@ -24,12 +24,12 @@ module _ (c : tie.Start) where
   size_fits : SFits w64 (pos (nat_abs c.args.value))
   size_fits = fits64 (pos (nat_abs c.args.value)) (omega (arith, most))
 
-module _ (c : tie.Then1) where
-  turn : pos 0 -ℤ to_z w64 (of_z w64 (to_z w32 (of_z w32 c.before.args.value))) ≡ pos (nat_abs c.before.args.value)
-  turn = rw (wide c.before) (turned c.before.args.value (rw (wide c.before) at c.if1.true))
-
 pub overflow_cast-wide : goal.overflow_cast-wide
 overflow_cast-wide c = rw (given c) (fits64 c.args.value (omega (arith, most c)))
+
+module _ (c : Then-wide-lt0) where
+  turn : pos 0 -ℤ to_z w64 (of_z w64 (to_z w32 (of_z w32 c.args.value))) ≡ pos (nat_abs c.args.value)
+  turn = rw (wide c.AT-Start) (turned c.args.value (rw (wide c.AT-Start) at c.if-wide-lt0.true))
 
 keep : (c : Else-wide-lt0) → to_z w64 (of_z w64 (to_z w32 (of_z w32 c.args.value))) ≡ pos (nat_abs c.args.value)
 keep c = rw (wide c.AT-Start) (from_zero c.args.value (rw (wide c.AT-Start) at c.if-wide-lt0.false))

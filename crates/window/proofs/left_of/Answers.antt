@@ -14,9 +14,9 @@ use Rattle.window.specs.declared.Seen.{Seen}
 use Rattle.window.specs.Pass.{left_sum, left_count}
 use Rattle.window.proofs.Told.{abs-i32}
 use Rattle.window.proofs.left_of.Goals as goal
-use Rattle.window.proofs.left_of.Goals.{After-struct_told-1, Start}
+use Rattle.window.proofs.left_of.Goals.{After-struct_told-1, After-struct_told-2-1, Start}
 
-module _ (c : tie.Start) where
+module _ (c : Start) where
   abbrev t : Seen
   t = c.args.seen
 
@@ -46,16 +46,6 @@ module _ (c : tie.Start) where
           _
           (omega (arith, abs-sub s t.high, abs-sub (s -ℤ t.high) t.low, abs-i32 t.high high, abs-i32 t.low low))
 
-module _ (c : tie.After-struct-told2) where
-  abbrev start : tie.Start
-  start = c.before.before.before.before.before
-
-  high : SFits w32 start.args.seen.high
-  high = high-1 c.before.before
-
-  low : SFits w32 start.args.seen.low
-  low = search rules
-
 pub returns-then-n-lt4 : goal.returns-then-n-lt4
 unfolding left_sum left_count
 returns-then-n-lt4 c =
@@ -68,6 +58,16 @@ high-1 c = search rules
 
 pub overflow_cast-high : goal.overflow_cast-high
 overflow_cast-high c = rw (to_z-of_z (high-1 c)) (sfits_widen tt (high-1 c))
+
+module _ (c : After-struct_told-2-1) where
+  abbrev start : Start
+  start = c.AT-Start
+
+  high : SFits w32 start.args.seen.high
+  high = high-1 c.AT-After-struct_told-1
+
+  low : SFits w32 start.args.seen.low
+  low = search rules
 
 pub overflow_cast-low : goal.overflow_cast-low
 overflow_cast-low c = rw (to_z-of_z (low c)) (sfits_widen tt (low c))

@@ -13,25 +13,7 @@ use Rattle.laws.specs.Whole.{fits64, abs-sub, from-zero-non_neg}
 use Rattle.window.specs.Mean.{half_up}
 use Rattle.window.proofs.Round.{turned, round-below, round-from, half-small}
 use Rattle.window.proofs.rounded.Goals as goal
-use Rattle.window.proofs.rounded.Goals.{Else-s-lt0, Start, Then-s-lt0}
-
--- the rounded magnitude of a sum below 0, and of one from 0 on
-module _ (c : tie.After-half-up) where
-  below : c.half_up.result ≡ half_up (nat_abs c.before.before.args.s) c.before.before.args.n
-  below = rw (size_back c.before) at c.half_up.ensures
-
-  below-small : c.half_up.result < 2 ^ 63
-  below-small = rw below (half-small _ _ (omega arith) (omega arith))
-
-  signed : SFits w64 (pos 0 -ℤ pos c.half_up.result)
-  signed = fits64 _ (omega (arith, below-small, abs-sub (pos 0) (pos c.half_up.result)))
-
-module _ (c : tie.After-half-up2) where
-  above : c.half-up2.result ≡ half_up (nat_abs c.before.before.args.s) c.before.before.args.n
-  above = rw (back c.before.before) at c.half-up2.ensures
-
-  above-small : c.half-up2.result < 2 ^ 63
-  above-small = rw above (half-small _ _ (omega arith) (omega arith))
+use Rattle.window.proofs.rounded.Goals.{After-half_up, After-half_up-else-s-lt0, Else-s-lt0, Start, Then-s-lt0}
 
 back : (c : Start) → to_z w64 (of_z w64 c.args.s) ≡ c.args.s
 back c = to_z-of_z c.ranges.s
@@ -59,6 +41,24 @@ overflow_cast-s c = rw (size_back c) (tt, omega arith)
 
 pub half_up-requires : goal.half_up-requires
 half_up-requires c = rw (size_back c) (omega arith, omega arith, omega arith)
+
+-- the rounded magnitude of a sum below 0, and of one from 0 on
+module _ (c : After-half_up) where
+  below : c.half_up.result ≡ half_up (nat_abs c.args.s) c.args.n
+  below = rw (size_back c.AT-Then-s-lt0) at c.half_up.ensures
+
+  below-small : c.half_up.result < 2 ^ 63
+  below-small = rw below (half-small _ _ (omega arith) (omega arith))
+
+  signed : SFits w64 (pos 0 -ℤ pos c.half_up.result)
+  signed = fits64 _ (omega (arith, below-small, abs-sub (pos 0) (pos c.half_up.result)))
+
+module _ (c : After-half_up-else-s-lt0) where
+  above : c.half_up-else-s-lt0.result ≡ half_up (nat_abs c.args.s) c.args.n
+  above = rw (back c.AT-Start) at c.half_up-else-s-lt0.ensures
+
+  above-small : c.half_up-else-s-lt0.result < 2 ^ 63
+  above-small = rw above (half-small _ _ (omega arith) (omega arith))
 
 pub overflow_cast-result : goal.overflow_cast-result
 overflow_cast-result c = fits64 _ (below-small c)

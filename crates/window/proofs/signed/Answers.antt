@@ -14,7 +14,7 @@ use Rattle.window.proofs.Told.{lowered}
 use Rattle.window.proofs.signed.Goals as goal
 use Rattle.window.proofs.signed.Goals.{Start}
 
-module _ (c : tie.Start) where
+module _ (c : Start) where
   abbrev n : ℕ
   n = c.args.sum
 

@@ -12,35 +12,36 @@ use Rattle.laws.specs.Whole.{fits64}
 use Rattle.window.specs.Range.{Total}
 use Rattle.window.proofs.Sum.{total-none, total-more, total_size}
 use Rattle.window.proofs.total.Goals as goal
+use Rattle.window.proofs.total.Goals.{After-x-1}
+
+pub loop-k-init : goal.loop-k-init
+loop-k-init c = (omega arith, total-none)
 
 -- the sample read, and the sum with it
-module _ (c : tie.After-x invariant-loop decreases-loop) where
+module _ (c : After-x-1) where
   abbrev xs : List ℤ
-  xs = c.before.before.before.args.s.now
+  xs = c.args.s.now
 
   abbrev k : ℕ
-  k = c.before.before.loop.k
+  k = c.loop-k.k
 
   abbrev x : ℤ
   x = get_or xs k (pos 0)
 
   abbrev s : ℤ
-  s = to_z w64 c.before.before.loop.sum
+  s = to_z w64 c.loop-k.sum-bits
 
   narrow : SFits w32 x
-  narrow = record { sfits = c.x.given }
+  narrow = record { sfits = c.x-1.given }
 
   wide : SFits w64 x
   wide = sfits_widen tt narrow
 
   more : Total (take (k + 1) xs) (s +ℤ x)
-  more = rw add-one (total-more xs k s c.before.before.loop.invariant.1 c.x.given)
+  more = rw add-one (total-more xs k s c.loop-k.invariant.1 c.x-1.given)
 
   fits : SFits w64 (s +ℤ x)
   fits = fits64 (s +ℤ x) (omega (arith, total_size (take (k + 1) xs) (s +ℤ x) more, length-take (k + 1) xs))
-
-pub loop-k-init : goal.loop-k-init
-loop-k-init c = (omega arith, total-none)
 
 pub overflow_cast-sum : goal.overflow_cast-sum
 overflow_cast-sum c = rw (to_z-of_z (narrow c)) (wide c)

@@ -11,8 +11,9 @@ use Rattle.laws.specs.Whole.{fits64}
 use Rattle.window.specs.Pass.{lifted}
 use Rattle.window.proofs.Told.{lifted-is, lifted-small}
 use Rattle.window.proofs.turned.Goals as goal
+use Rattle.window.proofs.turned.Goals.{Start}
 
-module _ (c : tie.Start) where
+module _ (c : Start) where
   abbrev x : ℤ
   x = c.args.x
 

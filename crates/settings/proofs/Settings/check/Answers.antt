@@ -10,27 +10,27 @@ use Rattle.settings.specs.Named.{Out}
 use Rattle.settings.specs.declared.Settings.{Settings}
 use Rattle.settings.proofs.Steps.{from_place, row_at, passed, named, ended, in-at, out_at}
 use Rattle.settings.proofs.Settings.check.Goals as goal
-use Rattle.settings.proofs.Settings.check.Goals.{After-ranges-ranges, After-values-values, At-loop-i}
-
--- at the return of a named row
-module _ (c : tie.Then1 invariant-loop decreases-loop) where
-  abbrev s : Settings
-  s = c.before.before.before.before.before.before.before.before.args.self
-
-  abbrev i : ℕ
-  i = c.before.before.before.before.before.loop.i
-
-  below : i < 18
-  below = c.before.before.before.before.loop-test.true
-
-  out : Out (row_at s i)
-  out =
-      let d = c.before.before.before.before.before.before in
-      out_at s i below d.before.values.ensures d.ranges-2.ensures c.if1.true
+use Rattle.settings.proofs.Settings.check.Goals.{After-ranges-ranges, After-values-values, At-loop-i, Then-value-range}
 
 pub loop-i-init : goal.loop-i-init
 unfolding first_bad
 loop-i-init c = (omega arith, λ s v r. refl)
+
+-- at the return of a named row
+module _ (c : Then-value-range) where
+  abbrev s : Settings
+  s = c.args.self
+
+  abbrev i : ℕ
+  i = c.loop-i.i
+
+  below : i < 18
+  below = c.loop-i-test.true
+
+  out : Out (row_at s i)
+  out =
+      let d = c.AT-After-ranges-ranges in
+      out_at s i below d.values-values.ensures d.ranges-2.ensures c.if-value-range.true
 
 pub returns-then-value-range : goal.returns-then-value-range
 returns-then-value-range c =

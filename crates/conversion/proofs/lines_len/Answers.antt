@@ -1,0 +1,49 @@
+use mathlib.Core.Path.{◌≡◌, ap, ◌∙◌}
+use mathlib.Core.List.{List}
+use Prim.Native.Nat.{ℕ, ◌+◌, ◌-◌, ◌*◌, ◌≤◌, ◌<◌}
+use native.Mathlib.Omega.{arith}
+use lib.ListN.{length, get_or, drop, length-append}
+use Rattle.journal.specs.declared.Form.{Form}
+use Rattle.conversion.specs.Bytes.{tabs_after, piece_of, bytes_to}
+use Rattle.conversion.proofs.Bytewise.{rest_more, rest-none, tabs-most, piece-most}
+use borrow.Author.Rules.{rules}
+use Rattle.conversion.proofs.lines_len.Goals as goal
+
+-- the bytes counted, and those that what is left becomes
+record Counted (to : Form) (s : List ℕ) (from n tabs i : ℕ) : Type 0 where
+  all : n + length (bytes_to to tabs (drop i s)) ≡ length (bytes_to to 0 (drop from s))
+  most : n ≤ 3 * i
+  few : tabs ≤ i
+
+counted-more : (to : Form) (s : List ℕ) (from n tabs i k t : ℕ) → Counted to s from n tabs i → i < length s → k ≡ length (piece_of to tabs (get_or s i 0)) → t ≡ tabs_after tabs (get_or s i 0) → Counted to s from (n + k) t (i + 1)
+counted-more to s from n tabs i k t c h e f =
+    let b = get_or s i 0 in
+    record {
+      all =
+          omega (
+            arith,
+            c.all,
+            ap (λ (u : ℕ). length (bytes_to to u (drop (i + 1) s))) f,
+            ap length (rest_more to tabs i s h) ∙ length-append (piece_of to tabs b) (bytes_to to (tabs_after tabs b) (drop (i + 1) s)),
+          );
+      most = omega (arith, c.most, piece-most to tabs b);
+      few = omega (arith, c.few, tabs-most tabs b);
+    }
+
+pub loop-i-init : goal.loop-i-init
+loop-i-init c = record { all = omega arith; most = omega arith; few = omega arith }
+
+pub piece_len-n-requires : goal.piece_len-n-requires
+piece_len-n-requires c = omega (arith, c.loop-i.invariant.few, c.loop-i-test.true, c.requires)
+
+pub overflow_add-n : goal.overflow_add-n
+overflow_add-n c = omega (arith, c.piece_len-n.ensures, piece-most c.args.to c.loop-i.tabs (get_or c.args.bytes.now c.loop-i.i 0), c.loop-i.invariant.most, c.loop-i-test.true, c.requires)
+
+pub tabs_after-tabs-requires : goal.tabs_after-tabs-requires
+tabs_after-tabs-requires c = omega (arith, c.loop-i.invariant.few, c.loop-i-test.true, c.requires)
+
+pub loop-i-preserved : goal.loop-i-preserved
+loop-i-preserved c = counted-more _ _ _ _ _ _ _ _ c.loop-i.invariant c.loop-i-test.true c.piece_len-n.ensures c.tabs_after-tabs.ensures
+
+pub returns : goal.returns
+returns c = omega (arith, c.loop-i.invariant.all, ap length (rest-none c.args.to c.loop-i.tabs c.loop-i.i c.args.bytes.now c.loop-i-test.false))

@@ -1,0 +1,48 @@
+use mathlib.Core.Path.{◌≡◌, sym, ap, ◌∙◌}
+use mathlib.Core.List.{List}
+use Prim.Native.Nat.{ℕ, ◌≤◌}
+use native.Mathlib.Nat.{zero-add}
+use native.Mathlib.Omega.{arith}
+use lib.ListN.{length}
+use borrow.Author.Tests.{le-leb}
+use Rattle.laws.specs.Pick.{pick-t}
+use Rattle.laws.specs.Over.{sets_over}
+use Rattle.paper.specs.Answer.{Answer, done, refused, told, in_room, leaves}
+use Rattle.paper.specs.AnswerLaws.{refused-done}
+use Rattle.text.specs.Put.{Puts}
+use Rattle.text.specs.PutLaws.{room-is, fit-puts}
+use Rattle.journal.specs.Line.{version_text, write_version_of}
+use Rattle.entry.specs.Says.{says_wrote, WritesVersion}
+use Rattle.entry.specs.declared.Wrote.{Wrote}
+use Rattle.entry.specs.declared.Wrote.TheVariants as W
+use borrow.Author.Rules.{rules}
+use Rattle.conversion.proofs.put_version.Goals as goal
+
+-- the V line has room, so it is written
+written : (room : ℕ) → length version_text ≤ room → write_version_of room ≡ done version_text
+unfolding write_version_of in_room
+written room h = pick-t _ _ _ (le-leb (length version_text) room h)
+
+-- and a writer that refuses has not met its contract
+always : {Q : Type 0} (old new : List ℕ) (w : Wrote) (n : ℕ) (vs : List ℕ) → length version_text ≤ length old → WritesVersion w old new → says_wrote w ≡ refused n vs → Q
+unfolding told
+always old new w n vs h f e = refused-done (sym e ∙ f.says ∙ ap (told length) (written (length old) h))
+
+wrote : (old new : List ℕ) (w : Wrote) (n : ℕ) → length version_text ≤ length old → WritesVersion w old new → w ≡ W.Line n → Puts old 0 version_text new n
+unfolding told leaves
+wrote old new w n h f e =
+    let d = written (length old) h in
+    let says : done n ≡ done (length version_text) = sym (ap says_wrote e) ∙ f.says ∙ ap (told length) d in
+    let same : n ≡ length version_text = cc in
+    fit-puts (room-is old 0 version_text (omega arith))
+    (f.left ∙ ap (λ (a : Answer (List ℕ)). leaves a old) d ∙ sym (sets_over old version_text h))
+    (same ∙ sym (zero-add (length version_text)))
+
+pub returns-in-Line : goal.returns-in-Line
+returns-in-Line c = wrote _ _ c.write_version.result _ c.requires c.write_version.ensures c.in-Line.is
+
+pub returns-in-R10 : goal.returns-in-R10
+returns-in-R10 c = always _ _ c.write_version.result _ _ c.requires c.write_version.ensures (ap says_wrote c.in-R10.is)
+
+pub returns-in-R8 : goal.returns-in-R8
+returns-in-R8 c = always _ _ c.write_version.result _ _ c.requires c.write_version.ensures (ap says_wrote c.in-R8.is)

@@ -1,0 +1,19 @@
+use borrow.Author.Rules.{rules}
+use Rattle.laws.specs.Pick.{pick}
+use Rattle.reasons.specs.Reasons.{fault_or, alarm_cause}
+use Rattle.reasons.proofs.alarm_reason.Goals as goal
+
+pub fault_reason-requires : goal.fault_reason-requires
+fault_reason-requires c = tt
+
+pub returns-in-Faulted : goal.returns-in-Faulted
+unfolding alarm_cause fault_or
+returns-in-Faulted c = rw c.in-Faulted.is c.fault_reason.ensures
+
+pub returns-then-alarm : goal.returns-then-alarm
+unfolding alarm_cause fault_or pick
+returns-then-alarm c = rw (c.in_default.is, c.if-alarm.true)
+
+pub returns : goal.returns
+unfolding alarm_cause fault_or pick
+returns c = rw (c.in_default.is, c.if-alarm.false)

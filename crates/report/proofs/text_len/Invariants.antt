@@ -1,0 +1,13 @@
+use mathlib.Core.Path.{◌≡◌, refl, ap}
+use Prim.Native.Nat.{◌+◌, ◌-◌, ◌≤◌}
+use native.Mathlib.Omega.{arith}
+use lib.ListN.{length}
+use Rattle.report.specs.Table.{text_by}
+use Rattle.report.proofs.Printing.{rest_by, rest-whole, rest-length, rest-none}
+use Rattle.report.proofs.text_len.Given as goal
+
+abbrev pub invariant-loop-k : goal.invariant-loop-k
+invariant-loop-k l = (l.k ≤ l.hours) × (l.n + length (rest_by l.table l.first l.hours l.k) ≡ length (text_by l.table l.first l.hours))
+
+abbrev pub decreases-loop-k : goal.decreases-loop-k
+decreases-loop-k l = l.hours - l.k

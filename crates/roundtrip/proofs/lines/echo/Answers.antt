@@ -1,0 +1,101 @@
+-- 31 bytes hold any line in range, and what was written there is read as the line.
+use mathlib.Core.Path.{◌≡◌, refl, sym, ap, ◌∙◌}
+use mathlib.Core.Bool.{Bool, true, false}
+use mathlib.Core.List.{List, [], ◌∷◌}
+use mathlib.Core.Logic.{⊎_elim}
+use Prim.Native.Nat.{ℕ, ◌≤◌}
+use native.Mathlib.Omega.{arith}
+use lib.Dec.{lit≤}
+use lib.ListN.{length, take}
+use lib.Seq.{take_at, length-take-le}
+use borrow.Author.Rules.{rules}
+use Rattle.laws.specs.Pick.{pick-t, pick-f}
+use Rattle.laws.specs.Over.{over}
+use Rattle.paper.specs.Answer.{Answer, done, refused, told, leaves, Fills}
+use Rattle.paper.specs.AnswerLaws.{refused-done}
+use Rattle.paper.specs.Numbers.{R10}
+use Rattle.journal.specs.Line.{in_range, text_of, write_of, one_line}
+use Rattle.journal.specs.LineLaws.{text-most, write-range, write-fits}
+use Rattle.journal.specs.Singles.{one-text}
+use Rattle.journal.specs.Says.{one-one}
+use Rattle.entry.specs.Says.{says_wrote, wrote_one}
+use Rattle.journal.specs.declared.Form.{Form}
+use Rattle.journal.specs.declared.Line.{Line}
+use Rattle.journal.specs.declared.One.TheVariants as O
+use Rattle.entry.specs.declared.Wrote.{Wrote}
+use Rattle.entry.specs.declared.Wrote.TheVariants as W
+use Rattle.roundtrip.specs.Lines.{echo_of}
+use Rattle.roundtrip.proofs.lines.echo.Goals as goal
+use Rattle.roundtrip.proofs.lines.echo.Goals.{After-read_line-back, In-Line}
+
+-- what the writer left where it answered a length
+record Written (f : Form) (l : Line) (n : ℕ) (new : List ℕ) : Type 0 where
+  range : in_range f l ≡ true
+  text : take n new ≡ text_of f l
+  room : n ≤ length new
+
+written : (f : Form) (l : Line) {w : Wrote} (n : ℕ) {old new : List ℕ} → Fills (says_wrote w) (write_of f l (length old)) old new → 31 ≤ length old → length new ≡ length old → w ≡ W.Line n → Written f l n new
+unfolding told leaves over
+written f l {w} n {old} {new} x h k q = go (in_range f l) refl
+  where
+    go : (b : Bool) → in_range f l ≡ b → Written f l n new
+    go true e =
+        let m = text-most f l e in
+        let r = write-fits f l (length old) e (omega arith) in
+        let s : done n ≡ done (length (text_of f l)) = ap says_wrote (sym q) ∙ x.says ∙ ap (told length) r in
+        let i : n ≡ length (text_of f l) = cc in
+        record {
+          range = e;
+          text = ap (take n) (x.left ∙ ap (λ (a : Answer (List ℕ)). leaves a old) r) ∙ take_at (text_of f l) _ n (sym i);
+          room = omega arith;
+        }
+    go false e = refused-done (sym (ap says_wrote (sym q) ∙ x.says ∙ ap (told length) (write-range f l (length old) e)))
+
+-- the writer answered the length of a line in range
+answered : (f : Form) (l : Line) {w : Wrote} {old new : List ℕ} → Fills (says_wrote w) (write_of f l (length old)) old new → 31 ≤ length old → in_range f l ≡ true → w ≡ W.Line (length (text_of f l))
+unfolding told
+answered f l {w} {old} x h e = let m = text-most f l e in wrote_one w (W.Line (length (text_of f l))) (x.says ∙ ap (told length) (write-fits f l (length old) e (omega arith)))
+
+abbrev F : In-Line → Form
+F c = c.args.form
+
+abbrev L : In-Line → Line
+L c = c.args.line
+
+filled : (c : In-Line) → Written (F c) (L c) c.in-Line.len c.write-wrote.new.1.1.0
+filled c = let w = c.write-wrote in written (F c) (L c) c.in-Line.len w.ensures (lit≤ tt) w.auto.1.1.0 c.in-Line.is
+
+-- and the reader read it back
+read_back : (c : After-read_line-back) → c.read_line-back.result ≡ O.Line (L c.AT-In-Line)
+read_back c =
+    let w = filled c.AT-In-Line in
+    let f = F c.AT-In-Line in
+    let l = L c.AT-In-Line in
+    one-one c.read_line-back.result (O.Line l) (c.read_line-back.ensures ∙ ap (one_line f) w.text ∙ one-text f l w.range)
+
+pub returns-in_default : goal.returns-in_default
+unfolding echo_of
+returns-in_default c = go (in_range c.args.form c.args.line) refl
+  where
+    go : (b : Bool) → in_range c.args.form c.args.line ≡ b
+        → refused R10 (0 ∷ []) ≡ echo_of c.args.form c.args.line
+    go true e =
+        let w = answered c.args.form c.args.line {w = c.write-wrote.result} c.write-wrote.ensures (lit≤ tt) e in
+        absurd (⊎_elim (λ p. omega arith) (λ p. omega arith) (rw w at c.match.keys2))
+    go false e = sym (pick-f _ _ _ e)
+
+pub slice_bounds-buffer-end : goal.slice_bounds-buffer-end
+slice_bounds-buffer-end c = (filled c).room
+
+pub slice_bounds-read_line-end : goal.slice_bounds-read_line-end
+slice_bounds-read_line-end c = sym (length-take-le _ _ (filled (goal.at.slice_bounds-read_line-end c).In-Line).room)
+
+pub returns-in_default-back : goal.returns-in_default-back
+returns-in_default-back c = absurd (⊎_elim (λ p. omega arith) (λ p. omega arith) (rw (read_back (goal.at.returns-in_default-back c).After-read_line-back) at c.in-Line-back.keys2))
+
+pub returns : goal.returns
+unfolding echo_of
+returns c = ap done (same_line (sym c.in-Line-back.is ∙ read_back (goal.at.returns c).After-read_line-back)) ∙ sym (pick-t _ _ _ (filled (goal.at.returns c).In-Line).range)
+  where
+    same_line : {x y : Line} → O.Line x ≡ O.Line y → x ≡ y
+    same_line e = cc

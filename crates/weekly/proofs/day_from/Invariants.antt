@@ -1,0 +1,10 @@
+use Prim.Native.Nat.{◌-◌}
+use borrow.Author.Rules.{rules}
+use Rattle.weekly.proofs.Passed.{Through, through-none, through-room, through-more, through-day}
+use Rattle.weekly.proofs.day_from.Given as goal
+
+abbrev pub invariant-loop-h : goal.invariant-loop-h
+invariant-loop-h l = Through l.row l.seen l.h
+
+abbrev pub decreases-loop-h : goal.decreases-loop-h
+decreases-loop-h l = 24 - l.h

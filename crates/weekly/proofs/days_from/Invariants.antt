@@ -1,0 +1,12 @@
+use mathlib.Core.Path.{◌∙◌}
+use Prim.Native.Nat.{◌-◌}
+use borrow.Author.Rules.{rules}
+use Rattle.weekly.proofs.Filled.{Mapped, mapped-none, mapped-more, mapped-all}
+use Rattle.weekly.proofs.Passed.{day_in, row-whole, days-in}
+use Rattle.weekly.proofs.days_from.Given as goal
+
+abbrev pub invariant-loop-d : goal.invariant-loop-d
+invariant-loop-d l = Mapped day_in l.week 7 l.d l.days
+
+abbrev pub decreases-loop-d : goal.decreases-loop-d
+decreases-loop-d l = 7 - l.d

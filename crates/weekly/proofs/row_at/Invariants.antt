@@ -1,0 +1,13 @@
+use Prim.Native.Nat.{ℕ, ◌+◌, ◌-◌}
+use borrow.Author.Rules.{rules}
+use Rattle.hourly.specs.Says.{says_hour}
+use Rattle.hourly.specs.Tally.{hour_among}
+use Rattle.weekly.specs.Week.{day_by}
+use Rattle.weekly.proofs.Filled.{Filled, filled_none, filled_more, filled-all}
+use Rattle.weekly.proofs.row_at.Given as goal
+
+abbrev pub invariant-loop-h : goal.invariant-loop-h
+invariant-loop-h l = Filled says_hour (λ (k : ℕ). hour_among l.table l.found (l.from + k)) 24 l.h l.row
+
+abbrev pub decreases-loop-h : goal.decreases-loop-h
+decreases-loop-h l = 24 - l.h

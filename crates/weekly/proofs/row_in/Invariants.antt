@@ -1,0 +1,13 @@
+use mathlib.Core.Path.{◌≡◌, refl}
+use Rattle.weekly.specs.Says.{hour_in, row_in}
+use Prim.Native.Nat.{◌-◌}
+use borrow.Author.Rules.{rules}
+use lib.ListN.{length, length-map}
+use Rattle.weekly.proofs.Filled.{Mapped, mapped-none, mapped-more, mapped-all}
+use Rattle.weekly.proofs.row_in.Given as goal
+
+abbrev pub invariant-loop-h : goal.invariant-loop-h
+invariant-loop-h l = Mapped hour_in l.hours 24 l.h l.row
+
+abbrev pub decreases-loop-h : goal.decreases-loop-h
+decreases-loop-h l = 24 - l.h
