@@ -4,7 +4,6 @@ use mathlib.Core.Bool.{Bool, true, false, not, xor, ◌||◌, beq}
 use Prim.Native.Nat.{ℕ, ◌≤◌}
 use native.Mathlib.Omega.{arith}
 use lib.Dec.{eqb}
-use borrow.Author.Tests.{not-true}
 use Rattle.laws.specs.Bools.{or_left, or_right}
 use Rattle.laws.specs.Pick.{pick, pick_all}
 use Rattle.channels.specs.Channels.{worth, expected}
@@ -23,10 +22,8 @@ unfolding xor expected
 unlike level output on = rw (alike (eqb level 1) output)
 
 -- where none of three holds, each does not
-pub none-holds : (a b c : Bool) → not (a || b || c) ≡ true → (a ≡ false) × (b ≡ false) × (c ≡ false)
-none-holds a b c h =
-    let e = not-true _ h in
-    (or_left a b (or_left (a || b) c e), or_right a b (or_left (a || b) c e), or_right (a || b) c e)
+pub none-holds : (a b c : Bool) → (a || b || c) ≡ false → (a ≡ false) × (b ≡ false) × (c ≡ false)
+none-holds a b c e = (or_left a b (or_left (a || b) c e), or_right a b (or_left (a || b) c e), or_right (a || b) c e)
 
 -- where no mismatch was seen the input is the expected one
 pub matched : {wrong bit on : Bool} (awaited : Bool) → wrong ≡ xor bit awaited → bit ≡ on → wrong ≡ false → xor on awaited ≡ false

@@ -1,9 +1,7 @@
 -- What a turn of a loop leaves of the rest, what is stored of a body and its CRC, which registers are asked, what is not heard by all, and what sets no link start. Assumes nothing.
 use mathlib.Core.Path.{◌≡◌, refl, sym, ap, ap₂, ◌∙◌}
 use mathlib.Core.Bool.{Bool, true, false}
-use mathlib.Core.List.{List, [], ◌∷◌}
-use types.Run.{OneOf, miss}
-use denote.Enum.Declared.{tag_of}
+use mathlib.Core.List.{List, []}
 use mir.Val.{bool_byte}
 use Prim.Native.Nat.{ℕ, suc, ◌+◌, ◌-◌, ◌/◌, ◌%◌, ◌<◌, ◌≤◌, min}
 use native.Mathlib.Nat.{zero-add}
@@ -24,7 +22,6 @@ use Rattle.modbus.specs.Replies.{word_bytes, link_after}
 use Rattle.modbus.specs.Says.{asks_of}
 use Rattle.modbus.specs.declared.Ask.{Ask}
 use Rattle.modbus.specs.declared.Ask.TheVariants as A
-use Rattle.modbus.specs.contracts.Ask.{the_type as ask-type}
 
 pub shifts-step : (k s : ℕ) → k < 8 → shifts (8 - k) s ≡ shifts (8 - (k + 1)) (shift s)
 unfolding shifts
@@ -105,16 +102,16 @@ asked-part l start quantity =
 
 -- ---- who hears
 
--- only a link start is heard by all; the tags are those of a read and of an exception
-pub not-link : (a : Ask) → OneOf (0 ∷ 2 ∷ []) (tag_of ask-type a) → heard_by_all (asks_of a) ≡ refused R17 []
+-- only a link start is heard by all
+pub not-link : (a : Ask) → ((on : Bool) → a ≡ A.Link on → ⊥) → heard_by_all (asks_of a) ≡ refused R17 []
 unfolding heard_by_all
 not-link (A.Registers start quantity) h = refl
-not-link (A.Link on) h = absurd (miss (0 ∷ 2 ∷ []) 1 tt h)
+not-link (A.Link on) h = absurd (h on refl)
 not-link (A.Exception function number) h = refl
 
 -- and only a link start changes it
-pub not-write : (a : Ask) (now : Bool) → OneOf (0 ∷ 2 ∷ []) (tag_of ask-type a) → now ≡ link_after (asks_of a) now
+pub not-write : (a : Ask) (now : Bool) → ((on : Bool) → a ≡ A.Link on → ⊥) → now ≡ link_after (asks_of a) now
 unfolding link_after
 not-write (A.Registers start quantity) now h = refl
-not-write (A.Link on) now h = absurd (miss (0 ∷ 2 ∷ []) 1 tt h)
+not-write (A.Link on) now h = absurd (h on refl)
 not-write (A.Exception function number) now h = refl

@@ -1,13 +1,11 @@
 -- Laws that the proofs of the code cite. Assumes nothing.
 use mathlib.Core.Path.{◌≡◌, refl, ap, ◌∙◌}
+use Rattle.std.proofs.Common.{◌≢◌}
 use mathlib.Core.Bool.{Bool, false}
-use mathlib.Core.List.{List, [], ◌∷◌}
+use mathlib.Core.List.{List}
 use Prim.Native.Nat.{ℕ}
 use lib.IntN.{ℤ, ◌-ℤ◌}
-use types.Run.{OneOf, miss}
-use denote.Enum.Declared.{tag_of}
 use Rattle.settings.specs.declared.Settings.{Settings}
-use Rattle.dosing.specs.contracts.Phase.{the_type as phase-type}
 use Rattle.dosing.specs.Rules.{units, step_of}
 use Rattle.dosing.specs.declared.Units.{Units}
 use Rattle.dosing.specs.declared.Gates.{Gates}
@@ -24,9 +22,9 @@ use Rattle.stepping.specs.declared.Sampled.{Sampled}
 use Rattle.stepping.specs.declared.Stepped.{Stepped}
 
 -- the phases that are not Ready
-pub not-ready : (p : Phase) → OneOf (1 ∷ 2 ∷ 3 ∷ 4 ∷ 5 ∷ 6 ∷ 7 ∷ 8 ∷ 9 ∷ 10 ∷ []) (tag_of phase-type p) → false ≡ at_ready p
+pub not-ready : (p : Phase) → p ≢ Ready → false ≡ at_ready p
 unfolding at_ready
-not-ready Ready h = absurd (miss (1 ∷ 2 ∷ 3 ∷ 4 ∷ 5 ∷ 6 ∷ 7 ∷ 8 ∷ 9 ∷ 10 ∷ []) 0 tt h)
+not-ready Ready h = absurd (h refl)
 not-ready (Coarse w0) h = refl
 not-ready (Fine w0) h = refl
 not-ready Hold h = refl

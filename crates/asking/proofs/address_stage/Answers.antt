@@ -1,4 +1,3 @@
-use borrow.Author.Rules.{rules}
 use Rattle.laws.specs.Pick.{pick_true, pick-false, so}
 use Rattle.asking.specs.Asking.{address_of}
 use Rattle.asking.proofs.address_stage.Goals as goal

@@ -1,6 +1,5 @@
 use mathlib.Core.Path.{refl}
 use native.Mathlib.Omega.{arith}
-use borrow.Author.Rules.{rules}
 use Rattle.asking.specs.Asking.{field_bytes, reply_bytes}
 use Rattle.asking.proofs.data_of.Goals as goal
 

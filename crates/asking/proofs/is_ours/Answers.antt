@@ -1,4 +1,3 @@
-use borrow.Author.Rules.{rules}
 use Rattle.asking.specs.Asking.{ours}
 use Rattle.asking.proofs.is_ours.Goals as goal
 

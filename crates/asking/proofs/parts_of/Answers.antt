@@ -1,5 +1,4 @@
 use mathlib.Core.Path.{sym, ap, ◌∙◌}
-use borrow.Author.Rules.{rules}
 use lib.Seq.{length-take-le}
 use Rattle.message.specs.Says.{says_split}
 use Rattle.asking.proofs.parts_of.Goals as goal

@@ -1,4 +1,3 @@
-use borrow.Author.Rules.{rules}
 use Rattle.asking.proofs.sent_as.Goals as goal
 
 pub returns-in-Frame : goal.returns-in-Frame

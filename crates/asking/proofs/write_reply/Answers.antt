@@ -1,25 +1,18 @@
 -- The data stand in an array of 4 and the body in one of 254; what building refuses is the reply's refusal.
 use mathlib.Core.Path.{sym, ap}
 use native.Mathlib.Omega.{arith}
-use borrow.Author.Rules.{rules}
 use lib.Seq.{length-take-le}
 use Rattle.paper.specs.Answer.{Hands}
 use Rattle.paper.specs.Numbers.{R14}
 use Rattle.message.specs.Message.{improper, build_of}
 use Rattle.message.specs.Says.{says_built}
 use Rattle.asking.specs.Asking.{reply_bytes}
-use Rattle.asking.proofs.Laws.{BodyStands, built-stands, not-built, built-replies}
+use Rattle.asking.proofs.Laws.{built-stands, not-built, built-replies}
 use Rattle.asking.proofs.write_reply.Goals as goal
-use Rattle.asking.proofs.write_reply.Goals.{After-build_body-body, After-write_frame, In-Body-2, Start}
+use Rattle.asking.proofs.write_reply.Goals.{After-build_body-body}
 
-abbrev first : After-build_body-body → Start
-first c = c.AT-Start
-
-hands : (c : After-build_body-body) → Hands 254 (says_built c.build_body-body.result.built) (build_of (first c).args.form (first c).args.operation (reply_bytes (first c).args.holds)) c.build_body-body.result.bytes
+hands : (c : After-build_body-body) → Hands 254 (says_built c.build_body-body.result.built) (build_of c.args.form c.args.operation (reply_bytes c.args.holds)) c.build_body-body.result.bytes
 hands c = rw c.data_of-data.ensures.front at c.build_body-body.ensures
-
-stands : (c : In-Body-2) → BodyStands (first c.AT-After-build_body-body).args.form (first c.AT-After-build_body-body).args.operation (first c.AT-After-build_body-body).args.holds c.build_body-body.result.bytes c.in-Body.n
-stands c = let b = c.AT-After-build_body-body in built-stands _ _ _ b.build_body-body.result.built (hands b) c.in-Body.is
 
 pub slice_bounds-build_body-end : goal.slice_bounds-build_body-end
 slice_bounds-build_body-end c =
@@ -27,16 +20,15 @@ slice_bounds-build_body-end c =
     sym (length-take-le _ _ (omega (arith, h.full, h.small)))
 
 pub slice_bounds-bytes-end : goal.slice_bounds-bytes-end
-slice_bounds-bytes-end c = (stands (goal.at.slice_bounds-bytes-end c).In-Body-2).front.fits
+slice_bounds-bytes-end c = (built-stands _ _ _ c.build_body-body.result.built (hands (goal.at.slice_bounds-bytes-end c).After-build_body-body) c.in-Body.is).front.fits
 
 pub slice_bounds-write_frame-end : goal.slice_bounds-write_frame-end
-slice_bounds-write_frame-end c = sym (length-take-le _ _ (stands (goal.at.slice_bounds-write_frame-end c).In-Body-2).front.fits)
+slice_bounds-write_frame-end c = sym (length-take-le _ _ (built-stands _ _ _ c.build_body-body.result.built (hands (goal.at.slice_bounds-write_frame-end c).After-build_body-body) c.in-Body.is).front.fits)
 
 pub returns-in-Body : goal.returns-in-Body
 returns-in-Body c =
-    let w = (goal.at.returns-in-Body c).After-write_frame in
-    let s = stands w.before.before.before.before.before in
-    rw (built-replies s _, sym c.sent_as.ensures) at w.write_frame.ensures
+    let s = built-stands _ _ _ c.build_body-body.result.built (hands (goal.at.returns-in-Body c).After-build_body-body) c.in-Body.is in
+    rw (built-replies s _, sym c.sent_as.ensures) at c.write_frame.ensures
 
 -- a form that its bytes would not give back
 pub returns-in-Improper : goal.returns-in-Improper

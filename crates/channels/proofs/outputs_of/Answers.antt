@@ -1,4 +1,3 @@
-use borrow.Author.Rules.{rules}
 use native.Mathlib.Omega.{arith}
 use Rattle.channels.specs.Channels.{outputs_of}
 use Rattle.channels.proofs.Laws.{worth-most}

@@ -1,4 +1,3 @@
-use borrow.Author.Rules.{rules}
 use Rattle.channels.specs.Channels.{input, start_of}
 use Rattle.channels.proofs.start_of.Goals as goal
 

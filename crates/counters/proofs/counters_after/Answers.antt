@@ -1,4 +1,3 @@
-use borrow.Author.Rules.{rules}
 use Rattle.counters.specs.Counters.{counters_after, counted_of}
 use Rattle.counters.proofs.counters_after.Goals as goal
 

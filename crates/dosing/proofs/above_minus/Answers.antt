@@ -5,13 +5,11 @@ use mir.Facts.{to_z-of_z}
 use borrow.Author.Rules.{rules}
 use Rattle.dosing.proofs.Laws.{minus-pos-fits, minus-pos-is}
 use Rattle.dosing.proofs.above_minus.Goals as goal
-use Rattle.dosing.proofs.above_minus.Goals.{After-struct_told-1}
-
-told : (c : After-struct_told-1) → SFits w64 c.args.x.v
-told c = search rules
 
 pub overflow_sub-result : goal.overflow_sub-result
 overflow_sub-result c = minus-pos-fits c.args.n (omega arith)
 
 pub returns : goal.returns
-returns c = rw (to_z-of_z (told c), minus-pos-is c.args.n (omega arith))
+returns c =
+    let told : SFits w64 c.args.x.v = search rules in
+    rw (to_z-of_z told, minus-pos-is c.args.n (omega arith))

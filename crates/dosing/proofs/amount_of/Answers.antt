@@ -1,4 +1,3 @@
-use borrow.Author.Rules.{rules}
 use Rattle.laws.specs.Pick.{picks}
 use Rattle.dosing.specs.Rules.{amount_of}
 use Rattle.dosing.proofs.amount_of.Goals as goal

@@ -5,10 +5,8 @@ use mir.Facts.{to_z-of_z}
 use borrow.Author.Rules.{rules}
 use Rattle.dosing.proofs.Laws.{pos-is}
 use Rattle.dosing.proofs.at_least.Goals as goal
-use Rattle.dosing.proofs.at_least.Goals.{After-struct_told-1}
-
-told : (c : After-struct_told-1) → SFits w64 c.args.x.v
-told c = search rules
 
 pub returns : goal.returns
-returns c = rw (to_z-of_z (told c), pos-is c.args.n (omega arith))
+returns c =
+    let told : SFits w64 c.args.x.v = search rules in
+    rw (to_z-of_z told, pos-is c.args.n (omega arith))

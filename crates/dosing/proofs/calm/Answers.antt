@@ -1,6 +1,5 @@
 use Prim.Native.Nat.{◌+◌}
 use native.Mathlib.Omega.{arith}
-use borrow.Author.Rules.{rules}
 use Rattle.laws.specs.Pick.{pick_true, pick-false, so}
 use Rattle.dosing.specs.Rules.{calm}
 use Rattle.dosing.specs.Laws.{settle-later}

@@ -1,9 +1,8 @@
 use mathlib.Core.Path.{◌≡◌}
-use borrow.Author.Rules.{rules}
 use Rattle.laws.specs.Pick.{pick_true, pick-false, so}
 use Rattle.dosing.specs.Rules.{reached_wf, reached_wc, coarse_stage}
 use Rattle.dosing.proofs.coarse_stage.Goals as goal
-use Rattle.dosing.proofs.coarse_stage.Goals.{After-reached_wc, After-reached_wf, Else-reached_wc}
+use Rattle.dosing.proofs.coarse_stage.Goals.{After-reached_wc, After-reached_wf}
 
 at-wf : (c : After-reached_wf) → c.reached_wf.result ≡ reached_wf c.args.set c.args.t.w.v
 at-wf c = simp (c.reached_wf.ensures, c.widened-x.ensures)
@@ -21,6 +20,4 @@ returns-then-reached_wc c = simp (c.opens.ensures, so (at-wf (goal.at.returns-th
 
 pub returns : goal.returns
 unfolding coarse_stage
-returns c =
-    let d = (goal.at.returns c).Else-reached_wc in
-    simp (c.opens-2.ensures, so (at-wf d.before.before.before) d.if-reached_wf.false, so (at-wc d.before) d.if-reached_wc.false, pick-false)
+returns c = simp (c.opens-2.ensures, so (at-wf (goal.at.returns c).After-reached_wf) c.if-reached_wf.false, so (at-wc (goal.at.returns c).After-reached_wc) c.if-reached_wc.false, pick-false)

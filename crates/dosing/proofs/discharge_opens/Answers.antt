@@ -1,4 +1,3 @@
-use borrow.Author.Rules.{rules}
 use Rattle.dosing.specs.Rules.{discharge_opens}
 use Rattle.dosing.proofs.discharge_opens.Goals as goal
 

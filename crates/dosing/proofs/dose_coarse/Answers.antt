@@ -1,6 +1,5 @@
 use mathlib.Core.Path.{◌≡◌}
 use lib.IntN.{◌-ℤ◌}
-use borrow.Author.Rules.{rules}
 use Rattle.laws.specs.Pick.{pick_true, pick-false, so}
 use Rattle.dosing.specs.Rules.{reached_wf, reached_wc, dose_coarse}
 use Rattle.dosing.proofs.dose_coarse.Goals as goal

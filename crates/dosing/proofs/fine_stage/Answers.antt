@@ -1,5 +1,4 @@
 use mathlib.Core.Path.{◌≡◌}
-use borrow.Author.Rules.{rules}
 use Rattle.laws.specs.Pick.{pick_true, pick-false, so}
 use Rattle.dosing.specs.Rules.{reached_wf, fine_stage}
 use Rattle.dosing.proofs.fine_stage.Goals as goal

@@ -1,4 +1,3 @@
-use borrow.Author.Rules.{rules}
 use Rattle.laws.specs.Pick.{pick_true, pick-false}
 use Rattle.dosing.specs.Rules.{hold}
 use Rattle.dosing.proofs.hold.Goals as goal

@@ -1,7 +1,6 @@
 use mathlib.Core.Path.{◌≡◌}
 use lib.IntN.{pos}
 use lib.Signed.{le_z}
-use borrow.Author.Rules.{rules}
 use Rattle.laws.specs.Pick.{pick_true, pick-false, so}
 use Rattle.dosing.specs.Rules.{load}
 use Rattle.dosing.proofs.load.Goals as goal

@@ -1,4 +1,3 @@
-use borrow.Author.Rules.{rules}
 use Rattle.dosing.specs.Rules.{near_zero}
 use Rattle.dosing.proofs.near_zero.Goals as goal
 

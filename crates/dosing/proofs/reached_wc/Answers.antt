@@ -2,7 +2,6 @@ use mathlib.Core.Path.{ap, ◌∙◌}
 use Prim.Native.Nat.{ℕ}
 use lib.IntN.{pos}
 use lib.Signed.{le_z}
-use borrow.Author.Rules.{rules}
 use Rattle.settings.specs.Table.{wc}
 use Rattle.dosing.specs.Rules.{reached_wc}
 use Rattle.dosing.proofs.reached_wc.Goals as goal

@@ -2,7 +2,6 @@ use mathlib.Core.Path.{ap, ◌∙◌}
 use Prim.Native.Nat.{ℕ}
 use lib.IntN.{pos}
 use lib.Signed.{le_z}
-use borrow.Author.Rules.{rules}
 use Rattle.settings.specs.Table.{wf}
 use Rattle.dosing.specs.Rules.{reached_wf}
 use Rattle.dosing.proofs.reached_wf.Goals as goal

@@ -1,4 +1,3 @@
-use borrow.Author.Rules.{rules}
 use Rattle.laws.specs.Pick.{picks}
 use Rattle.dosing.specs.Rules.{waits, ready}
 use Rattle.dosing.proofs.ready.Goals as goal

@@ -1,11 +1,10 @@
 use mathlib.Core.Path.{◌≡◌}
 use lib.IntN.{pos}
 use lib.Signed.{lt_z}
-use borrow.Author.Rules.{rules}
 use Rattle.laws.specs.Pick.{pick_true, pick-false, so}
 use Rattle.dosing.specs.Rules.{ready_to_dose}
 use Rattle.dosing.proofs.ready_to_dose.Goals as goal
-use Rattle.dosing.proofs.ready_to_dose.Goals.{After-below, Else-below}
+use Rattle.dosing.proofs.ready_to_dose.Goals.{After-below}
 
 below-d : (c : After-below) → c.below.result ≡ lt_z c.args.t.w.v (pos c.args.set.dose)
 below-d c = simp (c.below.ensures, c.widened.ensures)
@@ -16,7 +15,7 @@ returns-then-below c = simp (c.opens.ensures, so (below-d (goal.at.returns-then-
 
 pub returns-then-t : goal.returns-then-t
 unfolding ready_to_dose
-returns-then-t c = simp (c.dose_coarse.ensures, so (below-d (goal.at.returns-then-t c).Else-below) c.if-below.false, c.if-t.true, pick_true, pick-false)
+returns-then-t c = simp (c.dose_coarse.ensures, so (below-d (goal.at.returns-then-t c).After-below) c.if-below.false, c.if-t.true, pick_true, pick-false)
 
 pub returns : goal.returns
 unfolding ready_to_dose

@@ -1,4 +1,3 @@
-use borrow.Author.Rules.{rules}
 use Rattle.laws.specs.Pick.{pick_true, pick-false}
 use Rattle.dosing.specs.Rules.{fill_begins, ready_to_fill}
 use Rattle.dosing.proofs.ready_to_fill.Goals as goal

@@ -1,4 +1,3 @@
-use borrow.Author.Rules.{rules}
 use Rattle.dosing.proofs.rests.Goals as goal
 
 pub returns : goal.returns

@@ -3,7 +3,6 @@ use mathlib.Core.Bool.{or-true}
 use Prim.Native.Nat.{◌+◌, ◌*◌}
 use native.Mathlib.Omega.{arith}
 use borrow.Author.Tests.{le-leb}
-use borrow.Author.Rules.{rules}
 use Rattle.dosing.specs.Rules.{settle_ends}
 use Rattle.dosing.proofs.settle_ends.Goals as goal
 

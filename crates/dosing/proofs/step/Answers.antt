@@ -1,4 +1,3 @@
-use borrow.Author.Rules.{rules}
 use Rattle.dosing.specs.Rules.{step_of}
 use Rattle.dosing.proofs.step.Goals as goal
 

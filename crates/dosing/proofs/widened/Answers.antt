@@ -3,13 +3,9 @@ use mir.Val.{SFits}
 use borrow.Author.Rules.{rules}
 use Rattle.dosing.proofs.Laws.{wide_fits, wide_is}
 use Rattle.dosing.proofs.widened.Goals as goal
-use Rattle.dosing.proofs.widened.Goals.{After-struct_told-1}
-
-told : (c : After-struct_told-1) → SFits w32 c.args.a.v
-told c = search rules
 
 pub overflow_cast-x : goal.overflow_cast-x
-overflow_cast-x c = wide_fits (told c)
+overflow_cast-x c = let told : SFits w32 c.args.a.v = search rules in wide_fits told
 
 pub returns : goal.returns
-returns c = wide_is (told c)
+returns c = let told : SFits w32 c.args.a.v = search rules in wide_is told

@@ -1,6 +1,5 @@
 use native.Mathlib.Omega.{arith}
 use Rattle.laws.specs.DecimalLaws.{decimal-length}
-use borrow.Author.Rules.{rules}
 use Rattle.entry.proofs.field_len.Goals as goal
 
 pub overflow_add-result : goal.overflow_add-result

@@ -2,7 +2,6 @@ use mathlib.Core.Path.{sym, ap, ◌∙◌}
 use mathlib.Core.Bool.{and-true}
 use borrow.Author.Tests.{le-leb, lt-leb}
 use Rattle.journal.specs.Line.{in_range, within, most_of_d, most_of_h}
-use borrow.Author.Rules.{rules}
 use Rattle.entry.proofs.in_range.Goals as goal
 
 pub returns-then-hour-gt-HOUR_MOST : goal.returns-then-hour-gt-HOUR_MOST

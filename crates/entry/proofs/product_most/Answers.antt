@@ -1,4 +1,3 @@
-use borrow.Author.Rules.{rules}
 use Rattle.journal.specs.Line.{product_most}
 use Rattle.entry.proofs.product_most.Goals as goal
 

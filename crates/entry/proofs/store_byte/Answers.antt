@@ -1,5 +1,4 @@
 use Rattle.entry.proofs.Storing.{stored}
-use borrow.Author.Rules.{rules}
 use Rattle.entry.proofs.store_byte.Goals as goal
 
 pub returns : goal.returns

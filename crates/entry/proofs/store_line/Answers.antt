@@ -4,7 +4,6 @@ use lib.ListN.{length}
 use Rattle.journal.specs.Line.{text_of}
 use Rattle.entry.specs.Store.{Stores}
 use Rattle.journal.specs.declared.Line.{Line}
-use borrow.Author.Rules.{rules}
 use Rattle.entry.proofs.store_line.Goals as goal
 
 pub store_dose-requires : goal.store_dose-requires
@@ -18,11 +17,11 @@ pub returns-in-Dose : goal.returns-in-Dose
 returns-in-Dose c =
     let d = c.store_dose in
     let old = c.args.out.now in
-    subst (λ (l : Line). Stores old 0 (text_of c.args.form l) d.new.0 d.result) (sym c.in-Dose.is) d.ensures
+    subst (λ (l : Line). Stores old 0 (text_of c.args.form l) d.new.out d.result) (sym c.in-Dose.is) d.ensures
 
 pub returns-in-On : goal.returns-in-On
 unfolding text_of
 returns-in-On c =
     let o = c.store_on in
     let old = c.args.out.now in
-    subst (λ (l : Line). Stores old 0 (text_of c.args.form l) o.new.0 o.result) (sym c.in-On.is) o.ensures
+    subst (λ (l : Line). Stores old 0 (text_of c.args.form l) o.new.out o.result) (sym c.in-On.is) o.ensures

@@ -4,7 +4,6 @@ use Prim.Native.Nat.{ℕ, ◌+◌, ◌≤◌}
 use native.Mathlib.Omega.{arith}
 use lib.ListN.{length}
 use lib.Seq.{sets}
-use borrow.Author.Rules.{rules}
 use Rattle.laws.specs.Decimal.{decimal}
 use Rattle.text.specs.Scan.{TAB}
 use Rattle.journal.specs.LineLaws.{product_text}

@@ -12,7 +12,6 @@ use Rattle.paper.specs.AnswerLaws.{fills-refused}
 use Rattle.paper.specs.Numbers.{R8}
 use Rattle.journal.specs.Line.{text_of, write_of}
 use Rattle.journal.specs.LineLaws.{write-range, write-short, write-fits}
-use borrow.Author.Rules.{rules}
 use Rattle.entry.proofs.write.Goals as goal
 use Rattle.entry.proofs.write.Goals.{Then-out-text_len}
 

@@ -5,13 +5,30 @@ use mir.Facts.{to_z-of_z}
 use borrow.Author.Rules.{rules}
 use Rattle.field.specs.Field.{weight_of, value_of}
 use Rattle.field.proofs.weight_of.Goals as goal
-use Rattle.field.proofs.weight_of.Goals.{After-with_sign}
+
+pub overflow_mul-size : goal.overflow_mul-size
+unfolding value_of
+overflow_mul-size c = search rules
+
+pub overflow_add-size : goal.overflow_add-size
+unfolding value_of
+overflow_add-size c = search rules
+
+pub overflow_mul-size-2 : goal.overflow_mul-size-2
+unfolding value_of
+overflow_mul-size-2 c = search rules
+
+pub overflow_add-size-2 : goal.overflow_add-size-2
+unfolding value_of
+overflow_add-size-2 c = search rules
+
+pub with_sign-requires : goal.with_sign-requires
+unfolding value_of
+with_sign-requires c = search rules
 
 pub returns : goal.returns
 unfolding weight_of
 returns c =
-    let w = (goal.at.returns c).After-with_sign in
-    let d = w.before.before in
-    let fits : SFits w32 w.with_sign.result = search rules in
-    let value : to_z w32 (of_z w32 w.with_sign.result) ≡ _ = to_z-of_z fits ∙ w.with_sign.ensures in
-    rw (value, w.has_bit.ensures, c.has_bit-2.ensures, c.has_bit-3.ensures, d.value_of-3.ensures, d.value_of-2.ensures, d.value_of.ensures) refl
+    let fits : SFits w32 c.with_sign.result = search rules in
+    let value : to_z w32 (of_z w32 c.with_sign.result) ≡ _ = to_z-of_z fits ∙ c.with_sign.ensures in
+    rw (value, c.has_bit.ensures, c.has_bit-2.ensures, c.has_bit-3.ensures, c.value_of-3.ensures, c.value_of-2.ensures, c.value_of.ensures) refl

@@ -11,10 +11,10 @@ use Rattle.field.proofs.Answers.{seven-digits, point-above}
 use Rattle.field.proofs.write.Goals as goal
 use Rattle.field.proofs.write.Goals.{After-size_of-size}
 
-sized : (c : After-size_of-size) → c.type_size.result ≡ nat_abs c.args.weight.value
+sized : (c : After-size_of-size) → c.size_of-size.result ≡ nat_abs c.args.weight.value
 sized c =
-    let fits : SFits w32 c.args.weight.value = record { sfits = c.struct_told-1.given.0.1 } in
-    c.type_size.ensures ∙ ap nat_abs (to_z-of_z fits)
+    let fits : SFits w32 c.args.weight.value = search rules in
+    c.size_of-size.ensures ∙ ap nat_abs (to_z-of_z fits)
 
 pub returns-then-size-gt999999 : goal.returns-then-size-gt999999
 returns-then-size-gt999999 c = seven-digits c.args.weight (omega (arith, sized (goal.at.returns-then-size-gt999999 c).After-size_of-size))
@@ -24,10 +24,10 @@ returns-then-weight-gt7 c = point-above c.args.weight (omega arith)
 
 pub field_of-requires : goal.field_of-requires
 field_of-requires c =
-    let s = (goal.at.field_of-requires c).After-size_of-size in
-    (sized s, small-writable s.args.weight (omega (arith, sized s)) (omega arith))
+    let e = sized (goal.at.field_of-requires c).After-size_of-size in
+    (e, small-writable c.args.weight (omega (arith, e)) (omega arith))
 
 pub returns : goal.returns
 returns c =
-    let s = (goal.at.returns c).After-size_of-size in
-    ap done c.field_of.ensures ∙ sym (written_small s.args.weight (omega (arith, sized s)) (omega arith))
+    let e = sized (goal.at.returns c).After-size_of-size in
+    ap done c.field_of.ensures ∙ sym (written_small c.args.weight (omega (arith, e)) (omega arith))

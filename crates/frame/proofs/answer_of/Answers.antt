@@ -1,24 +1,21 @@
 use mathlib.Core.Path.{◌≡◌, sym}
+use mathlib.Core.List.{List}
+use Prim.Native.Nat.{ℕ}
 use native.Mathlib.Omega.{arith}
-use borrow.Author.Rules.{rules}
 use lib.ListN.{length, take}
 use lib.Seq.{length-take-le}
 use Rattle.laws.specs.Pick.{pick-t, pick-f, so}
 use Rattle.paper.specs.Answer.{told}
 use Rattle.frame.specs.Read.{answer_of, judged}
-use Rattle.frame.specs.Stands.{stands, fits}
+use Rattle.frame.specs.Stands.{stands, fits, Held}
+use Rattle.frame.specs.declared.State.{State}
+use Rattle.frame.specs.declared.State.TheVariants as S
 use Rattle.frame.proofs.answer_of.Goals as goal
-use Rattle.frame.proofs.answer_of.Goals.{In-Ended-1, In-Ended-2}
 
 -- a finished body stands in the buffer
-whole : (c : In-Ended-2) → length (take c.in-Ended.len c.args.buf.now) ≡ c.in-Ended.len
+whole : {st : State} {buf : List ℕ} {n k : ℕ} → st ≡ S.Ended n k → Held st buf → length (take n buf) ≡ n
 unfolding fits
-whole c =
-    let held = c.requires in
-    length-take-le _ _ (omega (arith, rw c.in-Ended.is at held.body-fits, held.full))
-
-pub slice_bounds-bad_body-end : goal.slice_bounds-bad_body-end
-slice_bounds-bad_body-end c = sym (whole (goal.at.slice_bounds-bad_body-end c).In-Ended-1)
+whole e h = length-take-le _ _ (omega (arith, rw e at h.body-fits, h.full))
 
 -- Ended, R6
 pub returns-then-bad_body : goal.returns-then-bad_body
@@ -45,9 +42,10 @@ pub returns-in-Mark : goal.returns-in-Mark
 unfolding stands answer_of told
 returns-in-Mark c = rw c.in-Mark.is
 
+pub slice_bounds-bad_body-end : goal.slice_bounds-bad_body-end
+slice_bounds-bad_body-end c = sym (whole c.in-Ended.is c.requires)
+
 -- Ended, the body
 pub returns-else-bad_body : goal.returns-else-bad_body
 unfolding stands answer_of judged told
-returns-else-bad_body c =
-    let at-end = (goal.at.returns-else-bad_body c).In-Ended-1 in
-    rw (at-end.in-Ended.is, pick-f _ _ _ (so c.bad_body.ensures c.if-bad_body.false), whole at-end)
+returns-else-bad_body c = rw (c.in-Ended.is, pick-f _ _ _ (so c.bad_body.ensures c.if-bad_body.false), whole c.in-Ended.is c.requires)

@@ -1,4 +1,3 @@
-use borrow.Author.Rules.{rules}
 use Rattle.laws.specs.Pick.{so}
 use Rattle.frame.specs.Read.{bad_body}
 use Rattle.frame.proofs.bad_body.Goals as goal

@@ -4,10 +4,9 @@ use Prim.Native.Nat.{ℕ, suc, ◌≤◌, ◌<◌, ◌-◌, ◌+◌}
 use native.Mathlib.Omega.{arith}
 use native.Mathlib.Numerals.{add-one}
 use lib.ListN.{length, take, set, replicate, length-set, length-replicate, drop_of_length-le}
-use lib.Seq.{sets, sets-eq}
+use lib.Seq.{sets-eq}
 use Rattle.frame.proofs.clear.Invariants.{zeros}
 use Rattle.frame.proofs.clear.Goals as goal
-use Rattle.frame.proofs.clear.Goals.{Start}
 
 zeros-step : (l : List ℕ) (i : ℕ) → i < length l → zeros l i ≡ zeros (set l i 0) (i + 1)
 unfolding zeros
@@ -38,11 +37,7 @@ loop-i-preserved c =
     let l = c.loop-i in
     (length-set l.buf l.i 0 ∙ l.invariant.0, sym (zeros-step l.buf l.i (omega arith)) ∙ l.invariant.1)
 
-pub shape_of-buf : goal.shape_of-buf
-shape_of-buf c = c.loop-i.invariant.0
-
 pub returns : goal.returns
 returns c =
     let l = c.loop-i in
-    let start = (goal.at.returns c).Start in
-    sym (zeros-all l.buf l.i (omega arith)) ∙ l.invariant.1 ∙ zeros-is start.args.buf.now start.args.n (omega arith)
+    sym (zeros-all l.buf l.i (omega arith)) ∙ l.invariant.1 ∙ zeros-is c.args.buf.now c.args.n (omega arith)

@@ -1,15 +1,13 @@
 -- The zeros from place i on are still to be stored.
-use mathlib.Core.Path.{◌≡◌, refl, sym, ◌∙◌}
-use mathlib.Core.List.{List, ◌++◌, append-nil}
-use Prim.Native.Nat.{ℕ, suc, ◌≤◌, ◌<◌, ◌-◌, ◌+◌}
-use native.Mathlib.Omega.{arith}
-use native.Mathlib.Numerals.{add-one}
-use lib.ListN.{length, take, set, replicate, length-set, length-replicate, drop_of_length-le}
-use lib.Seq.{sets, sets-eq}
+use mathlib.Core.Path.{◌≡◌}
+use mathlib.Core.List.{List}
+use Prim.Native.Nat.{ℕ, ◌-◌}
+use lib.ListN.{length, replicate}
+use lib.Seq.{sets}
 use Rattle.frame.proofs.clear.Given as goal
 
 -- 0 from place i to the end
-zeros : List ℕ → ℕ → List ℕ
+unfoldable pub zeros : List ℕ → ℕ → List ℕ
 zeros l i = sets l i (replicate (length l - i) 0)
 
 abbrev pub invariant-loop-i : goal.invariant-loop-i

@@ -4,7 +4,6 @@ use Prim.Native.Nat.{ℕ}
 use native.Mathlib.Omega.{arith}
 use lib.Bits.{bit_xor}
 use lib.ListN.{get_or}
-use borrow.Author.Rules.{rules}
 use Rattle.frame.specs.Table.{by-table}
 use Rattle.frame.proofs.enter.Goals as goal
 

@@ -1,14 +1,7 @@
 -- Reading on with the body that has grown by k bytes is reading on with the old one.
-use mathlib.Core.Path.{◌≡◌, sym, ◌∙◌}
-use mathlib.Core.List.{List, [], ◌∷◌, ◌++◌}
-use Prim.Native.Nat.{ℕ, ◌+◌, ◌-◌, ◌<◌, ◌≤◌}
-use native.Mathlib.Omega.{arith}
-use native.Mathlib.Numerals.{add-one}
-use native.Mathlib.Nat.{add-zero}
-use lib.ListN.{length, take, set, get_or, length-set}
-use lib.Seq.{length-take-le, take-suc-set}
+use Prim.Native.Nat.{◌+◌, ◌-◌}
+use lib.ListN.{length}
 use Rattle.frame.specs.Stands.{Takes}
-use Rattle.frame.proofs.Laws.{body-step}
 use Rattle.frame.proofs.fill.Given as goal
 
 abbrev pub invariant-loop-k : goal.invariant-loop-k

@@ -1,7 +1,6 @@
 use mathlib.Core.Path.{sym}
 use mathlib.Core.Bool.{and-true}
 use native.Mathlib.Omega.{arith}
-use borrow.Author.Rules.{rules}
 use borrow.Author.Tests.{le-leb, eq-eqb, ne_eqb}
 use Rattle.laws.specs.Pick.{pick_true, pick-false}
 use Rattle.frame.specs.Frame.{framable, fewest, extended}

@@ -1,7 +1,6 @@
 use mathlib.Core.Path.{ap}
 use Prim.Native.Nat.{ℕ}
 use native.Mathlib.Omega.{arith}
-use borrow.Author.Rules.{rules}
 use lib.ListN.{length}
 use Rattle.frame.specs.Frame.{sent_byte}
 use Rattle.frame.specs.FrameLaws.{byte-most, sent-most, frame-length}

@@ -1,6 +1,6 @@
 use mathlib.Core.Path.{◌≡◌, refl, sym, ap, ◌∙◌}
 use mathlib.Core.List.{List, []}
-use Prim.Native.Nat.{ℕ, ◌≤◌, ◌-◌, ◌+◌}
+use Prim.Native.Nat.{ℕ, ◌≤◌, ◌+◌}
 use native.Mathlib.Omega.{arith}
 use lib.ListN.{length, drop, get_or, drop_of_length-le}
 use lib.Seq.{sets, length-sets}
@@ -8,7 +8,6 @@ use Rattle.laws.specs.Over.{sets-append}
 use Rattle.frame.specs.Frame.{sent_byte, sent}
 use Rattle.frame.proofs.Laws.{sent-step, sent-step-length}
 use Rattle.frame.proofs.put_body.Goals as goal
-use Rattle.frame.proofs.put_body.Goals.{At-loop-i}
 
 pub loop-i-init : goal.loop-i-init
 loop-i-init c = (omega arith, (refl, (refl, refl)))
@@ -22,38 +21,33 @@ put_byte-to-requires c =
 
 pub loop-i-preserved : goal.loop-i-preserved
 loop-i-preserved c =
-    let at-loop = (goal.at.loop-i-preserved c).At-loop-i in
-    let l = at-loop.args.body.now in
-    let i = at-loop.loop-i.i in
+    let l = c.args.body.now in
+    let i = c.loop-i.i in
     let put = c.put_byte-to in
     let h : length (sent (drop i l)) ≡ length (sent_byte (get_or l i 0)) + length (sent (drop (i + 1) l)) = sent-step-length l i (omega arith) in
-    let out = at-loop.loop-i.out in
-    let to = at-loop.loop-i.to in
+    let out = c.loop-i.out in
+    let to = c.loop-i.to in
     let b = get_or l i 0 in
     let rest = sent (drop (i + 1) l) in
-    let put-len : length put.new.0 ≡ length out = ap length put.ensures.left ∙ length-sets out to (sent_byte b) in (
+    let put-len : length put.new.out ≡ length out = ap length put.ensures.left ∙ length-sets out to (sent_byte b) in (
       omega arith,
       (
         omega arith,
         (
-          put-len ∙ at-loop.loop-i.invariant.1.1.0,
+          put-len ∙ c.loop-i.invariant.1.1.0,
           ap (λ (z : List ℕ). sets z put.result rest) put.ensures.left
               ∙ ap (λ (n : ℕ). sets (sets out to (sent_byte b)) n rest) put.ensures.after
               ∙ sym (sets-append out to (sent_byte b) rest)
               ∙ ap (λ (z : List ℕ). sets out to z) (sym (sent-step l i (omega arith)))
-              ∙ at-loop.loop-i.invariant.1.1.1,
+              ∙ c.loop-i.invariant.1.1.1,
         ),
       ),
     )
 
-pub shape_of-out : goal.shape_of-out
-shape_of-out c = c.loop-i.invariant.1.1.0
-
 pub returns : goal.returns
 unfolding sent
 returns c =
-    let at-loop = (goal.at.returns c).At-loop-i in
-    let l = at-loop.args.body.now in
-    let all : length l ≤ at-loop.loop-i.i = omega arith in
-    let e : sent (drop at-loop.loop-i.i l) ≡ sent [] = ap sent (drop_of_length-le l all) in
-    record { after = omega (arith, ap length e); left = rw e at at-loop.loop-i.invariant.1.1.1 }
+    let l = c.args.body.now in
+    let all : length l ≤ c.loop-i.i = omega arith in
+    let e : sent (drop c.loop-i.i l) ≡ sent [] = ap sent (drop_of_length-le l all) in
+    record { after = omega (arith, ap length e); left = rw e at c.loop-i.invariant.1.1.1 }

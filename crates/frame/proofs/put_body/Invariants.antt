@@ -1,13 +1,9 @@
 -- The bytes from place i on are still to be put.
-use mathlib.Core.Path.{◌≡◌, refl, sym, ap, ◌∙◌}
-use mathlib.Core.List.{List, []}
-use Prim.Native.Nat.{ℕ, ◌≤◌, ◌-◌, ◌+◌}
-use native.Mathlib.Omega.{arith}
-use lib.ListN.{length, drop, get_or, drop_of_length-le}
-use lib.Seq.{sets, length-sets}
-use Rattle.laws.specs.Over.{sets-append}
-use Rattle.frame.specs.Frame.{sent_byte, sent}
-use Rattle.frame.proofs.Laws.{sent-step, sent-step-length}
+use mathlib.Core.Path.{◌≡◌}
+use Prim.Native.Nat.{◌≤◌, ◌-◌, ◌+◌}
+use lib.ListN.{length, drop}
+use lib.Seq.{sets}
+use Rattle.frame.specs.Frame.{sent}
 use Rattle.frame.proofs.put_body.Given as goal
 
 abbrev pub invariant-loop-i : goal.invariant-loop-i

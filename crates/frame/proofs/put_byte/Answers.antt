@@ -1,7 +1,6 @@
 use mathlib.Core.Path.{ap}
 use native.Mathlib.Omega.{arith}
 use native.Mathlib.Numerals.{add-one}
-use borrow.Author.Rules.{rules}
 use lib.ListN.{length, length-set}
 use Rattle.frame.specs.FrameLaws.{byte-least, sent-FF, sent-plain}
 use Rattle.frame.proofs.put_byte.Goals as goal

@@ -9,7 +9,7 @@ use Rattle.frame.specs.Frame.{sent, sent_byte, frame}
 use Rattle.frame.specs.FrameLaws.{frame-length}
 use Rattle.frame.proofs.Laws.{stores, stores-length}
 use Rattle.frame.proofs.put_frame.Goals as goal
-use Rattle.frame.proofs.put_frame.Goals.{After-slice_known-3-1, Start}
+use Rattle.frame.proofs.put_frame.Goals.{After-put_byte-end}
 
 -- what is known where the two closing bytes go
 record Closing (o out₂ body : List ℕ) (end : ℕ) : Type 0 where
@@ -25,39 +25,34 @@ put_body-at-requires c = simp length-set (omega (arith, frame-length c.args.body
 
 pub put_byte-end-requires : goal.put_byte-end-requires
 put_byte-end-requires c =
-    let start = (goal.at.put_byte-end-requires c).Start in
-    let o = start.args.out.now in
-    let body = start.args.body.now in
+    let o = c.args.out.now in
+    let body = c.args.body.now in
     let put = c.put_body-at in
-    let e : length put.new.0 ≡ length o = ap length put.ensures.left ∙ length-sets (set o 0 0xFF) 1 (sent body) ∙ length-set o 0 0xFF in
-    omega (arith, frame-length body, ap (λ (x : ℕ). length (sent_byte x)) start.requires.1, put.ensures.after)
+    let e : length put.new.out ≡ length o = ap length put.ensures.left ∙ length-sets (set o 0 0xFF) 1 (sent body) ∙ length-set o 0 0xFF in
+    omega (arith, frame-length body, ap (λ (x : ℕ). length (sent_byte x)) c.requires.1, put.ensures.after)
 
-closing : (c : After-slice_known-3-1) → Closing c.args.out.now c.put_byte-end.new.0 c.args.body.now c.put_byte-end.result
+closing : (c : After-put_byte-end) → Closing c.args.out.now c.put_byte-end.new.out c.args.body.now c.put_byte-end.result
 closing c =
-    let start = c.AT-Start in
-    let o = start.args.out.now in
-    let body = start.args.body.now in
+    let o = c.args.out.now in
+    let body = c.args.body.now in
     let put = c.put_body-at in
     let last = c.put_byte-end in
-    let e₂ : last.new.0 ≡ sets put.new.0 put.result (sent_byte (check body)) = last.ensures.left ∙ ap (λ (x : ℕ). sets put.new.0 put.result (sent_byte x)) start.requires.1 in
-    let p₂ : last.result ≡ put.result + length (sent_byte (check body)) = last.ensures.after ∙ ap (λ (x : ℕ). put.result + length (sent_byte x)) start.requires.1 in
+    let e₂ : last.new.out ≡ sets put.new.out put.result (sent_byte (check body)) = last.ensures.left ∙ ap (λ (x : ℕ). sets put.new.out put.result (sent_byte x)) c.requires.1 in
+    let p₂ : last.result ≡ put.result + length (sent_byte (check body)) = last.ensures.after ∙ ap (λ (x : ℕ). put.result + length (sent_byte x)) c.requires.1 in
     record {
       at-end = omega (arith, frame-length body, put.ensures.after);
-      same = stores-length o body put.new.0 last.new.0 put.result last.result put.ensures.left put.ensures.after e₂ p₂;
-      all = stores o body put.new.0 last.new.0 put.result last.result put.ensures.left put.ensures.after e₂ p₂;
+      same = stores-length o body put.new.out last.new.out put.result last.result put.ensures.left put.ensures.after e₂ p₂;
+      all = stores o body put.new.out last.new.out put.result last.result put.ensures.left put.ensures.after e₂ p₂;
     }
 
 pub bounds-out-end : goal.bounds-out-end
-bounds-out-end c = let k = closing c in omega (arith, c.requires.0)
+bounds-out-end c = let k = closing (goal.at.bounds-out-end c).After-put_byte-end in omega (arith, c.requires.0)
 
 pub overflow_add-out : goal.overflow_add-out
-overflow_add-out c = let k = closing c in omega arith
+overflow_add-out c = let k = closing (goal.at.overflow_add-out c).After-put_byte-end in omega arith
 
 pub bounds-out-end-2 : goal.bounds-out-end-2
-bounds-out-end-2 c = let k = closing c in simp length-set (omega arith)
-
-pub shape_of-out : goal.shape_of-out
-shape_of-out c = simp length-set (closing c).same
+bounds-out-end-2 c = let k = closing (goal.at.bounds-out-end-2 c).After-put_byte-end in simp length-set (omega arith)
 
 pub returns : goal.returns
-returns c = (closing c).all
+returns c = (closing (goal.at.returns c).After-put_byte-end).all

@@ -1,4 +1,3 @@
-use borrow.Author.Rules.{rules}
 use Rattle.frame.proofs.Answers.{in_buffer, reads}
 use Rattle.frame.proofs.read_frame.Goals as goal
 

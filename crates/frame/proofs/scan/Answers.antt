@@ -1,23 +1,17 @@
 use mathlib.Core.Path.{◌≡◌, refl, sym, ◌∙◌}
 use mathlib.Core.List.{List}
-use Prim.Native.Nat.{ℕ, ◌+◌, ◌-◌, ◌≤◌}
+use Prim.Native.Nat.{ℕ, ◌+◌, ◌≤◌}
 use native.Mathlib.Omega.{arith}
-use borrow.Author.Rules.{rules}
-use lib.ListN.{length, take, drop, drop_of_length-le}
+use lib.ListN.{length, take, drop_of_length-le}
 use Rattle.frame.specs.Read.{ended, run, read_all}
 use Rattle.frame.specs.ReadLaws.{run-ended}
-use Rattle.frame.specs.Stands.{stands, fits, Held, HoldsReading, Skips, Takes}
+use Rattle.frame.specs.Stands.{stands, fits, HoldsReading, Skips, Takes}
 use Rattle.frame.specs.declared.State.{State}
 use Rattle.frame.specs.declared.State.TheVariants as S
 use Rattle.frame.proofs.Laws.{run_step}
+use Rattle.frame.proofs.scan.Invariants.{Left}
 use Rattle.frame.proofs.scan.Goals as goal
-use Rattle.frame.proofs.scan.Goals.{After-step-st, At-loop-i}
-
--- with this state and buffer the bytes from place i on give the reading of all
-record Left (s buf : List ℕ) (st : State) (i : ℕ) : Type 0 where
-  inside : i ≤ length s
-  same : run (stands st buf) i (drop i s) ≡ read_all s
-  held : Held st buf
+use Rattle.frame.proofs.scan.Goals.{After-step-st}
 
 finished : {s buf : List ℕ} {st : State} {i n k : ℕ} → st ≡ S.Ended n k → Left s buf st i → HoldsReading st buf (read_all s)
 unfolding stands
@@ -42,18 +36,14 @@ step-st-requires c = c.loop-i.invariant.held
 
 -- after a turn's step
 turn : (c : After-step-st) →
-    Left c.args.bytes.now c.step-st.new.1.0 c.step-st.result (c.loop-i.i + 1)
+    Left c.args.bytes.now c.step-st.new.buf c.step-st.result (c.loop-i.i + 1)
 turn c =
-    let at-loop = c.AT-At-loop-i in
     let s = c.args.bytes.now in
     record {
       inside = omega arith;
-      same = rw c.step-st.ensures.reading (sym (run_step (stands at-loop.loop-i.st at-loop.loop-i.buf) at-loop.loop-i.i s (omega arith)) ∙ at-loop.loop-i.invariant.same);
+      same = rw c.step-st.ensures.reading (sym (run_step (stands c.loop-i.st c.loop-i.buf) c.loop-i.i s (omega arith)) ∙ c.loop-i.invariant.same);
       held = c.step-st.ensures.held;
     }
-
-pub shape_of-buf-in-Ended : goal.shape_of-buf-in-Ended
-shape_of-buf-in-Ended c = omega (arith, c.step-st.ensures.held.full)
 
 -- Ended
 pub returns-in-Ended : goal.returns-in-Ended
@@ -90,13 +80,9 @@ loop-i-preserved-in-Body c =
 pub loop-i-preserved : goal.loop-i-preserved
 loop-i-preserved c = turn (goal.at.loop-i-preserved c).After-step-st
 
-pub shape_of-buf : goal.shape_of-buf
-shape_of-buf c = omega (arith, c.loop-i.invariant.held.full)
-
 pub returns : goal.returns
 unfolding run
 returns c =
-    let at-loop = (goal.at.returns c).At-loop-i in
     let s = c.args.bytes.now in
-    let all : length s ≤ at-loop.loop-i.i = omega arith in
-    record { reading = rw (drop_of_length-le s all) at at-loop.loop-i.invariant.same; held = at-loop.loop-i.invariant.held }
+    let all : length s ≤ c.loop-i.i = omega arith in
+    record { reading = rw (drop_of_length-le s all) at c.loop-i.invariant.same; held = c.loop-i.invariant.held }

@@ -1,13 +1,8 @@
 -- The bytes from place i on are still to be counted.
-use mathlib.Core.Path.{◌≡◌, ap}
-use mathlib.Core.List.{List, []}
-use Prim.Native.Nat.{ℕ, ◌≤◌, ◌-◌, ◌+◌, ◌*◌}
-use native.Mathlib.Omega.{arith}
-use borrow.Author.Rules.{rules}
-use lib.ListN.{length, drop, get_or, drop_of_length-le}
-use Rattle.frame.specs.Frame.{sent_byte, sent}
-use Rattle.frame.specs.FrameLaws.{byte-most}
-use Rattle.frame.proofs.Laws.{sent-step-length}
+use mathlib.Core.Path.{◌≡◌}
+use Prim.Native.Nat.{◌≤◌, ◌-◌, ◌+◌, ◌*◌}
+use lib.ListN.{length, drop}
+use Rattle.frame.specs.Frame.{sent}
 use Rattle.frame.proofs.sent_len.Given as goal
 
 abbrev pub invariant-loop-i : goal.invariant-loop-i

@@ -1,8 +1,5 @@
-use mathlib.Core.Path.{◌≡◌, refl, ◌∙◌}
-use Prim.Native.Nat.{◌-◌, ◌≤◌}
+use mathlib.Core.Path.{refl, ◌∙◌}
 use native.Mathlib.Omega.{arith}
-use lib.ListN.{length, drop}
-use Rattle.frame.specs.Read.{seek, run}
 use Rattle.frame.proofs.Laws.{seek-step}
 use Rattle.frame.proofs.skip.Goals as goal
 use Rattle.frame.proofs.skip.Goals.{At-loop-p}

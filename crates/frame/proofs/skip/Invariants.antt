@@ -1,10 +1,8 @@
 -- The search from place p on is the whole search.
-use mathlib.Core.Path.{◌≡◌, refl, ◌∙◌}
+use mathlib.Core.Path.{◌≡◌}
 use Prim.Native.Nat.{◌-◌, ◌≤◌}
-use native.Mathlib.Omega.{arith}
 use lib.ListN.{length, drop}
 use Rattle.frame.specs.Read.{seek, run}
-use Rattle.frame.proofs.Laws.{seek-step}
 use Rattle.frame.proofs.skip.Given as goal
 
 abbrev pub invariant-loop-p : goal.invariant-loop-p

@@ -1,6 +1,5 @@
 -- One reading step a way through the match.
 use mathlib.Core.Path.{◌∙◌}
-use borrow.Author.Rules.{rules}
 use Rattle.laws.specs.Pick.{picks, pick_true}
 use Rattle.frame.specs.Read.{step, grown}
 use Rattle.frame.specs.Stands.{stands, fits}

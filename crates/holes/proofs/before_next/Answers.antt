@@ -1,5 +1,4 @@
 use mathlib.Core.Path.{ap, sym}
-use borrow.Author.Rules.{rules}
 use Rattle.holes.specs.Holes.{dose_before}
 use Rattle.holes.proofs.before_next.Goals as goal
 

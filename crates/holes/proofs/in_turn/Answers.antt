@@ -1,4 +1,3 @@
-use borrow.Author.Rules.{rules}
 use Rattle.holes.proofs.Marking.{turn_one, turn_last, turn-none, turn-next}
 use Rattle.holes.proofs.in_turn.Goals as goal
 

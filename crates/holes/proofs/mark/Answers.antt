@@ -1,7 +1,5 @@
-use Prim.Native.Nat.{◌-◌}
 use native.Mathlib.Omega.{arith}
-use lib.ListN.{length}
-use Rattle.holes.proofs.Marking.{Marking, marking-none, marking-more, marking-past, marking-all}
+use Rattle.holes.proofs.Marking.{marking-none, marking-more, marking-past, marking-all}
 use Rattle.holes.proofs.mark.Goals as goal
 
 pub loop-k-init : goal.loop-k-init

@@ -1,7 +1,6 @@
 use Prim.Native.Nat.{◌-◌}
-use native.Mathlib.Omega.{arith}
 use lib.ListN.{length}
-use Rattle.holes.proofs.Marking.{Marking, marking-none, marking-more, marking-past, marking-all}
+use Rattle.holes.proofs.Marking.{Marking}
 use Rattle.holes.proofs.mark.Given as goal
 
 abbrev pub invariant-loop-k : goal.invariant-loop-k

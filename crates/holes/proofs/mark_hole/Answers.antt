@@ -2,7 +2,6 @@ use mathlib.Core.Path.{◌≡◌, refl, subst}
 use mathlib.Core.Bool.{Bool}
 use mathlib.Core.List.{List}
 use Prim.Native.Nat.{ℕ}
-use borrow.Author.Rules.{rules}
 use Rattle.laws.specs.Pick.{so}
 use Rattle.holes.specs.Marks.{Adds}
 use Rattle.holes.proofs.Marking.{ends_on, ends-first, ends-turn, ends-before, ends-hole, ends-told}

@@ -1,4 +1,3 @@
-use borrow.Author.Rules.{rules}
 use Rattle.hourly.specs.Hours.{asks_for}
 use Rattle.hourly.proofs.asks_for.Goals as goal
 

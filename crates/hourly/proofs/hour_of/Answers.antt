@@ -1,7 +1,6 @@
 use mathlib.Core.Path.{ap, sym, ◌∙◌}
 use mathlib.Core.List.{List}
 use native.Mathlib.Omega.{arith}
-use borrow.Author.Rules.{rules}
 use Rattle.paper.specs.Answer.{done, told}
 use Rattle.journal.specs.Journal.{journal_of}
 use Rattle.journal.specs.declared.Line.{Line}

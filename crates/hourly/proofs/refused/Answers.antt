@@ -1,4 +1,3 @@
-use borrow.Author.Rules.{rules}
 use Rattle.hourly.specs.Tally.{refused_by}
 use Rattle.hourly.proofs.refused.Goals as goal
 

@@ -1,4 +1,3 @@
-use borrow.Author.Rules.{rules}
 use Rattle.hourly.specs.Hours.{as_f64}
 use Rattle.hourly.specs.Tally.{with_dose}
 use Rattle.hourly.proofs.with_dose.Goals as goal

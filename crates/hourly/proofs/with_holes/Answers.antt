@@ -1,8 +1,7 @@
-use Prim.Native.Nat.{◌-◌}
 use native.Mathlib.Omega.{arith}
 use borrow.Author.Rules.{rules}
 use Rattle.hourly.specs.Tally.{with_hole}
-use Rattle.hourly.proofs.Settling.{Setting, setting-none, setting-more, setting-all}
+use Rattle.hourly.proofs.Settling.{setting-none, setting-more, setting-all}
 use Rattle.hourly.proofs.with_holes.Goals as goal
 
 pub loop-k-init : goal.loop-k-init

@@ -1,8 +1,5 @@
 use Prim.Native.Nat.{◌-◌}
-use native.Mathlib.Omega.{arith}
-use borrow.Author.Rules.{rules}
-use Rattle.hourly.specs.Tally.{with_hole}
-use Rattle.hourly.proofs.Settling.{Setting, setting-none, setting-more, setting-all}
+use Rattle.hourly.proofs.Settling.{Setting}
 use Rattle.hourly.proofs.with_holes.Given as goal
 
 abbrev pub invariant-loop-k : goal.invariant-loop-k

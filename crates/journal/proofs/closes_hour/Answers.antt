@@ -1,6 +1,5 @@
 use mathlib.Core.Path.{ap, sym}
 use Rattle.journal.specs.Journal.{closes}
-use borrow.Author.Rules.{rules}
 use Rattle.journal.proofs.closes_hour.Goals as goal
 
 pub returns-in-Dose : goal.returns-in-Dose

@@ -1,5 +1,4 @@
 use mathlib.Core.Path.{ap, sym, ◌∙◌}
-use borrow.Author.Rules.{rules}
 use borrow.Author.Tests.{eq-eqb}
 use Rattle.laws.specs.Pick.{pick-t, picks}
 use Rattle.journal.specs.Fields.{fields_of_d, fields_after}

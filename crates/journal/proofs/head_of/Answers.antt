@@ -2,7 +2,6 @@ use mathlib.Core.Path.{◌≡◌, sym, ap}
 use mathlib.Core.List.{List}
 use mathlib.Core.Bool.{true, false}
 use Prim.Native.Nat.{ℕ}
-use borrow.Author.Rules.{rules}
 use Rattle.laws.specs.Pick.{so, pick-t, pick-f}
 use Rattle.journal.specs.Line.{versioned}
 use Rattle.journal.specs.Journal.{form_of}

@@ -1,6 +1,5 @@
 use mathlib.Core.Path.{ap, sym}
 use Rattle.journal.specs.Journal.{hour_in}
-use borrow.Author.Rules.{rules}
 use Rattle.journal.proofs.hour_in.Goals as goal
 
 pub returns-in-Dose : goal.returns-in-Dose

@@ -1,4 +1,3 @@
-use borrow.Author.Rules.{rules}
 use borrow.Author.Tests.{eq-eqb, ne_eqb}
 use Rattle.journal.specs.Line.{is_version}
 use Rattle.journal.proofs.is_version.Goals as goal

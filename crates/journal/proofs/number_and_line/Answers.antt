@@ -1,5 +1,4 @@
 use mathlib.Core.Path.{ap, sym}
-use borrow.Author.Rules.{rules}
 use Rattle.journal.specs.Says.{names_of}
 use Rattle.journal.proofs.number_and_line.Goals as goal
 

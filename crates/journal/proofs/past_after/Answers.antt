@@ -1,5 +1,4 @@
 use Rattle.journal.specs.Journal.{past_after}
-use borrow.Author.Rules.{rules}
 use Rattle.journal.proofs.past_after.Goals as goal
 
 pub returns : goal.returns

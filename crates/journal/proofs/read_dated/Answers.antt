@@ -11,7 +11,6 @@ use Rattle.journal.specs.declared.Line.{Line}
 use Rattle.journal.specs.Line.{holds, line_at, line_of, dated, whole, placed}
 use Rattle.journal.specs.Says.{says_at}
 use Rattle.journal.specs.LineLaws.{line-shorter, placed-none, placed-good}
-use borrow.Author.Rules.{rules}
 use Rattle.journal.proofs.read_dated.Goals as goal
 use Rattle.journal.proofs.read_dated.Goals.{In-Line}
 

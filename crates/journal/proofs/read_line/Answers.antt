@@ -2,7 +2,6 @@ use mathlib.Core.Path.{◌≡◌, sym, ◌∙◌}
 use mathlib.Core.Bool.{true, false}
 use mathlib.Core.List.{List}
 use Prim.Native.Nat.{ℕ}
-use borrow.Author.Rules.{rules}
 use Rattle.laws.specs.Pick.{pick-t, pick-f, so}
 use Rattle.paper.specs.Answer.{done}
 use Rattle.journal.specs.Line.{line_of, is_version, version, whole, one_line}

@@ -1,4 +1,3 @@
-use borrow.Author.Rules.{rules}
 use Rattle.journal.specs.Journal.{too_far}
 use Rattle.journal.proofs.too_far.Goals as goal
 

@@ -5,8 +5,6 @@ use mathlib.Core.Bool.{false}
 use Prim.Native.Nat.{ℕ, zero, suc, ◌+◌, ◌-◌, ◌≤◌, ◌<◌}
 use native.Mathlib.Numerals.{add-one}
 use native.Mathlib.Omega.{arith}
-use borrow.Author.Rules.{rules}
-use borrow.Author.Tests.{not-true, not-false}
 use lib.ListN.{length, take, drop, set, replicate, length-set}
 use lib.Seq.{sets, length-sets, take_at, length-take-le}
 use Rattle.laws.specs.Pick.{pick-t, pick-f, so}
@@ -88,7 +86,7 @@ put_all-requires c =
     let full = first-full _ 0 _ [] _ put in
     simp length-set (omega (arith, put.after, address-most c.args.form))
 
-at-end : (c : After-put_all) → Stored (body_of c.args.form c.args.operation c.args.values.now) c.put_all.new.0 (c.put_address-head.result + 1 + length c.args.values.now)
+at-end : (c : After-put_all) → Stored (body_of c.args.form c.args.operation c.args.values.now) c.put_all.new.out (c.put_address-head.result + 1 + length c.args.values.now)
 at-end c =
     let put = c.put_address-head in
     let h : length c.args.values.now ≤ 253 - put.result = omega arith in
@@ -110,12 +108,12 @@ pub returns-then-not-framable : goal.returns-then-not-framable
 unfolding framable_of
 returns-then-not-framable c =
     let k = at-end (goal.at.returns-then-not-framable c).After-put_all in
-    let f = rw k.front at (so c.framable.ensures (not-true _ c.if-not-framable.true-raw)) in
+    let f = rw k.front at (so c.framable.ensures c.if-not-framable.true) in
     rw c.no_body-then-not-framable.ensures.0 (hands-refused (pick-f _ _ _ f) 254 c.no_body-then-not-framable.ensures.1)
 
 pub returns : goal.returns
 unfolding framable_of
 returns c =
     let k = at-end (goal.at.returns c).After-put_all in
-    let f = rw k.front at (so c.framable.ensures (not-false _ c.if-not-framable.false-raw)) in
+    let f = rw k.front at (so c.framable.ensures c.if-not-framable.false) in
     hands-done (pick-t _ _ _ f) k.size k.is

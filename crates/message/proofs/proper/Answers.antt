@@ -1,4 +1,3 @@
-use borrow.Author.Rules.{rules}
 use Rattle.message.specs.Message.{proper}
 use Rattle.message.proofs.proper.Goals as goal
 

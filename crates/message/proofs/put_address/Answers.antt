@@ -1,5 +1,4 @@
 use native.Mathlib.Omega.{arith}
-use borrow.Author.Rules.{rules}
 use lib.ListN.{length-set}
 use Rattle.message.specs.Message.{address_bytes}
 use Rattle.message.proofs.put_address.Goals as goal

@@ -1,7 +1,6 @@
 use mathlib.Core.Path.{◌≡◌, refl}
 use mathlib.Core.Bool.{Bool, true, false}
 use mir.Val.{bool_byte}
-use borrow.Author.Rules.{rules}
 use Rattle.laws.specs.Pick.{pick}
 use Rattle.registers.specs.Registers.{table_of}
 use Rattle.registers.proofs.words.Goals as goal

@@ -1,6 +1,5 @@
 use mathlib.Core.Path.{sym}
 use lib.Dec.{eqb}
-use borrow.Author.Rules.{rules}
 use borrow.Author.Tests.{eq-eqb, ne_eqb}
 use Rattle.laws.specs.Pick.{pick-t, pick-f}
 use Rattle.report.specs.Table.{hours_in}

@@ -1,7 +1,6 @@
 use mathlib.Core.Path.{ap, sym, ◌∙◌, subst}
 use mathlib.Core.List.{List, []}
 use Prim.Native.Nat.{ℕ}
-use borrow.Author.Rules.{rules}
 use lib.ListN.{length}
 use Rattle.paper.specs.Answer.{Answer, in_room, Fills}
 use Rattle.journal.specs.Journal.{journal_of}
@@ -29,7 +28,7 @@ print_table-requires c = record { printable = (printed (goal.at.print_table-requ
 pub returns-in-Lines : goal.returns-in-Lines
 returns-in-Lines c =
     let a = c.args in
-    subst (λ (x : Answer (List ℕ)). Fills (says_printed c.print_table.result) x a.out.now c.print_table.new.1.1.0) (prints-answer (found (goal.at.returns-in-Lines c).In-Lines) (printed (goal.at.returns-in-Lines c).In-Lines) (length a.out.now)) c.print_table.ensures
+    subst (λ (x : Answer (List ℕ)). Fills (says_printed c.print_table.result) x a.out.now c.print_table.new.out) (prints-answer (found (goal.at.returns-in-Lines c).In-Lines) (printed (goal.at.returns-in-Lines c).In-Lines) (length a.out.now)) c.print_table.ensures
 
 pub returns-in-Refused : goal.returns-in-Refused
 unfolding print_of

@@ -1,7 +1,6 @@
 use mathlib.Core.Path.{◌≡◌, ap, ◌∙◌}
 use Prim.Native.Nat.{ℕ, ◌<◌}
 use native.Mathlib.Omega.{arith}
-use borrow.Author.Rules.{rules}
 use lib.ListN.{length}
 use lib.Seq.{sets}
 use Rattle.paper.specs.AnswerLaws.{fills-none, fills-text}
@@ -17,17 +16,17 @@ too_short c =
     omega (arith, n, c.if-out-n.true)
 
 pub text_len-n-requires : goal.text_len-n-requires
-text_len-n-requires c = rw c.hours_in-hours.ensures c.requires.0
+text_len-n-requires c = rw c.hours_in-hours.ensures c.requires.printable
 
 pub returns-then-out-n : goal.returns-then-out-n
 returns-then-out-n c = fills-none _ _ (too_short c)
 
 pub put_rows-requires : goal.put_rows-requires
-put_rows-requires c = record { printable = rw c.hours_in-hours.ensures c.requires.0; room = omega (arith, c.text_len-n.ensures, c.if-out-n.false) }
+put_rows-requires c = record { printable = rw c.hours_in-hours.ensures c.requires.printable; room = omega (arith, c.text_len-n.ensures, c.if-out-n.false) }
 
 pub returns : goal.returns
 returns c =
     let a = c.args in
     let text : text_by a.table a.found.first c.hours_in-hours.result ≡ text_by a.table a.found.first (hours_in a.found) = ap (text_by a.table a.found.first) c.hours_in-hours.ensures in
     let n : c.text_len-n.result ≡ length (text_by a.table a.found.first (hours_in a.found)) = c.text_len-n.ensures ∙ ap length text in
-    fills-text a.out.now c.put_rows.new.0 (text_by a.table a.found.first (hours_in a.found)) c.text_len-n.result (omega (arith, c.if-out-n.false)) n (c.put_rows.ensures ∙ ap (sets a.out.now 0) text)
+    fills-text a.out.now c.put_rows.new.out (text_by a.table a.found.first (hours_in a.found)) c.text_len-n.result (omega (arith, c.if-out-n.false)) n (c.put_rows.ensures ∙ ap (sets a.out.now 0) text)

@@ -1,5 +1,4 @@
 use mathlib.Core.List.{[], ◌∷◌}
-use borrow.Author.Rules.{rules}
 use Rattle.text.specs.Scan.{LF}
 use Rattle.text.specs.PutLaws.{put_then}
 use Rattle.report.proofs.put_letter.Goals as goal

@@ -1,6 +1,5 @@
 use mathlib.Core.List.{List, [], ◌∷◌, ◌++◌}
 use Prim.Native.Nat.{ℕ}
-use borrow.Author.Rules.{rules}
 use Rattle.laws.specs.Decimal.{decimal, hex_of}
 use Rattle.text.specs.Scan.{LF, TAB}
 use Rattle.text.specs.PutLaws.{put_then}

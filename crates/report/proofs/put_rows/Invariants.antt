@@ -1,12 +1,9 @@
-use mathlib.Core.Path.{◌≡◌, ap, sym, ◌∙◌}
+use mathlib.Core.Path.{◌≡◌}
 use Prim.Native.Nat.{◌+◌, ◌-◌, ◌≤◌}
-use native.Mathlib.Omega.{arith}
-use borrow.Author.Rules.{rules}
 use lib.ListN.{length}
 use lib.Seq.{sets}
-use Rattle.hourly.specs.Text.{row_text}
-use Rattle.report.specs.Table.{says_shown, text_by}
-use Rattle.report.proofs.Printing.{rest_by, rest-whole, rest-length, rest-stored, rest-none}
+use Rattle.report.specs.Table.{text_by}
+use Rattle.report.proofs.Printing.{rest_by}
 use Rattle.report.proofs.put_rows.Given as goal
 
 abbrev pub invariant-loop-k : goal.invariant-loop-k

@@ -1,6 +1,5 @@
 use mathlib.Core.Path.{sym, subst}
 use Prim.Native.Nat.{◌+◌, ◌≤◌}
-use borrow.Author.Rules.{rules}
 use lib.ListN.{length}
 use Rattle.text.specs.Put.{Puts}
 use Rattle.report.specs.Rows.{tail_text}
@@ -20,12 +19,12 @@ unfolding tail_text
 put_letter-requires-in-Missing c = subst (λ (x : Shown). c.args.at + length (tail_text (says_shown x)) ≤ length c.args.out.now) c.in-Missing.is c.requires
 
 pub returns-in-Measured : goal.returns-in-Measured
-returns-in-Measured c = subst (λ (x : Shown). Puts c.args.out.now c.args.at (tail_text (says_shown x)) c.put_measured.new.0 c.put_measured.result) (sym c.in-Measured.is) c.put_measured.ensures
+returns-in-Measured c = subst (λ (x : Shown). Puts c.args.out.now c.args.at (tail_text (says_shown x)) c.put_measured.new.out c.put_measured.result) (sym c.in-Measured.is) c.put_measured.ensures
 
 pub returns-in-Idle : goal.returns-in-Idle
 unfolding tail_text
-returns-in-Idle c = subst (λ (x : Shown). Puts c.args.out.now c.args.at (tail_text (says_shown x)) c.put_letter.new.0 c.put_letter.result) (sym c.in-Idle.is) c.put_letter.ensures
+returns-in-Idle c = subst (λ (x : Shown). Puts c.args.out.now c.args.at (tail_text (says_shown x)) c.put_letter.new.out c.put_letter.result) (sym c.in-Idle.is) c.put_letter.ensures
 
 pub returns-in-Missing : goal.returns-in-Missing
 unfolding tail_text
-returns-in-Missing c = subst (λ (x : Shown). Puts c.args.out.now c.args.at (tail_text (says_shown x)) c.put_letter-in-Missing.new.0 c.put_letter-in-Missing.result) (sym c.in-Missing.is) c.put_letter-in-Missing.ensures
+returns-in-Missing c = subst (λ (x : Shown). Puts c.args.out.now c.args.at (tail_text (says_shown x)) c.put_letter-in-Missing.new.out c.put_letter-in-Missing.result) (sym c.in-Missing.is) c.put_letter-in-Missing.ensures

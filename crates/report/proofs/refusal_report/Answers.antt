@@ -1,5 +1,4 @@
 use mathlib.Core.Path.{subst}
-use borrow.Author.Rules.{rules}
 use Rattle.journal.specs.declared.Named.{Named}
 use Rattle.report.specs.Report.{refusal_text}
 use Rattle.report.specs.Promises.{Holds}

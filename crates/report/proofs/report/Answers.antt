@@ -26,8 +26,8 @@ returns-in-Text c =
     let z = c.no_bytes-out in
     let p = c.print-printed in
     reports a.products bytes (take k.result bytes) a.n _ size (seen-is bytes a.n k.result size k.ensures)
-    (text-holds a.products (take k.result bytes) z.result p.new.1.1.0 z.ensures c.in-Text.len
-    (subst (λ (x : Printed). PrintsHours a.products (take k.result bytes) x z.result p.new.1.1.0) c.in-Text.is p.ensures))
+    (text-holds a.products (take k.result bytes) z.result p.new.out z.ensures c.in-Text.len
+    (subst (λ (x : Printed). PrintsHours a.products (take k.result bytes) x z.result p.new.out) c.in-Text.is p.ensures))
 
 pub returns-in-Refused : goal.returns-in-Refused
 returns-in-Refused c =
@@ -39,8 +39,8 @@ returns-in-Refused c =
     let p = c.print-printed in
     reports a.products bytes (take k.result bytes) a.n _ size (seen-is bytes a.n k.result size k.ensures)
     (subst (λ (l : List ℕ). Holds l c.refusal_report.result)
-    (refused-line a.products (take k.result bytes) z.result p.new.1.1.0 z.ensures c.in-Refused.refusal
-    (subst (λ (x : Printed). PrintsHours a.products (take k.result bytes) x z.result p.new.1.1.0) c.in-Refused.is p.ensures))
+    (refused-line a.products (take k.result bytes) z.result p.new.out z.ensures c.in-Refused.refusal
+    (subst (λ (x : Printed). PrintsHours a.products (take k.result bytes) x z.result p.new.out) c.in-Refused.is p.ensures))
     c.refusal_report.ensures)
 
 pub returns-in-R8 : goal.returns-in-R8
@@ -50,5 +50,5 @@ returns-in-R8 c =
     let k = c.smaller-size in
     let z = c.no_bytes-out in
     let p = c.print-printed in
-    never-short a.products (take k.result bytes) z.result p.new.1.1.0 z.ensures
-    (subst (λ (x : Printed). PrintsHours a.products (take k.result bytes) x z.result p.new.1.1.0) c.in-R8.is p.ensures)
+    never-short a.products (take k.result bytes) z.result p.new.out z.ensures
+    (subst (λ (x : Printed). PrintsHours a.products (take k.result bytes) x z.result p.new.out) c.in-R8.is p.ensures)

@@ -1,9 +1,8 @@
-use mathlib.Core.Path.{◌≡◌, refl, ap}
+use mathlib.Core.Path.{◌≡◌}
 use Prim.Native.Nat.{◌+◌, ◌-◌, ◌≤◌}
-use native.Mathlib.Omega.{arith}
 use lib.ListN.{length}
 use Rattle.report.specs.Table.{text_by}
-use Rattle.report.proofs.Printing.{rest_by, rest-whole, rest-length, rest-none}
+use Rattle.report.proofs.Printing.{rest_by}
 use Rattle.report.proofs.text_len.Given as goal
 
 abbrev pub invariant-loop-k : goal.invariant-loop-k

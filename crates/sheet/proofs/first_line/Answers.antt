@@ -1,4 +1,3 @@
-use borrow.Author.Rules.{rules}
 use Rattle.sheet.proofs.Reading.{none, more, alone}
 use Rattle.sheet.proofs.first_line.Goals as goal
 

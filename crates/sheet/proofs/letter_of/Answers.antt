@@ -1,5 +1,4 @@
 use mathlib.Core.Path.{sym, ap}
-use borrow.Author.Rules.{rules}
 use Rattle.sheet.specs.Lines.{letter_of}
 use Rattle.sheet.proofs.letter_of.Goals as goal
 

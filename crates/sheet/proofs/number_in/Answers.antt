@@ -1,5 +1,4 @@
 use mathlib.Core.Path.{sym, ap}
-use borrow.Author.Rules.{rules}
 use Rattle.laws.specs.Pick.{pick}
 use Rattle.paper.specs.Answer.{on_done}
 use Rattle.weekly.specs.Week.{first_of}

@@ -1,4 +1,3 @@
-use borrow.Author.Rules.{rules}
 use Rattle.sheet.proofs.Printing.{made-fills, refused-fills, late-fills}
 use Rattle.sheet.proofs.print.Goals as goal
 

@@ -1,5 +1,4 @@
 use native.Mathlib.Omega.{arith}
-use borrow.Author.Rules.{rules}
 use Rattle.paper.specs.AnswerLaws.{fills-none, fills-text}
 use Rattle.sheet.specs.Lines.{days_text}
 use Rattle.sheet.proofs.print_days.Goals as goal
@@ -14,4 +13,4 @@ pub returns : goal.returns
 returns c =
     let a = c.args in
     let n = c.text_len-n in
-    fills-text a.out.now c.put_days.new.0 (days_text 0 a.days) n.result (omega (arith, n.ensures, c.if-out-n.false)) n.ensures c.put_days.ensures
+    fills-text a.out.now c.put_days.new.out (days_text 0 a.days) n.result (omega (arith, n.ensures, c.if-out-n.false)) n.ensures c.put_days.ensures

@@ -1,4 +1,3 @@
-use borrow.Author.Rules.{rules}
 use Rattle.sheet.proofs.Days.{day-put}
 use Rattle.sheet.proofs.put_day.Goals as goal
 

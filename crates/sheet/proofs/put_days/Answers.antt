@@ -1,6 +1,5 @@
-use Prim.Native.Nat.{◌-◌}
 use borrow.Author.Rules.{rules}
-use Rattle.sheet.proofs.Days.{Stored, stored-none, stored-room, stored_more, stored-all}
+use Rattle.sheet.proofs.Days.{stored-none, stored-room, stored_more, stored-all}
 use Rattle.sheet.proofs.put_days.Goals as goal
 
 pub loop-k-init : goal.loop-k-init
@@ -11,9 +10,6 @@ put_day-at-requires c = stored-room _ _ _ _ _ _ c.loop-k.invariant c.loop-k-test
 
 pub loop-k-preserved : goal.loop-k-preserved
 loop-k-preserved c = stored_more _ _ _ _ _ _ _ _ c.loop-k.invariant c.loop-k-test.true c.put_day-at.ensures
-
-pub shape_of-out : goal.shape_of-out
-shape_of-out c = c.loop-k.invariant.same
 
 pub returns : goal.returns
 returns c = stored-all _ _ _ _ _ c.loop-k.invariant c.loop-k-test.false

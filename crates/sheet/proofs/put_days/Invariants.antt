@@ -1,6 +1,5 @@
 use Prim.Native.Nat.{◌-◌}
-use borrow.Author.Rules.{rules}
-use Rattle.sheet.proofs.Days.{Stored, stored-none, stored-room, stored_more, stored-all}
+use Rattle.sheet.proofs.Days.{Stored}
 use Rattle.sheet.proofs.put_days.Given as goal
 
 abbrev pub invariant-loop-k : goal.invariant-loop-k

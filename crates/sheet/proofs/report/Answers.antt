@@ -27,8 +27,8 @@ returns-in-Text c =
     let p = c.print-printed in
     let seen = take k.result bytes in
     reports a.first bytes seen a.n hour.result _ size (seen-is bytes a.n k.result size k.ensures) hour.ensures
-    (text-holds seen hour.result z.result p.new.1.1.0 z.ensures c.in-Text.len
-    (subst (λ (x : Printed). PrintsSheet seen hour.result x z.result p.new.1.1.0) c.in-Text.is p.ensures))
+    (text-holds seen hour.result z.result p.new.out z.ensures c.in-Text.len
+    (subst (λ (x : Printed). PrintsSheet seen hour.result x z.result p.new.out) c.in-Text.is p.ensures))
 
 pub returns-in-Refused : goal.returns-in-Refused
 returns-in-Refused c =
@@ -42,8 +42,8 @@ returns-in-Refused c =
     let seen = take k.result bytes in
     reports a.first bytes seen a.n hour.result _ size (seen-is bytes a.n k.result size k.ensures) hour.ensures
     (subst (λ (l : List ℕ). Holds l c.refusal_report.result)
-    (refused-line seen hour.result z.result p.new.1.1.0 z.ensures c.in-Refused.refusal
-    (subst (λ (x : Printed). PrintsSheet seen hour.result x z.result p.new.1.1.0) c.in-Refused.is p.ensures))
+    (refused-line seen hour.result z.result p.new.out z.ensures c.in-Refused.refusal
+    (subst (λ (x : Printed). PrintsSheet seen hour.result x z.result p.new.out) c.in-Refused.is p.ensures))
     c.refusal_report.ensures)
 
 pub returns-in-R21 : goal.returns-in-R21
@@ -58,8 +58,8 @@ returns-in-R21 c =
     let seen = take k.result bytes in
     reports a.first bytes seen a.n hour.result _ size (seen-is bytes a.n k.result size k.ensures) hour.ensures
     (subst (λ (l : List ℕ). Holds l c.line_report.result)
-    (late-line seen hour.result z.result p.new.1.1.0 z.ensures
-    (subst (λ (x : Printed). PrintsSheet seen hour.result x z.result p.new.1.1.0) c.in-R21.is p.ensures))
+    (late-line seen hour.result z.result p.new.out z.ensures
+    (subst (λ (x : Printed). PrintsSheet seen hour.result x z.result p.new.out) c.in-R21.is p.ensures))
     c.line_report.ensures)
 
 pub returns-in-R8 : goal.returns-in-R8
@@ -72,5 +72,5 @@ returns-in-R8 c =
     let k = c.smaller-size in
     let p = c.print-printed in
     let seen = take k.result bytes in
-    never-short seen hour.result z.result p.new.1.1.0 z.ensures
-    (subst (λ (x : Printed). PrintsSheet seen hour.result x z.result p.new.1.1.0) c.in-R8.is p.ensures)
+    never-short seen hour.result z.result p.new.out z.ensures
+    (subst (λ (x : Printed). PrintsSheet seen hour.result x z.result p.new.out) c.in-R8.is p.ensures)

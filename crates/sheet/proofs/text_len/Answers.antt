@@ -1,7 +1,6 @@
-use Prim.Native.Nat.{◌-◌}
 use native.Mathlib.Omega.{arith}
 use borrow.Author.Rules.{rules}
-use Rattle.sheet.proofs.Days.{Measured, measured-none, measured-more, measured-all}
+use Rattle.sheet.proofs.Days.{measured-none, measured-more, measured-all}
 use Rattle.sheet.proofs.text_len.Goals as goal
 
 pub loop-k-init : goal.loop-k-init

@@ -1,7 +1,5 @@
 use Prim.Native.Nat.{◌-◌}
-use native.Mathlib.Omega.{arith}
-use borrow.Author.Rules.{rules}
-use Rattle.sheet.proofs.Days.{Measured, measured-none, measured-more, measured-all}
+use Rattle.sheet.proofs.Days.{Measured}
 use Rattle.sheet.proofs.text_len.Given as goal
 
 abbrev pub invariant-loop-k : goal.invariant-loop-k

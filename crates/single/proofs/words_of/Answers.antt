@@ -3,7 +3,6 @@ use mathlib.Core.Path.{◌≡◌, sym, ap, ◌∙◌}
 use Prim.Native.Nat.{ℕ, ◌/◌, ◌%◌}
 use mir.Syntax.{w32}
 use mir.ValLaws.{to_z-of_z}
-use borrow.Author.Rules.{rules}
 use Rattle.single.specs.Single.{InRange, bits_of, words_of}
 use Rattle.single.specs.Exact.{inside, outside}
 use Rattle.single.specs.declared.Single.{Single}

@@ -2,7 +2,6 @@ use mathlib.Core.Path.{sym}
 use mathlib.Core.List.{List}
 use Prim.Native.Nat.{ℕ}
 use lib.ListN.{get_or-eq_default}
-use borrow.Author.Rules.{rules}
 use Rattle.text.proofs.byte_at.Goals as goal
 
 pub returns-else-at-s : goal.returns-else-at-s

@@ -1,8 +1,6 @@
 use native.Mathlib.Omega.{arith}
-use mathlib.Core.Path.{◌≡◌, ap}
-use Prim.Native.Nat.{◌+◌}
+use mathlib.Core.Path.{ap}
 use lib.ListN.{length}
-use Rattle.laws.specs.Decimal.{decimal}
 use Rattle.laws.specs.DecimalLaws.{decimal-small, decimal-more, decimal-some, decimal-length}
 use Rattle.text.proofs.decimal_len.Goals as goal
 

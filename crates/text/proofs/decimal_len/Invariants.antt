@@ -1,10 +1,8 @@
 -- The digits counted and those of the quotient that is left are one more than those of n.
-use native.Mathlib.Omega.{arith}
-use mathlib.Core.Path.{◌≡◌, ap}
+use mathlib.Core.Path.{◌≡◌}
 use Prim.Native.Nat.{◌+◌}
 use lib.ListN.{length}
 use Rattle.laws.specs.Decimal.{decimal}
-use Rattle.laws.specs.DecimalLaws.{decimal-small, decimal-more, decimal-some, decimal-length}
 use Rattle.text.proofs.decimal_len.Given as goal
 
 abbrev pub invariant-loop-v : goal.invariant-loop-v

@@ -5,7 +5,6 @@ use lib.ListN.{length}
 use Rattle.laws.specs.Decimal.{number_at}
 use Rattle.text.specs.Scan.{TAB, field_at}
 use Rattle.text.specs.ScanLaws.{byte_inside, expect-hit, expect-miss}
-use borrow.Author.Rules.{rules}
 use Rattle.text.proofs.field_at.Goals as goal
 use Rattle.text.proofs.field_at.Goals.{Else-byte_at-ne-TAB}
 

@@ -1,4 +1,3 @@
-use borrow.Author.Rules.{rules}
 use mathlib.Core.Path.{sym}
 use Rattle.laws.specs.DecimalLaws.{glyph-low, glyph-high}
 use Rattle.text.proofs.hex_digit.Goals as goal

@@ -4,19 +4,18 @@ use mathlib.Core.List.{List}
 use Prim.Native.Nat.{ℕ, ◌+◌, ◌*◌, ◌-◌, ◌≤◌, ◌<◌}
 use native.Mathlib.Omega.{arith}
 use lib.ListN.{length, get_or, drop}
-use borrow.Author.Rules.{rules}
-use borrow.Author.Tests.{not-true, not-false, lt-ltb, le-ltb}
-use Rattle.laws.specs.Pick.{pick-t, pick-f, so}
-use Rattle.laws.specs.Decimal.{is_digit, number_at}
+use borrow.Author.Tests.{lt-ltb, le-ltb}
+use Rattle.laws.specs.Pick.{pick-t, pick-f}
+use Rattle.laws.specs.Decimal.{is_digit}
 use Rattle.laws.specs.DecimalLaws.{digit-range}
 use Rattle.text.specs.ScanLaws.{byte_inside}
 use Rattle.text.proofs.Scanning.{onward, digits-digit, digits-end, number-none, number-zero, number_digits}
 use Rattle.text.proofs.number_at.Goals as goal
-use Rattle.text.proofs.number_at.Goals.{At-loop-v, Else-not-is_digit, Else-not-is_digit-2}
+use Rattle.text.proofs.number_at.Goals.{Else-not-is_digit, Else-not-is_digit-2}
 
 -- the first byte: a digit, and so one of the bytes
 begins : (c : Else-not-is_digit) → is_digit c.byte_at-first.result ≡ true
-begins c = so c.is_digit.ensures (not-false _ c.if-not-is_digit.false-raw)
+begins c = sym c.is_digit.ensures ∙ c.if-not-is_digit.false
 
 abbrev S : Else-not-is_digit → List ℕ
 S c = c.args.s.now
@@ -32,22 +31,19 @@ inside c =
 
 -- a byte on the way
 digit : (c : Else-not-is_digit-2) → is_digit c.byte_at-b.result ≡ true
-digit c = so c.is_digit-in-loop-v.ensures (not-false _ c.if-not-is_digit-2.false-raw)
+digit c = sym c.is_digit-in-loop-v.ensures ∙ c.if-not-is_digit-2.false
 
-abbrev head : Else-not-is_digit-2 → At-loop-v
-head c = c.AT-At-loop-v
-
-within : (c : Else-not-is_digit-2) → (head c).loop-v.i < length (S (head c).before.before)
+within : (c : Else-not-is_digit-2) → c.loop-v.i < length c.args.s.now
 within c =
     let r = digit-range _ (digit c) in
     let e = c.byte_at-b.ensures in
-    byte_inside (S (head c).before.before) (head c).loop-v.i (omega arith)
+    byte_inside c.args.s.now c.loop-v.i (omega arith)
 
 pub returns-then-not-is_digit : goal.returns-then-not-is_digit
 returns-then-not-is_digit c =
     let s = c.args.s.now in
     let at = c.args.at in
-    let n = so c.is_digit.ensures (not-true _ c.if-not-is_digit.true-raw) in
+    let n = sym c.is_digit.ensures ∙ c.if-not-is_digit.true in
     record { reads = number-none _ s at (ap is_digit (sym c.byte_at-first.ensures) ∙ n); inside = omega arith }
 
 pub overflow_add-result : goal.overflow_add-result
@@ -82,7 +78,7 @@ loop-v-init c =
 pub returns-then-not-is_digit-2 : goal.returns-then-not-is_digit-2
 unfolding onward
 returns-then-not-is_digit-2 c =
-    let n = so c.is_digit-in-loop-v.ensures (not-true _ c.if-not-is_digit-2.true-raw) in
+    let n = sym c.is_digit-in-loop-v.ensures ∙ c.if-not-is_digit-2.true in
     let d = ap is_digit (sym c.byte_at-b.ensures) ∙ n in
     let h = c.loop-v in
     record { reads = h.invariant.2 ∙ pick-f _ _ _ (le-ltb _ _ c.loop-v-test.true) ∙ digits-end _ _ (S (goal.at.returns-then-not-is_digit-2 c).Else-not-is_digit) h.i d; inside = h.invariant.0 }
@@ -108,9 +104,9 @@ loop-v-preserved c =
     let r = digit-range _ (digit c) in
     let e = c.byte_at-b.ensures in
     let l = within c in
-    let h = (head c).loop-v in
-    let s = S (head c).before.before in
-    let m = (head c).args.most in
+    let h = c.loop-v in
+    let s = c.args.s.now in
+    let m = c.args.most in
     let d = ap is_digit (sym e) ∙ digit c in (
       omega arith,
       omega arith,

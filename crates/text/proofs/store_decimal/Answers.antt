@@ -1,10 +1,8 @@
-use borrow.Author.Rules.{rules}
 use native.Mathlib.Omega.{arith}
-use mathlib.Core.Path.{◌≡◌, refl, ap}
+use mathlib.Core.Path.{refl, ap}
 use mathlib.Core.List.{[]}
-use Prim.Native.Nat.{◌+◌, ◌<◌, ◌/◌}
+use Prim.Native.Nat.{◌/◌}
 use lib.ListN.{length, length-set}
-use lib.Seq.{sets}
 use Rattle.laws.specs.Decimal.{decimal}
 use Rattle.laws.specs.DecimalLaws.{decimal-small, decimal_step, decimal-more, decimal-some}
 use Rattle.text.proofs.Laws.{store-last}

@@ -1,14 +1,9 @@
 -- What is left to store gives the whole: the digits of v, the last of them at p.
-use borrow.Author.Rules.{rules}
-use native.Mathlib.Omega.{arith}
-use mathlib.Core.Path.{◌≡◌, refl, ap}
-use mathlib.Core.List.{[]}
-use Prim.Native.Nat.{◌+◌, ◌<◌, ◌/◌}
-use lib.ListN.{length, length-set}
+use mathlib.Core.Path.{◌≡◌}
+use Prim.Native.Nat.{◌+◌, ◌<◌}
+use lib.ListN.{length}
 use lib.Seq.{sets}
 use Rattle.laws.specs.Decimal.{decimal}
-use Rattle.laws.specs.DecimalLaws.{decimal-small, decimal_step, decimal-more, decimal-some}
-use Rattle.text.proofs.Laws.{store-last}
 use Rattle.text.proofs.store_decimal.Given as goal
 
 abbrev pub invariant-loop-v : goal.invariant-loop-v

@@ -1,13 +1,9 @@
 -- What is left to store gives the whole: the last k digits of v.
-use native.Mathlib.Omega.{arith}
-use mathlib.Core.Path.{◌≡◌, refl, sym, ap, ◌∙◌}
-use mathlib.Core.List.{[]}
-use Prim.Native.Nat.{ℕ, ◌+◌, ◌-◌, ◌≤◌, ◌<◌, ◌/◌, ◌%◌}
-use lib.ListN.{length, length-set}
+use mathlib.Core.Path.{◌≡◌}
+use Prim.Native.Nat.{◌≤◌}
+use lib.ListN.{length}
 use lib.Seq.{sets}
-use Rattle.laws.specs.Decimal.{glyph, hex_of}
-use Rattle.laws.specs.DecimalLaws.{hex-length}
-use Rattle.text.proofs.Laws.{store-last, hex-step, hex-none}
+use Rattle.laws.specs.Decimal.{hex_of}
 use Rattle.text.proofs.store_hex.Given as goal
 
 abbrev pub invariant-loop-k : goal.invariant-loop-k

@@ -1,11 +1,10 @@
 use mathlib.Core.Path.{refl, ap}
 use mathlib.Core.List.{List}
-use Rattle.weekly.specs.Counted.{slot, box_row}
+use Rattle.weekly.specs.Counted.{box_row}
 use Rattle.weekly.specs.declared.Slot.{Slot}
 use Rattle.weekly.specs.declared.Slots.{Slots}
-use Prim.Native.Nat.{◌-◌}
 use borrow.Author.Rules.{rules}
-use Rattle.weekly.proofs.Filled.{Mapped, mapped-none, mapped-more, mapped-all}
+use Rattle.weekly.proofs.Filled.{mapped-none, mapped-more, mapped-all}
 use Rattle.weekly.proofs.box_row.Goals as goal
 
 slots : List Slot → Slots

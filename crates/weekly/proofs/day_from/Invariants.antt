@@ -1,6 +1,5 @@
 use Prim.Native.Nat.{◌-◌}
-use borrow.Author.Rules.{rules}
-use Rattle.weekly.proofs.Passed.{Through, through-none, through-room, through-more, through-day}
+use Rattle.weekly.proofs.Passed.{Through}
 use Rattle.weekly.proofs.day_from.Given as goal
 
 abbrev pub invariant-loop-h : goal.invariant-loop-h

@@ -1,8 +1,7 @@
 use mathlib.Core.Path.{◌∙◌}
-use Prim.Native.Nat.{◌-◌}
 use borrow.Author.Rules.{rules}
-use Rattle.weekly.proofs.Filled.{Mapped, mapped-none, mapped-more, mapped-all}
-use Rattle.weekly.proofs.Passed.{day_in, row-whole, days-in}
+use Rattle.weekly.proofs.Filled.{mapped-none, mapped-more, mapped-all}
+use Rattle.weekly.proofs.Passed.{row-whole, days-in}
 use Rattle.weekly.proofs.days_from.Goals as goal
 
 pub loop-d-init : goal.loop-d-init

@@ -1,8 +1,6 @@
-use mathlib.Core.Path.{◌∙◌}
 use Prim.Native.Nat.{◌-◌}
-use borrow.Author.Rules.{rules}
-use Rattle.weekly.proofs.Filled.{Mapped, mapped-none, mapped-more, mapped-all}
-use Rattle.weekly.proofs.Passed.{day_in, row-whole, days-in}
+use Rattle.weekly.proofs.Filled.{Mapped}
+use Rattle.weekly.proofs.Passed.{day_in}
 use Rattle.weekly.proofs.days_from.Given as goal
 
 abbrev pub invariant-loop-d : goal.invariant-loop-d

@@ -1,12 +1,10 @@
-use Prim.Native.Nat.{◌-◌}
 use borrow.Author.Rules.{rules}
-use lib.ListN.{length-map}
-use Rattle.weekly.specs.Says.{row_in, hours_in}
-use Rattle.weekly.proofs.Filled.{Mapped, mapped-none, mapped-more, mapped-all}
+use Rattle.weekly.specs.Says.{hours_in}
+use Rattle.weekly.proofs.Filled.{mapped-none, mapped-more, mapped-all}
 use Rattle.weekly.proofs.hours_in.Goals as goal
 
 pub loop-d-init : goal.loop-d-init
-loop-d-init c = mapped-none _ _ 7 _ (search rules) (simp length-map at c.well_formed.0.1.1.1.0.1.0.1)
+loop-d-init c = mapped-none _ _ 7 _ (search rules) (search rules)
 
 pub loop-d-preserved : goal.loop-d-preserved
 loop-d-preserved c = mapped-more _ _ 7 _ _ _ _ c.loop-d.invariant (search rules) c.row_in.ensures

@@ -1,9 +1,6 @@
-use Prim.Native.Nat.{ℕ, ◌+◌, ◌-◌}
 use borrow.Author.Rules.{rules}
-use Rattle.hourly.specs.Says.{says_hour}
-use Rattle.hourly.specs.Tally.{hour_among}
 use Rattle.weekly.specs.Week.{day_by}
-use Rattle.weekly.proofs.Filled.{Filled, filled_none, filled_more, filled-all}
+use Rattle.weekly.proofs.Filled.{filled_none, filled_more, filled-all}
 use Rattle.weekly.proofs.row_at.Goals as goal
 
 pub loop-h-init : goal.loop-h-init

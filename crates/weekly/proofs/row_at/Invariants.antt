@@ -1,9 +1,7 @@
 use Prim.Native.Nat.{ℕ, ◌+◌, ◌-◌}
-use borrow.Author.Rules.{rules}
 use Rattle.hourly.specs.Says.{says_hour}
 use Rattle.hourly.specs.Tally.{hour_among}
-use Rattle.weekly.specs.Week.{day_by}
-use Rattle.weekly.proofs.Filled.{Filled, filled_none, filled_more, filled-all}
+use Rattle.weekly.proofs.Filled.{Filled}
 use Rattle.weekly.proofs.row_at.Given as goal
 
 abbrev pub invariant-loop-h : goal.invariant-loop-h

@@ -1,9 +1,6 @@
-use mathlib.Core.Path.{◌≡◌, refl}
-use Rattle.weekly.specs.Says.{hour_in, row_in}
+use Rattle.weekly.specs.Says.{hour_in}
 use Prim.Native.Nat.{◌-◌}
-use borrow.Author.Rules.{rules}
-use lib.ListN.{length, length-map}
-use Rattle.weekly.proofs.Filled.{Mapped, mapped-none, mapped-more, mapped-all}
+use Rattle.weekly.proofs.Filled.{Mapped}
 use Rattle.weekly.proofs.row_in.Given as goal
 
 abbrev pub invariant-loop-h : goal.invariant-loop-h

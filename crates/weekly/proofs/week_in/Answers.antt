@@ -1,4 +1,3 @@
-use borrow.Author.Rules.{rules}
 use Rattle.weekly.proofs.Made.{late-week, made-week}
 use Rattle.weekly.proofs.week_in.Goals as goal
 

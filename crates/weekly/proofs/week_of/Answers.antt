@@ -1,6 +1,5 @@
 use mathlib.Core.Path.{ap, sym, ◌∙◌}
 use native.Mathlib.Omega.{arith}
-use borrow.Author.Rules.{rules}
 use Rattle.hourly.specs.Says.{says_judged}
 use Rattle.hourly.specs.TallyLaws.{Found, found_of, found-accepted, counts-tell}
 use Rattle.weekly.proofs.Made.{week-made, week-refused}

@@ -1,12 +1,11 @@
 use mathlib.Core.Path.{ap}
 use mathlib.Core.List.{List}
-use Prim.Native.Nat.{◌-◌}
 use borrow.Author.Rules.{rules}
-use Rattle.weekly.specs.Counted.{box_row, weekly_of}
+use Rattle.weekly.specs.Counted.{weekly_of}
 use Rattle.weekly.specs.declared.Said.{Said}
 use Rattle.weekly.specs.declared.Slots.{Slots}
 use Rattle.weekly.specs.declared.Weekly.{Weekly}
-use Rattle.weekly.proofs.Filled.{Mapped, mapped-none, mapped-more, mapped-all}
+use Rattle.weekly.proofs.Filled.{mapped-none, mapped-more, mapped-all}
 use Rattle.weekly.proofs.weekly_from.Goals as goal
 
 answering : Said → List Slots → Weekly

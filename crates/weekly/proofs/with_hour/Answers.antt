@@ -1,6 +1,5 @@
 use mathlib.Core.Path.{sym, ap, subst}
 use Prim.Native.Nat.{◌+◌, ◌^◌, ◌<◌}
-use borrow.Author.Rules.{rules}
 use Rattle.hourly.specs.Says.{says_hour}
 use Rattle.hourly.specs.declared.Hour.{Hour}
 use Rattle.weekly.specs.Counted.{sum_in, Whole, with_hour}

@@ -1,4 +1,3 @@
-use borrow.Author.Rules.{rules}
 use Rattle.laws.specs.Pick.{picks}
 use Rattle.window.proofs.grown.Goals as goal
 

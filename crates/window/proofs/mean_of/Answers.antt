@@ -15,7 +15,6 @@ use Rattle.window.specs.Window.{places, held_of}
 use Rattle.window.specs.MeanLaws.{mean-none}
 use Rattle.window.proofs.Sum.{take-least}
 use Rattle.window.proofs.mean_of.Goals as goal
-use Rattle.window.proofs.mean_of.Goals.{After-fewest-there}
 
 swapped : (i : ℕ) → min places i ≡ min i places
 swapped i = omega arith
@@ -57,25 +56,22 @@ module _ (s : List ℤ) (held n t k : ℕ) (e : t ≡ min held (min (length s) p
 
 pub returns-then-count-eq0 : goal.returns-then-count-eq0
 returns-then-count-eq0 c =
-    let f = (goal.at.returns-then-count-eq0 c).After-fewest-there in
-    let a = f.args in
+    let a = c.args in
     sym mean-none
-    ∙ ap mean_of (none a.samples.now a.held a.n f.fewest-there.result c.fewest-count.result f.fewest-there.ensures c.fewest-count.ensures c.if-count-eq0.true)
+    ∙ ap mean_of (none a.samples.now a.held a.n c.fewest-there.result c.fewest-count.result c.fewest-there.ensures c.fewest-count.ensures c.if-count-eq0.true)
 
 pub mean_of_first-requires : goal.mean_of_first-requires
 mean_of_first-requires c =
-    let f = (goal.at.mean_of_first-requires c).After-fewest-there in
-    let a = f.args in
+    let a = c.args in
     let k = c.fewest-count in
     let h : 0 < k.result = some k.result c.if-count-eq0.false in
-    (omega (arith, h), most a.samples.now a.held a.n f.fewest-there.result _ f.fewest-there.ensures k.ensures, long a.samples.now a.held a.n f.fewest-there.result _ f.fewest-there.ensures k.ensures)
+    (omega (arith, h), most a.samples.now a.held a.n c.fewest-there.result _ c.fewest-there.ensures k.ensures, long a.samples.now a.held a.n c.fewest-there.result _ c.fewest-there.ensures k.ensures)
 
 pub returns : goal.returns
 returns c =
     let k = c.fewest-count in
-    let f = (goal.at.returns c).After-fewest-there in
-    let a = f.args in
+    let a = c.args in
     let fits : SFits w32 c.mean_of_first.result = search rules in
     to_z-of_z fits
     ∙ c.mean_of_first.ensures
-    ∙ ap mean_of (sym (first a.samples.now a.held a.n f.fewest-there.result k.result f.fewest-there.ensures k.ensures))
+    ∙ ap mean_of (sym (first a.samples.now a.held a.n c.fewest-there.result k.result c.fewest-there.ensures k.ensures))

@@ -1,16 +1,11 @@
 -- What is left of the samples, seen beside what was seen, is all of them.
-use mathlib.Core.Path.{◌≡◌, refl, ◌∙◌}
-use Prim.Native.Nat.{◌-◌, ◌≤◌, ◌<◌}
-use native.Mathlib.Omega.{arith}
+use mathlib.Core.Path.{◌≡◌}
+use Prim.Native.Nat.{◌-◌, ◌≤◌}
 use lib.IntN.{pos}
-use lib.ListN.{length, get_or}
+use lib.ListN.{get_or}
 use lib.Seq.{slice}
-use mir.Syntax.{w32}
-use mir.Val.{SFits}
-use mir.Facts.{to_z-of_z}
 use Rattle.window.specs.Range.{AllI32}
-use Rattle.window.specs.Pass.{start_of, with_of, passed}
-use Rattle.window.proofs.Told.{one-passed, one-all, all-passed}
+use Rattle.window.specs.Pass.{start_of, passed}
 use Rattle.window.proofs.pass.Given as goal
 
 abbrev pub invariant-loop-k : goal.invariant-loop-k

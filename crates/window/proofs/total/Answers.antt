@@ -1,10 +1,11 @@
 use mathlib.Core.Path.{◌≡◌}
 use mathlib.Core.List.{List}
-use Prim.Native.Nat.{ℕ, ◌+◌, ◌-◌, ◌≤◌}
+use Prim.Native.Nat.{ℕ, ◌+◌}
 use native.Mathlib.Omega.{arith}
 use native.Mathlib.Numerals.{add-one}
 use lib.IntN.{ℤ, pos, ◌+ℤ◌}
 use lib.ListN.{take, get_or, length-take}
+use borrow.Author.Rules.{rules}
 use mir.Syntax.{w32, w64}
 use mir.Val.{to_z, SFits}
 use mir.Facts.{to_z-of_z, sfits_widen}
@@ -32,19 +33,16 @@ module _ (c : After-x-1) where
   s = to_z w64 c.loop-k.sum-bits
 
   narrow : SFits w32 x
-  narrow = record { sfits = c.x-1.given }
+  narrow = search rules
 
   wide : SFits w64 x
   wide = sfits_widen tt narrow
 
   more : Total (take (k + 1) xs) (s +ℤ x)
-  more = rw add-one (total-more xs k s c.loop-k.invariant.1 c.x-1.given)
+  more = rw add-one (total-more xs k s c.loop-k.invariant.1 narrow.sfits)
 
   fits : SFits w64 (s +ℤ x)
   fits = fits64 (s +ℤ x) (omega (arith, total_size (take (k + 1) xs) (s +ℤ x) more, length-take (k + 1) xs))
-
-pub overflow_cast-sum : goal.overflow_cast-sum
-overflow_cast-sum c = rw (to_z-of_z (narrow c)) (wide c)
 
 pub overflow_add-sum : goal.overflow_add-sum
 overflow_add-sum c = rw (to_z-of_z (narrow c), to_z-of_z (wide c)) (fits c)

@@ -1,4 +1,3 @@
-use borrow.Author.Rules.{rules}
 use Rattle.modbus.specs.Asks.{address_good}
 use Rattle.modbus.proofs.asks.address_good.Goals as goal
 

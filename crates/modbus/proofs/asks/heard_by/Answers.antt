@@ -1,6 +1,4 @@
 use mathlib.Core.Path.{sym, ap, ◌∙◌}
-use borrow.Author.Rules.{rules}
-use borrow.Author.Tests.{not-true, not-false}
 use Rattle.laws.specs.Pick.{pick-t, pick-f}
 use Rattle.modbus.specs.Asks.{heard_by, heard_by_all}
 use Rattle.modbus.specs.Says.{asks_of}
@@ -10,13 +8,13 @@ use Rattle.modbus.proofs.asks.heard_by.Goals as goal
 
 pub returns-then-not-everyone : goal.returns-then-not-everyone
 unfolding heard_by
-returns-then-not-everyone c = sym (pick-f _ _ _ (not-true _ c.if-not-everyone.true-raw))
+returns-then-not-everyone c = sym (pick-f _ _ _ c.if-not-everyone.true)
 
 pub returns-in_default : goal.returns-in_default
 unfolding heard_by
-returns-in_default c = sym (pick-t _ _ _ (not-false _ c.if-not-everyone.false-raw) ∙ not-link c.args.ask c.match.keys2)
+returns-in_default c = sym (pick-t _ _ _ c.if-not-everyone.false ∙ not-link c.args.ask c.in_default.not-Link)
 
 pub returns : goal.returns
 unfolding heard_by heard_by_all
 returns c =
-    sym (pick-t _ _ _ (not-false _ c.if-not-everyone.false-raw) ∙ ap (λ (a : Ask). heard_by_all (asks_of a)) c.in-Link.is)
+    sym (pick-t _ _ _ c.if-not-everyone.false ∙ ap (λ (a : Ask). heard_by_all (asks_of a)) c.in-Link.is)

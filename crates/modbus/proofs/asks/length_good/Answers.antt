@@ -1,5 +1,4 @@
 use mathlib.Core.Path.{sym}
-use borrow.Author.Rules.{rules}
 use Rattle.laws.specs.Pick.{pick-t, pick-f}
 use Rattle.modbus.specs.Asks.{length_good, function_of}
 use Rattle.modbus.proofs.asks.length_good.Goals as goal

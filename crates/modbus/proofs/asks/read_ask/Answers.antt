@@ -1,6 +1,5 @@
 use mathlib.Core.Path.{sym, ◌∙◌}
 use native.Mathlib.Omega.{arith}
-use borrow.Author.Rules.{rules}
 use Rattle.modbus.specs.AsksLaws.{few, many, beyond, inside}
 use Rattle.modbus.proofs.asks.read_ask.Goals as goal
 

@@ -1,4 +1,3 @@
-use borrow.Author.Rules.{rules}
 use Rattle.modbus.specs.Asks.{word_at}
 use Rattle.modbus.proofs.asks.word_at.Goals as goal
 

@@ -1,6 +1,5 @@
 use mathlib.Core.Path.{sym, ◌∙◌}
 use native.Mathlib.Omega.{arith}
-use borrow.Author.Rules.{rules}
 use Rattle.modbus.specs.AsksLaws.{unwritten, large, written}
 use Rattle.modbus.proofs.asks.write_ask.Goals as goal
 

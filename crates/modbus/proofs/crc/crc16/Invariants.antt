@@ -1,11 +1,8 @@
 -- The bytes from place i on still enter.
-use mathlib.Core.Path.{◌≡◌, refl, sym, ap, ◌∙◌}
-use Prim.Native.Nat.{ℕ, ◌+◌, ◌-◌, ◌≤◌}
-use native.Mathlib.Omega.{arith}
-use borrow.Author.Rules.{rules}
-use lib.ListN.{length, drop, drop_of_length-le}
+use mathlib.Core.Path.{◌≡◌}
+use Prim.Native.Nat.{◌-◌, ◌≤◌}
+use lib.ListN.{length, drop}
 use Rattle.modbus.specs.Crc.{enter_all, crc}
-use Rattle.modbus.proofs.Laws.{enter_all-step}
 use Rattle.modbus.proofs.crc.crc16.Given as goal
 
 abbrev pub invariant-loop-i : goal.invariant-loop-i

@@ -1,10 +1,7 @@
 -- 8 - k shifts are still to come.
-use mathlib.Core.Path.{◌≡◌, refl, sym, ap, ◌∙◌}
-use Prim.Native.Nat.{◌+◌, ◌-◌, ◌≤◌}
-use native.Mathlib.Omega.{arith}
-use borrow.Author.Rules.{rules}
+use mathlib.Core.Path.{◌≡◌}
+use Prim.Native.Nat.{◌-◌, ◌≤◌}
 use Rattle.modbus.specs.Crc.{shifts, enter}
-use Rattle.modbus.proofs.Laws.{shifts-step, shifts-end}
 use Rattle.modbus.proofs.crc.enter.Given as goal
 
 abbrev pub invariant-loop-k : goal.invariant-loop-k

@@ -1,4 +1,3 @@
-use borrow.Author.Rules.{rules}
 use Rattle.modbus.specs.Replies.{link_after}
 use Rattle.modbus.proofs.replies.link_after.Goals as goal
 

@@ -1,4 +1,3 @@
-use borrow.Author.Rules.{rules}
 use Rattle.modbus.specs.Replies.{link_after}
 use Rattle.modbus.proofs.Laws.{not-write}
 use Rattle.modbus.proofs.replies.link_by.Goals as goal
@@ -8,4 +7,4 @@ unfolding link_after
 returns-in-Link c = rw c.in-Link.is
 
 pub returns : goal.returns
-returns c = not-write c.args.ask c.args.now c.match.keys2
+returns c = not-write c.args.ask c.args.now c.in_default.not-Link

@@ -1,8 +1,7 @@
-use mathlib.Core.Path.{◌≡◌, refl, sym, ◌∙◌}
-use Prim.Native.Nat.{◌-◌, ◌≤◌}
+use mathlib.Core.Path.{refl, sym, ◌∙◌}
+use Prim.Native.Nat.{◌≤◌}
 use native.Mathlib.Omega.{arith}
-use lib.ListN.{length, drop, length-set, drop_of_length-le}
-use lib.Seq.{sets}
+use lib.ListN.{length, length-set, drop_of_length-le}
 use Rattle.modbus.proofs.Laws.{bytes-step}
 use Rattle.modbus.proofs.replies.put_bytes.Goals as goal
 use Rattle.modbus.proofs.replies.put_bytes.Goals.{At-loop-i}

@@ -1,11 +1,9 @@
 -- The words from place i on are still to be put.
-use mathlib.Core.Path.{◌≡◌, refl, sym, ◌∙◌}
+use mathlib.Core.Path.{◌≡◌}
 use Prim.Native.Nat.{◌+◌, ◌-◌, ◌*◌, ◌≤◌}
-use native.Mathlib.Omega.{arith}
-use lib.ListN.{length, drop, length-set, drop_of_length-le}
+use lib.ListN.{length, drop}
 use lib.Seq.{sets}
 use Rattle.modbus.specs.Replies.{word_bytes}
-use Rattle.modbus.proofs.Laws.{words_step}
 use Rattle.modbus.proofs.replies.put_words.Given as goal
 
 abbrev pub invariant-loop-i : goal.invariant-loop-i

@@ -5,22 +5,20 @@ use borrow.Author.Rules.{rules}
 use Rattle.modbus.specs.Replies.{reply_body, reply_of}
 use Rattle.modbus.proofs.Laws.{asked-part}
 use Rattle.modbus.proofs.replies.reply.Goals as goal
-use Rattle.modbus.proofs.replies.reply.Goals.{In-Registers-1}
 
 pub returns-in-Registers : goal.returns-in-Registers
 unfolding reply_of reply_body
 returns-in-Registers c =
-    let at-ask = (goal.at.returns-in-Registers c).In-Registers-1 in
-    let words = at-ask.args.t2 in
+    let words = c.args.words in
     let size : length words ≡ 11 = search rules in
     let from = c.before-from in
     let to = c.before-to in
-    let first = at-ask.in-Registers.start in
-    let quantity = at-ask.in-Registers.quantity in
+    let first = c.in-Registers.start in
+    let quantity = c.in-Registers.quantity in
     let part : take (to.result - from.result) (drop from.result words) ≡ take quantity (drop first words) =
     ap₂ (λ (a b : ℕ). take (b - a) (drop a words)) (from.ensures ∙ ap (min first) (sym size)) (to.ensures ∙ ap (min (first + quantity)) (sym size))
     ∙ asked-part words first quantity in
-    rw at-ask.in-Registers.is (rw part at c.send_registers.ensures)
+    rw c.in-Registers.is (rw part at c.send_registers.ensures)
 
 pub returns-in-Link : goal.returns-in-Link
 unfolding reply_of reply_body

@@ -3,7 +3,6 @@ use Prim.Native.Nat.{◌+◌, ◌≤◌}
 use native.Mathlib.Omega.{arith}
 use lib.ListN.{length, length-set}
 use lib.Seq.{length-sets}
-use borrow.Author.Rules.{rules}
 use Rattle.laws.specs.Over.{sets_over}
 use Rattle.paper.specs.AnswerLaws.{fills-refused, fills-done}
 use Rattle.modbus.specs.Crc.{sealed}

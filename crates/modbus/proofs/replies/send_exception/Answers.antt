@@ -1,4 +1,3 @@
-use borrow.Author.Rules.{rules}
 use Rattle.modbus.specs.Replies.{exception_body}
 use Rattle.modbus.proofs.replies.send_exception.Goals as goal
 

@@ -1,4 +1,3 @@
-use borrow.Author.Rules.{rules}
 use Rattle.modbus.specs.Replies.{link_body}
 use Rattle.modbus.proofs.Laws.{flag-byte}
 use Rattle.modbus.proofs.replies.send_link.Goals as goal

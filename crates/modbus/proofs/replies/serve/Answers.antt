@@ -1,6 +1,5 @@
 use mathlib.Core.Path.{refl}
 use mathlib.Core.List.{[]}
-use borrow.Author.Rules.{rules}
 use Rattle.laws.specs.Pick.{pick, pick-t}
 use Rattle.laws.specs.Over.{over}
 use Rattle.paper.specs.AnswerLaws.{fills-done}

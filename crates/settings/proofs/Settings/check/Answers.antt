@@ -1,49 +1,30 @@
-use mathlib.Core.Path.{◌≡◌, refl, sym, ◌∙◌}
-use mathlib.Core.List.{map}
-use Prim.Native.Nat.{ℕ, ◌-◌, ◌≤◌, ◌<◌}
+use mathlib.Core.Path.{refl, sym, ◌∙◌}
+use Prim.Native.Nat.{◌<◌}
 use native.Mathlib.Omega.{arith}
 use native.Mathlib.Numerals.{add-one}
-use borrow.Author.Rules.{rules}
-use Rattle.settings.specs.Table.{table, first_bad}
-use Rattle.settings.specs.Columns.{value_of, range_of}
-use Rattle.settings.specs.Named.{Out}
-use Rattle.settings.specs.declared.Settings.{Settings}
-use Rattle.settings.proofs.Steps.{from_place, row_at, passed, named, ended, in-at, out_at}
+use Rattle.settings.specs.Table.{first_bad}
+use Rattle.settings.proofs.Steps.{passed, named, ended, in-at, out_at}
 use Rattle.settings.proofs.Settings.check.Goals as goal
-use Rattle.settings.proofs.Settings.check.Goals.{After-ranges-ranges, After-values-values, At-loop-i, Then-value-range}
 
 pub loop-i-init : goal.loop-i-init
 unfolding first_bad
 loop-i-init c = (omega arith, λ s v r. refl)
 
--- at the return of a named row
-module _ (c : Then-value-range) where
-  abbrev s : Settings
-  s = c.args.self
-
-  abbrev i : ℕ
-  i = c.loop-i.i
-
-  below : i < 18
-  below = c.loop-i-test.true
-
-  out : Out (row_at s i)
-  out =
-      let d = c.AT-After-ranges-ranges in
-      out_at s i below d.values-values.ensures d.ranges-2.ensures c.if-value-range.true
-
 pub returns-then-value-range : goal.returns-then-value-range
 returns-then-value-range c =
-    let d = (goal.at.returns-then-value-range c).After-ranges-ranges in
-    sym (c.loop-i.invariant.1 (s c) d.values-values.ensures d.ranges-2.ensures ∙ named (s c) (i c) (below c) (out c))
+    let s = c.args.self in
+    let i = c.loop-i.i in
+    let below : i < 18 = c.loop-i-test.true in
+    let v = c.values-values.ensures in
+    let r = c.ranges-ranges.ensures in
+    sym (c.loop-i.invariant.1 s v r ∙ named s i below (out_at s i below v r c.if-value-range.true))
 
 pub loop-i-preserved : goal.loop-i-preserved
 loop-i-preserved c =
-    let d = (goal.at.loop-i-preserved c).At-loop-i in
-    let h : d.loop-i.i < 18 = omega arith in
-    (omega arith, λ s v r. rw add-one (d.loop-i.invariant.1 s v r ∙ passed s d.loop-i.i h (in-at s d.loop-i.i h v r c.if-value-range.false)))
+    let i = c.loop-i.i in
+    let h : i < 18 = c.loop-i-test.true in
+    (omega arith, λ s v r. rw add-one (c.loop-i.invariant.1 s v r ∙ passed s i h (in-at s i h v r c.if-value-range.false)))
 
 pub returns : goal.returns
 returns c =
-    let d = (goal.at.returns c).After-values-values in
-    sym (c.loop-i.invariant.1 d.args.self d.values-values.ensures c.ranges-2.ensures ∙ ended _ c.loop-i.i (omega arith))
+    sym (c.loop-i.invariant.1 c.args.self c.values-values.ensures c.ranges-ranges.ensures ∙ ended _ c.loop-i.i c.loop-i-test.false)

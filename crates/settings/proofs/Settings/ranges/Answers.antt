@@ -1,7 +1,6 @@
 use mathlib.Core.Path.{ap}
 use mathlib.Core.List.{◌∷◌, ◌++◌, map}
 use lib.ListN.{take, drop}
-use borrow.Author.Rules.{rules}
 use Rattle.settings.specs.Table.{table}
 use Rattle.settings.specs.Columns.{range_of}
 use Rattle.settings.specs.declared.Range.{Range}

@@ -1,0 +1,6 @@
+use Rattle.acts.proofs.Making.{acts-restart}
+use borrow.Author.Rules.{rules}
+use Rattle.acts.proofs.restart.Goals as goal
+
+pub returns : goal.returns
+returns c = acts-restart c.restart-restarted.result c.requires c.restart-restarted.ensures c.in_use-next.ensures

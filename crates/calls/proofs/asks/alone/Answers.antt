@@ -1,0 +1,21 @@
+use mathlib.Core.Path.{sym, ap, ◌∙◌}
+use mathlib.Core.List.{List}
+use Prim.Native.Nat.{ℕ}
+use native.Mathlib.Omega.{arith}
+use Rattle.operands.specs.Parsing.{on-good, on-bad, good-as}
+use Rattle.calls.specs.Call.{bytes_call}
+use Rattle.calls.specs.Reading.{room_call}
+use Rattle.calls.proofs.Steps.{unasked, asked, some_bytes, no_bytes, whole, few}
+use Rattle.calls.proofs.asks.alone.Goals as goal
+
+pub returns : goal.returns
+unfolding bytes_call
+returns c =
+    let n = c.count-n.ensures in
+    let e = c.room_call.ensures in
+    let a = c.args in
+    asked c.ended.ensures
+    (on-good _ (some_bytes a.line.now (sym c.byte_at.ensures ∙ c.if-byte_at-ne-TAB.false) n))
+    (good-as (ap (λ (l : List ℕ). room_call a.letter l 0) (whole n)) ∙ e.reads _)
+    (omega (arith, e.size, n))
+    e.within

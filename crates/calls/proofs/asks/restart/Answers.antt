@@ -1,0 +1,38 @@
+use mathlib.Core.Path.{sym, ap, ◌∙◌}
+use native.Mathlib.Omega.{arith}
+use lib.ListN.{get_or}
+use Rattle.settings.specs.declared.Settings.{Settings}
+use Rattle.calls.specs.Call.{order, restart_at}
+use Rattle.calls.specs.Reads.{as_call, size_of, Within}
+use Rattle.operands.specs.Parsing.{on-good, on-bad, num, good-as}
+use Rattle.calls.specs.declared.Order.TheVariants.{Restart}
+use Rattle.calls.proofs.Steps.{row, no_row, unasked, asked, asked-last, last_none, last_some}
+use borrow.Author.Rules.{rules}
+use Rattle.calls.proofs.asks.restart.Goals as goal
+
+pub returns-then-line-numbers : goal.returns-then-line-numbers
+unfolding restart_at as_call size_of Within
+returns-then-line-numbers c =
+    let v = c.numbers_at-numbers.result.values in
+    let got = row c.numbers_at-numbers.ensures c.if-not-numbers.false in
+    asked-last (on-good _ got ∙ last_none _ _ _ _ c.if-line-numbers.true)
+    (good-as (ap (λ (x : Settings). order (Restart x (get_or v 17 0) (get_or v 18 0))) (sym c.set_of.ensures)))
+    (omega arith)
+    tt
+
+pub returns-in_default : goal.returns-in_default
+unfolding restart_at
+returns-in_default c =
+    let got = row c.numbers_at-numbers.ensures c.if-not-numbers.false in
+    unasked (on-good _ got ∙ last_some _ _ _ _ c.if-line-numbers.false ∙ on-bad _ (num c.field_at.ensures c.in_default.is))
+
+pub returns : goal.returns
+unfolding restart_at as_call size_of Within
+returns c =
+    let v = c.numbers_at-numbers.result.values in
+    let got = row c.numbers_at-numbers.ensures c.if-not-numbers.false in
+    let total = num c.field_at.ensures c.in-Good.is in
+    asked c.ended.ensures (on-good _ got ∙ last_some _ _ _ _ c.if-line-numbers.false ∙ on-good _ total)
+    (good-as (ap (λ (x : Settings). order (Restart x (get_or v 18 0) c.in-Good.total)) (sym c.set_of-2.ensures)))
+    (omega arith)
+    tt

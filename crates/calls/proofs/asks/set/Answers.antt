@@ -1,0 +1,29 @@
+use mathlib.Core.Path.{sym, ap, ◌∙◌}
+use native.Mathlib.Omega.{arith}
+use Rattle.calls.specs.Call.{order, settings_at}
+use Rattle.calls.specs.Reads.{as_call, size_of, Within}
+use Rattle.operands.specs.Parsing.{on-good, on-bad, num, good-as}
+use Rattle.settings.specs.declared.Settings.{Settings}
+use Rattle.calls.specs.declared.Order.TheVariants.{Settings as Set}
+use Rattle.calls.proofs.Steps.{row, no_row, unasked, asked, asked-last, last_none, last_some}
+use borrow.Author.Rules.{rules}
+use Rattle.calls.proofs.asks.set.Goals as goal
+
+pub returns-then-line-numbers : goal.returns-then-line-numbers
+unfolding settings_at as_call size_of Within
+returns-then-line-numbers c =
+    let got = row c.numbers_at-numbers.ensures c.if-not-numbers.false in
+    asked-last (on-good _ got ∙ last_none _ _ _ _ c.if-line-numbers.true) (good-as (ap (λ (x : Settings). order (Set x)) (sym c.set_of.ensures))) (omega arith) tt
+
+pub returns-in_default : goal.returns-in_default
+unfolding settings_at
+returns-in_default c =
+    let got = row c.numbers_at-numbers.ensures c.if-not-numbers.false in
+    unasked (on-good _ got ∙ last_some _ _ _ _ c.if-line-numbers.false ∙ on-bad _ (num c.field_at.ensures c.in_default.is))
+
+pub returns : goal.returns
+unfolding settings_at as_call size_of Within
+returns c =
+    let got = row c.numbers_at-numbers.ensures c.if-not-numbers.false in
+    let product = num c.field_at.ensures c.in-Good.is in
+    asked c.ended.ensures (on-good _ got ∙ last_some _ _ _ _ c.if-line-numbers.false ∙ on-good _ product) (good-as (ap (λ (x : Settings). order (Set x)) (sym c.set_of-2.ensures))) (omega arith) tt

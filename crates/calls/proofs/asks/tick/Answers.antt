@@ -1,0 +1,31 @@
+use mathlib.Core.Path.{◌≡◌, refl, sym, ap, ◌∙◌}
+use mathlib.Core.List.{[]}
+use native.Mathlib.Omega.{arith}
+use lib.IntN.{ℤ}
+use mir.Syntax.{w32}
+use mir.Val.{SFits}
+use mir.Facts.{to_z-of_z}
+use Rattle.laws.specs.Pick.{pick_all}
+use Rattle.laws.specs.Decimal.{good}
+use Rattle.calls.specs.declared.Call as declared
+use Rattle.calls.specs.Call.{tick, tick_at}
+use Rattle.calls.specs.Reads.{as_call, size_of, Within}
+use Rattle.operands.specs.Parsing.{on-good, on-bad, num, field-most}
+use Rattle.calls.proofs.Steps.{step, unasked, asked}
+use borrow.Author.Rules.{rules}
+use Rattle.calls.proofs.asks.tick.Goals as goal
+use Rattle.calls.proofs.asks.tick.Goals.{In-Good}
+
+sample-fits : (c : In-Good) → SFits w32 c.in-Good.sample
+sample-fits c = search rules
+
+pub returns : goal.returns
+unfolding tick_at as_call size_of Within
+returns c = (
+  asked c.ended.ensures
+      (on-good _ (step c.signed_at.ensures c.in-Good.is) ∙ on-good _ (num c.field_at.ensures c.in-Good-field_at.is))
+      (ap (λ (x : ℤ). good (tick x c.in-Good-field_at.inputs) []) (sym (to_z-of_z (sample-fits (goal.at.returns c).In-Good))))
+      (omega arith)
+      tt,
+  ap size_of c.ended.ensures.is ∙ pick_all (λ (r : declared.Call). size_of r ≡ 0) _ refl refl,
+)

@@ -1,0 +1,36 @@
+use mathlib.Core.Path.{◌≡◌, refl, sym, ap, ◌∙◌}
+use mathlib.Core.List.{List}
+use Prim.Native.Nat.{ℕ, ◌≤◌}
+use native.Mathlib.Omega.{arith}
+use lib.ListN.{length, get_or, drop, take}
+use lib.Seq.{sets}
+use Rattle.laws.specs.Pick.{pick}
+use Rattle.laws.specs.Decimal.{Parsed}
+use Rattle.calls.specs.Call.{Call, tick_at, room_at, call_by}
+use Rattle.calls.specs.Reads.{size_of, ReadsCall, known}
+use Rattle.calls.specs.Reading.{room_call, room_most, Asks}
+use Rattle.calls.specs.declared.Call as declared
+use Rattle.operands.specs.Bytes.{carried}
+use Rattle.calls.proofs.Steps.{unread-room, unread-long, stored, by_key}
+use borrow.Author.Rules.{rules}
+use Rattle.calls.proofs.read.Goals as goal
+
+-- the bytes of a call fit
+fits : {l : List ℕ} {n room : ℕ} {r : declared.Call} {rule : Parsed Call} → 2048 ≤ room → n ≡ size_of r → Asks l rule r → (n ≤ length (carried l)) × (n ≤ room)
+fits {r = r} h e a = (omega (arith, e, a.carries), omega (arith, e, (known r).few a.within, h))
+
+-- and once they are stored it is read
+kept : {l old new : List ℕ} {n : ℕ} {r : declared.Call} → 2048 ≤ length old → n ≡ size_of r → Asks l (call_by (get_or l 0 0) (drop 1 l)) r → length l ≤ 4095 → new ≡ sets old 0 (take n (carried l)) → ReadsCall l old new r
+kept {l} {old} room e a short f = stored a room short (f ∙ ap (λ (k : ℕ). sets old 0 (take k (carried l))) e)
+
+pub returns-then-letter-eq84 : goal.returns-then-letter-eq84
+unfolding call_by pick
+returns-then-letter-eq84 c =
+    let t = c.tick.ensures in
+    kept c.if-bytes-lt-BYTES.false (sym t.1) (by_key 84 (λ n. tick_at) c.byte_at-letter.ensures c.if-letter-eq84.true refl t.0) c.if-line-gt-LONGEST.false refl
+
+-- a line request
+pub returns-then-letter-eq66 : goal.returns-then-letter-eq66
+unfolding call_by room_call pick
+returns-then-letter-eq66 c =
+    kept c.if-bytes-lt-BYTES.false c.type_size.ensures (by_key 66 (λ n. room_at 64 (room_call n)) c.byte_at-letter.ensures c.if-letter-eq66.true refl c.room-call.ensures) c.if-line-gt-LONGEST.false c.store.ensures
