@@ -38,7 +38,6 @@ import glob
 import io
 import itertools
 import os
-import platform
 import random
 import socket
 import subprocess
@@ -70,20 +69,17 @@ THEN = {'record': 'hours', 'renew': 'restore', 'restore': 'renew'}
 # The programs.
 
 def command(name):
-    """Builds a program; what runs it: the kit's loader, and the kit's emulator
-    where the processor is another."""
-    built = subprocess.run(['rt', 'check', name], cwd=ROOT, text=True,
-                           stdin=subprocess.DEVNULL, capture_output=True)
-    if built.returncode != 0:
-        sys.exit(built.stdout + built.stderr)
-    guide = subprocess.run(['rt', 'doc'], capture_output=True, text=True, check=True)
-    kit = os.path.dirname(os.path.dirname(guide.stdout.strip()))
-    tools = os.path.join(kit, 'on', platform.machine(), 'toolchain')
-    emulator = os.path.join(tools, 'bin', 'qemu-x86_64')
-    loader = os.path.join(tools, 'lib', 'ld-linux-x86-64.so.2')
-    words = [emulator] if os.access(emulator, os.X_OK) else []
-    return words + [loader, '--library-path', os.path.join(tools, 'lib'),
-                    os.path.join(ROOT, 'target', 'bin', name)]
+    """What runs a program. `rt ci` leaves each that it proved; one that is not there,
+    or is older than a source, is proved and built first."""
+    program = os.path.join(ROOT, 'crates', name, 'out', name)
+    made = os.path.getmtime(program) if os.access(program, os.X_OK) else 0
+    sources = glob.glob(os.path.join(ROOT, 'crates', '*', 'src', '**', '*.rt'), recursive=True)
+    if any(made < os.path.getmtime(source) for source in sources):
+        built = subprocess.run(['rt', 'run'], cwd=os.path.join(ROOT, 'crates', name), text=True,
+                               stdin=subprocess.DEVNULL, capture_output=True)
+        if built.returncode != 0:
+            sys.exit(built.stdout + built.stderr)
+    return [program]
 
 
 def printed(words, data):

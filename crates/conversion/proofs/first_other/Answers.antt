@@ -1,20 +1,14 @@
 use mathlib.Core.Path.{◌≡◌, refl, sym, ap, ◌∙◌}
 use mathlib.Core.Bool.{false}
 use mathlib.Core.List.{List}
-use Prim.Native.Nat.{ℕ, ◌+◌, ◌-◌, ◌≤◌, ◌<◌}
+use Prim.Native.Nat.{ℕ, ◌+◌, ◌<◌}
 use native.Mathlib.Omega.{arith}
 use lib.ListN.{length, get_or, drop}
 use Rattle.laws.specs.Pick.{so}
 use Rattle.conversion.specs.Bytes.{tabs_after, is_other, line_after, other_from}
 use Rattle.conversion.proofs.Bytewise.{other-more, other-here, other_none, tabs-most, line-most}
-use borrow.Author.Rules.{rules}
+use Rattle.conversion.proofs.first_other.Invariants.{Sought}
 use Rattle.conversion.proofs.first_other.Goals as goal
-
--- none was seen so far
-record Sought (s : List ℕ) (line tabs i : ℕ) : Type 0 where
-  left : other_from line tabs (drop i s) ≡ other_from 2 0 (drop 4 s)
-  few : tabs ≤ i
-  lines : line ≤ i
 
 sought-more : (s : List ℕ) (line tabs i m t : ℕ) → Sought s line tabs i → i < length s → is_other tabs (get_or s i 0) ≡ false → m ≡ line_after line (get_or s i 0) → t ≡ tabs_after tabs (get_or s i 0) → Sought s m t (i + 1)
 sought-more s line tabs i m t c h o e f =

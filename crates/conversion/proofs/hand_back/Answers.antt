@@ -1,6 +1,5 @@
 use lib.ListN.{length}
 use Rattle.conversion.proofs.Handing.{fills-as, back-other, back_none}
-use borrow.Author.Rules.{rules}
 use Rattle.conversion.proofs.hand_back.Goals as goal
 
 pub returns-then-other-ne0 : goal.returns-then-other-ne0

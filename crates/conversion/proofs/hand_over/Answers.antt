@@ -4,7 +4,6 @@ use lib.ListN.{drop, length-drop}
 use Rattle.journal.specs.declared.Head.{Head}
 use Rattle.conversion.proofs.Bytewise.{bytes_most, head-most}
 use Rattle.conversion.proofs.Handing.{Sized, over-long, over-room, lines-room, handed-over}
-use borrow.Author.Rules.{rules}
 use Rattle.conversion.proofs.hand_over.Goals as goal
 use Rattle.conversion.proofs.hand_over.Goals.{After-lines_len}
 

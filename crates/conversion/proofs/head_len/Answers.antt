@@ -4,7 +4,6 @@ use Rattle.journal.specs.declared.Form.{Form}
 use Rattle.journal.specs.declared.Form.TheVariants.{Old, New}
 use Rattle.journal.specs.Line.{version_text}
 use Rattle.journal.specs.Journal.{head_text}
-use borrow.Author.Rules.{rules}
 use Rattle.conversion.proofs.head_len.Goals as goal
 
 old-head : (f : Form) → f ≡ Old → 0 ≡ length (head_text f)

@@ -3,7 +3,6 @@ use mathlib.Core.Bool.{true, false}
 use Rattle.journal.specs.declared.Form.{Form}
 use Rattle.journal.specs.declared.Form.TheVariants.{Old, New}
 use Rattle.conversion.specs.Conversion.{is_form}
-use borrow.Author.Rules.{rules}
 use Rattle.conversion.proofs.is_form.Goals as goal
 
 old-old : (f g : Form) → f ≡ Old → g ≡ Old → true ≡ is_form f g

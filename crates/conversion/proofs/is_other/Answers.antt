@@ -4,7 +4,6 @@ use Prim.Native.Nat.{ℕ}
 use lib.Dec.{eqb}
 use borrow.Author.Tests.{eq-eqb, ne_eqb}
 use Rattle.conversion.specs.Bytes.{is_other}
-use borrow.Author.Rules.{rules}
 use Rattle.conversion.proofs.is_other.Goals as goal
 
 at-end : (t b : ℕ) → t ≡ 5 → b ≡ 10 → false ≡ is_other t b

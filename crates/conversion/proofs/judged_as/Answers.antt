@@ -3,7 +3,7 @@ use mathlib.Core.Bool.{true, false}
 use mathlib.Core.List.{List, [], ◌∷◌}
 use Prim.Native.Nat.{ℕ, ◌≤◌, ◌<◌}
 use lib.ListN.{length}
-use borrow.Author.Tests.{lt-ltb, le-ltb, not-true, not-false}
+use borrow.Author.Tests.{lt-ltb, le-ltb}
 use Rattle.laws.specs.Pick.{pick-t, pick-f}
 use Rattle.paper.specs.Answer.{refused, told}
 use Rattle.paper.specs.Numbers.{R10, R13}
@@ -12,7 +12,6 @@ use Rattle.journal.specs.declared.Form.{Form}
 use Rattle.journal.specs.declared.Head.{Head}
 use Rattle.hourly.specs.Tally.{summary_of}
 use Rattle.conversion.specs.Conversion.{is_form, read_as}
-use borrow.Author.Rules.{rules}
 use Rattle.conversion.proofs.judged_as.Goals as goal
 
 too_long : (f : Form) (s : List ℕ) → 65536 < length s → read_as f s ≡ refused R13 []
@@ -35,11 +34,11 @@ pub returns-then-not-is_form : goal.returns-then-not-is_form
 unfolding told
 returns-then-not-is_form c =
     let a = c.args in
-    let form = ap (λ (h : Head). is_form a.form h.form) (sym c.head_of-head.ensures) ∙ sym c.is_form.ensures ∙ not-true _ c.if-not-is_form.true-raw in
+    let form = ap (λ (h : Head). is_form a.form h.form) (sym c.head_of-head.ensures) ∙ sym c.is_form.ensures ∙ c.if-not-is_form.true in
     sym (ap (told summary_of) (other-form a.form a.bytes.now c.if-bytes-gt-ROOM.false form))
 
 pub returns : goal.returns
 returns c =
     let a = c.args in
-    let form = ap (λ (h : Head). is_form a.form h.form) (sym c.head_of-head.ensures) ∙ sym c.is_form.ensures ∙ not-false _ c.if-not-is_form.false-raw in
+    let form = ap (λ (h : Head). is_form a.form h.form) (sym c.head_of-head.ensures) ∙ sym c.is_form.ensures ∙ c.if-not-is_form.false in
     c.tallies-counted.ensures.judged ∙ sym (ap (told summary_of) (this-form a.form a.bytes.now c.if-bytes-gt-ROOM.false form))

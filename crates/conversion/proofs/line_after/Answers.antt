@@ -3,7 +3,6 @@ use native.Mathlib.Numerals.{add-one}
 use borrow.Author.Tests.{eq-eqb}
 use Rattle.laws.specs.Pick.{pick-t, picks}
 use Rattle.conversion.specs.Bytes.{line_after}
-use borrow.Author.Rules.{rules}
 use Rattle.conversion.proofs.line_after.Goals as goal
 
 pub returns-then-b-eq-LF : goal.returns-then-b-eq-LF

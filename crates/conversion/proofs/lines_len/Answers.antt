@@ -1,19 +1,13 @@
 use mathlib.Core.Path.{◌≡◌, ap, ◌∙◌}
 use mathlib.Core.List.{List}
-use Prim.Native.Nat.{ℕ, ◌+◌, ◌-◌, ◌*◌, ◌≤◌, ◌<◌}
+use Prim.Native.Nat.{ℕ, ◌+◌, ◌<◌}
 use native.Mathlib.Omega.{arith}
 use lib.ListN.{length, get_or, drop, length-append}
 use Rattle.journal.specs.declared.Form.{Form}
 use Rattle.conversion.specs.Bytes.{tabs_after, piece_of, bytes_to}
 use Rattle.conversion.proofs.Bytewise.{rest_more, rest-none, tabs-most, piece-most}
-use borrow.Author.Rules.{rules}
+use Rattle.conversion.proofs.lines_len.Invariants.{Counted}
 use Rattle.conversion.proofs.lines_len.Goals as goal
-
--- the bytes counted, and those that what is left becomes
-record Counted (to : Form) (s : List ℕ) (from n tabs i : ℕ) : Type 0 where
-  all : n + length (bytes_to to tabs (drop i s)) ≡ length (bytes_to to 0 (drop from s))
-  most : n ≤ 3 * i
-  few : tabs ≤ i
 
 counted-more : (to : Form) (s : List ℕ) (from n tabs i k t : ℕ) → Counted to s from n tabs i → i < length s → k ≡ length (piece_of to tabs (get_or s i 0)) → t ≡ tabs_after tabs (get_or s i 0) → Counted to s from (n + k) t (i + 1)
 counted-more to s from n tabs i k t c h e f =

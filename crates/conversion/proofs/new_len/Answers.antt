@@ -2,7 +2,6 @@ use mathlib.Core.Path.{sym, ap}
 use lib.ListN.{length}
 use Rattle.laws.specs.Pick.{so}
 use Rattle.conversion.proofs.Pieces.{new-ends, new-goes}
-use borrow.Author.Rules.{rules}
 use Rattle.conversion.proofs.new_len.Goals as goal
 
 pub returns-then-ends_dose : goal.returns-then-ends_dose

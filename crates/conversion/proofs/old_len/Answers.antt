@@ -1,7 +1,6 @@
 use mathlib.Core.Path.{sym, ap}
 use lib.ListN.{length}
 use Rattle.conversion.proofs.Pieces.{old-kept, old-gone}
-use borrow.Author.Rules.{rules}
 use Rattle.conversion.proofs.old_len.Goals as goal
 
 pub returns-then-tabs_after-le-OLD_FIELDS : goal.returns-then-tabs_after-le-OLD_FIELDS

@@ -1,7 +1,6 @@
 use mathlib.Core.Path.{sym, ap, ◌∙◌}
 use lib.ListN.{length}
 use Rattle.conversion.proofs.Pieces.{piece-old, piece-new}
-use borrow.Author.Rules.{rules}
 use Rattle.conversion.proofs.piece_len.Goals as goal
 
 pub returns-in-Old : goal.returns-in-Old

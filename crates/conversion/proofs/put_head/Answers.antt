@@ -7,7 +7,6 @@ use Rattle.journal.specs.declared.Form.TheVariants.{Old, New}
 use Rattle.journal.specs.Line.{version_text}
 use Rattle.journal.specs.Journal.{head_text}
 use Rattle.conversion.proofs.Pieces.{puts-as, puts-nothing}
-use borrow.Author.Rules.{rules}
 use Rattle.conversion.proofs.put_head.Goals as goal
 
 old-head : (f : Form) → f ≡ Old → head_text f ≡ []

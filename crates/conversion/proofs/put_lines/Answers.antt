@@ -1,6 +1,6 @@
 use mathlib.Core.Path.{◌≡◌, refl, sym, ap, ◌∙◌}
 use mathlib.Core.List.{List}
-use Prim.Native.Nat.{ℕ, ◌+◌, ◌-◌, ◌≤◌, ◌<◌}
+use Prim.Native.Nat.{ℕ, ◌+◌, ◌≤◌, ◌<◌}
 use native.Mathlib.Omega.{arith}
 use lib.ListN.{length, get_or, drop, length-append}
 use lib.Seq.{sets}
@@ -10,15 +10,8 @@ use Rattle.text.specs.PutLaws.{room-is, puts-fit, puts-length}
 use Rattle.journal.specs.declared.Form.{Form}
 use Rattle.conversion.specs.Bytes.{tabs_after, piece_of, bytes_to}
 use Rattle.conversion.proofs.Bytewise.{rest_more, rest-none, tabs-most}
-use borrow.Author.Rules.{rules}
+use Rattle.conversion.proofs.put_lines.Invariants.{Stored}
 use Rattle.conversion.proofs.put_lines.Goals as goal
-
--- what is left, stored from p on, makes the whole
-record Stored (to : Form) (s : List ℕ) (from at : ℕ) (old out : List ℕ) (tabs i p : ℕ) : Type 0 where
-  size : length out ≡ length old
-  place : p + length (bytes_to to tabs (drop i s)) ≡ at + length (bytes_to to 0 (drop from s))
-  left : sets out p (bytes_to to tabs (drop i s)) ≡ sets old at (bytes_to to 0 (drop from s))
-  few : tabs ≤ i
 
 module _ {to : Form} {s : List ℕ} {from at : ℕ} {old out : List ℕ} {tabs i p : ℕ} (c : Stored to s from at old out tabs i p) (h : i < length s) (room : at + length (bytes_to to 0 (drop from s)) ≤ length old) where
   abbrev piece : List ℕ
@@ -51,16 +44,13 @@ pub loop-i-init : goal.loop-i-init
 loop-i-init c = record { size = refl; place = refl; left = refl; few = omega arith }
 
 pub put_piece-p-requires : goal.put_piece-p-requires
-put_piece-p-requires c = record { few = omega (arith, c.loop-i.invariant.few, c.loop-i-test.true, c.requires.0); room = piece-room c.loop-i.invariant c.loop-i-test.true c.requires.1 }
+put_piece-p-requires c = record { few = omega (arith, c.loop-i.invariant.few, c.loop-i-test.true, c.requires.short); room = piece-room c.loop-i.invariant c.loop-i-test.true c.requires.room }
 
 pub tabs_after-tabs-requires : goal.tabs_after-tabs-requires
-tabs_after-tabs-requires c = omega (arith, c.loop-i.invariant.few, c.loop-i-test.true, c.requires.0)
+tabs_after-tabs-requires c = omega (arith, c.loop-i.invariant.few, c.loop-i-test.true, c.requires.short)
 
 pub loop-i-preserved : goal.loop-i-preserved
-loop-i-preserved c = stored_more c.loop-i.invariant c.loop-i-test.true c.requires.1 c.put_piece-p.ensures c.tabs_after-tabs.ensures
-
-pub shape_of-out : goal.shape_of-out
-shape_of-out c = c.loop-i.invariant.size
+loop-i-preserved c = stored_more c.loop-i.invariant c.loop-i-test.true c.requires.room c.put_piece-p.ensures c.tabs_after-tabs.ensures
 
 pub returns : goal.returns
 returns c =

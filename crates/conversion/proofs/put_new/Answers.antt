@@ -3,7 +3,6 @@ use Rattle.laws.specs.Pick.{so}
 use Rattle.text.specs.Scan.{LF, TAB}
 use Rattle.text.specs.PutLaws.{put_then}
 use Rattle.conversion.proofs.Pieces.{new-ends, new-goes, puts-as, room_as}
-use borrow.Author.Rules.{rules}
 use Rattle.conversion.proofs.put_new.Goals as goal
 
 pub returns-then-ends_dose : goal.returns-then-ends_dose

@@ -1,12 +1,11 @@
 use Rattle.conversion.proofs.Pieces.{piece-old, piece-new, puts-as, room_as}
-use borrow.Author.Rules.{rules}
 use Rattle.conversion.proofs.put_piece.Goals as goal
 
 pub put_old-requires : goal.put_old-requires
-put_old-requires c = record { few = c.requires.0; room = room_as _ _ (piece-old _ _ _ c.in-Old.is) c.requires.1 }
+put_old-requires c = record { few = c.requires.few; room = room_as _ _ (piece-old _ _ _ c.in-Old.is) c.requires.room }
 
 pub put_new-requires : goal.put_new-requires
-put_new-requires c = room_as _ _ (piece-new _ _ _ c.in-New.is) c.requires.1
+put_new-requires c = room_as _ _ (piece-new _ _ _ c.in-New.is) c.requires.room
 
 pub returns-in-Old : goal.returns-in-Old
 returns-in-Old c = puts-as (piece-old _ _ _ c.in-Old.is) c.put_old.ensures

@@ -15,7 +15,6 @@ use Rattle.journal.specs.Line.{version_text, write_version_of}
 use Rattle.entry.specs.Says.{says_wrote, WritesVersion}
 use Rattle.entry.specs.declared.Wrote.{Wrote}
 use Rattle.entry.specs.declared.Wrote.TheVariants as W
-use borrow.Author.Rules.{rules}
 use Rattle.conversion.proofs.put_version.Goals as goal
 
 -- the V line has room, so it is written

@@ -3,7 +3,6 @@ use lib.ListN.{length}
 use Rattle.journal.specs.declared.Form.TheVariants.{Old}
 use Rattle.hourly.specs.Says.{says_judged}
 use Rattle.conversion.proofs.Handing.{fills-as, found, renewed, renew-refused}
-use borrow.Author.Rules.{rules}
 use Rattle.conversion.proofs.renew.Goals as goal
 
 pub hand_over-requires : goal.hand_over-requires

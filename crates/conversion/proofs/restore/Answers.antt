@@ -3,7 +3,6 @@ use lib.ListN.{length}
 use Rattle.journal.specs.declared.Form.TheVariants.{New}
 use Rattle.hourly.specs.Says.{says_judged}
 use Rattle.conversion.proofs.Handing.{fills-as, found, restored, restore-refused}
-use borrow.Author.Rules.{rules}
 use Rattle.conversion.proofs.restore.Goals as goal
 
 pub hand_back-requires : goal.hand_back-requires

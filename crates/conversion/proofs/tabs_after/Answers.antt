@@ -1,4 +1,3 @@
-use borrow.Author.Rules.{rules}
 use Rattle.laws.specs.Pick.{picks}
 use Rattle.conversion.specs.Bytes.{tabs_after}
 use Rattle.conversion.proofs.tabs_after.Goals as goal

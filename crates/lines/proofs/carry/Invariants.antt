@@ -1,14 +1,5 @@
-use mathlib.Core.Path.{◌≡◌, sym, ap, ap₂, ◌∙◌}
-use mathlib.Core.List.{List, [], ◌++◌}
-use Prim.Native.Nat.{ℕ, ◌+◌, ◌-◌, ◌≤◌, ◌<◌, min}
-use native.Mathlib.Nat.{zero-add}
-use native.Mathlib.Omega.{arith}
-use native.Mathlib.Numerals.{add-one}
-use lib.ListN.{length, get_or, take, drop, set, length-drop}
-use lib.Seq.{length-take-le, get_or-drop, paste, paste-zero, paste-suc, length-paste, drop-paste}
-use Rattle.laws.specs.Over.{over}
-use Rattle.lines.specs.Places.{part_of, part-least, Carries}
-use borrow.Author.Rules.{rules}
+use Prim.Native.Nat.{◌-◌}
+use Rattle.lines.proofs.Moves.{Moved}
 use Rattle.lines.proofs.carry.Given as goal
 
 abbrev pub invariant-loop-i : goal.invariant-loop-i

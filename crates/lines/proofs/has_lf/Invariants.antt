@@ -1,16 +1,8 @@
 -- As long as no LF was found, a line ends from here on where it ends from the start.
-use mathlib.Core.Path.{◌≡◌, refl, ap, ◌∙◌}
-use mathlib.Core.Bool.{Bool, false, ◌||◌}
-use mathlib.Core.List.{List}
-use Prim.Native.Nat.{ℕ, ◌+◌, ◌-◌, ◌≤◌, ◌<◌}
-use native.Mathlib.Omega.{arith}
-use lib.Dec.{eqb}
-use lib.ListN.{length, get_or}
-use borrow.Author.Tests.{eqb-false}
-use Rattle.laws.specs.Bools.{or_left, or_right}
-use Rattle.text.specs.Scan.{LF}
+use mathlib.Core.Path.{◌≡◌}
+use mathlib.Core.Bool.{false}
+use Prim.Native.Nat.{ℕ, ◌+◌, ◌-◌, ◌≤◌}
 use Rattle.lines.specs.Places.{end_of}
-use Rattle.lines.proofs.Ends.{end_on}
 use Rattle.lines.proofs.has_lf.Given as goal
 
 abbrev pub invariant-loop-k : goal.invariant-loop-k

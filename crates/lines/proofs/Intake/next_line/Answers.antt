@@ -13,7 +13,6 @@ use Rattle.lines.specs.declared.Taken.{Taken}
 use Rattle.lines.specs.declared.Next.TheVariants.{Line, More}
 use Rattle.lines.specs.Places.{end_of, take-least}
 use Rattle.lines.specs.Intake.{overlong, line_to, begun_to, next_of}
-use borrow.Author.Rules.{rules}
 use Rattle.lines.proofs.Intake.next_line.Goals as goal
 
 -- what is handed over, by where the line that goes on ends
@@ -37,3 +36,23 @@ module _ (i : Intake) (buffer : List ℕ) {have end : ℕ} (size : have ≡ min 
 
   to-begun : {r : Intake} → have ≤ end → r ≡ begun_to i end → record { intake = r; next = More } ≡ next_of i buffer
   to-begun h e = ap (λ (j : Intake). record { intake = j; next = More }) e ∙ sym (pick-f _ _ _ (le-ltb end have h)) ∙ next-is
+
+pub overflow_sub-over : goal.overflow_sub-over
+unfolding end_of
+overflow_sub-over c = omega (arith, c.line_end-end.ensures)
+
+pub returns-then-over : goal.returns-then-over
+unfolding begun_to overlong
+returns-then-over c = to-begun _ _ c.least-have.ensures c.line_end-end.ensures c.if-have-end.true (sym (pick-t _ _ _ c.if-over.true))
+
+pub returns-then-have-end : goal.returns-then-have-end
+unfolding begun_to overlong
+returns-then-have-end c = to-begun _ _ c.least-have.ensures c.line_end-end.ensures c.if-have-end.true (sym (pick-f _ _ _ c.if-over.false))
+
+pub returns-then-over-2 : goal.returns-then-over-2
+unfolding overlong
+returns-then-over-2 c = to-line _ _ c.least-have.ensures c.line_end-end.ensures c.if-have-end.false (sym (pick-t _ _ _ c.if-over-2.true))
+
+pub returns : goal.returns
+unfolding overlong
+returns c = to-line _ _ c.least-have.ensures c.line_end-end.ensures c.if-have-end.false (sym (pick-f _ _ _ c.if-over-2.false))

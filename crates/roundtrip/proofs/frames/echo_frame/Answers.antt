@@ -2,10 +2,8 @@
 use mathlib.Core.Path.{◌≡◌, refl, sym, ap, ◌∙◌}
 use mathlib.Core.Bool.{Bool, true, false}
 use mathlib.Core.List.{List, [], ◌∷◌, ◌++◌, append_assoc, append-nil}
-use mathlib.Core.Logic.{⊎_elim}
 use Prim.Native.Nat.{ℕ, suc, ◌+◌, ◌-◌, ◌≤◌}
 use native.Mathlib.Omega.{arith}
-use borrow.Author.Rules.{rules}
 use borrow.Author.Tests.{le-leb}
 use lib.ListN.{length, take, drop, set, replicate, length-append}
 use lib.Seq.{take_at, set_at, length-take-le}
@@ -25,7 +23,7 @@ use Rattle.frame.specs.declared.Read.{Read}
 use Rattle.paper.specs.AnswerLaws.{hands-refused, hands-done}
 use Rattle.roundtrip.specs.Frames.{echo_of, says_echoed}
 use Rattle.roundtrip.proofs.frames.echo_frame.Goals as goal
-use Rattle.roundtrip.proofs.frames.echo_frame.Goals.{In-Body-2, In-Frame-2}
+use Rattle.roundtrip.proofs.frames.echo_frame.Goals.{In-Body, In-Frame}
 
 -- the first n bytes of the line are the body's frame
 record Lined (b line : List ℕ) (n : ℕ) : Type 0 where
@@ -104,42 +102,41 @@ unfolding echo_of
 returns-in_default c = go (framable _) refl
   where
     go : (t : Bool) → framable c.args.body.now ≡ t → Hands 255 (says_echoed c.no_echo.result.echoed) (echo_of c.args.body.now) c.no_echo.result.body
-    go true f =
-        let e = answered _ _ _ c.write_frame-wrote.result refl c.write_frame-wrote.ensures f in
-        absurd (⊎_elim (λ p. omega arith) (λ p. omega arith) (rw e at c.match.keys2))
+    go true f = absurd (c.in_default.not-Frame _ (answered _ _ _ c.write_frame-wrote.result refl c.write_frame-wrote.ensures f))
     go false f = rw c.no_echo.ensures.0 (hands-refused (pick-f _ _ _ f) 255 c.no_echo.ensures.1)
 
-at-line : (c : In-Frame-2) → Lined c.args.body.now c.write_frame-wrote.new.1.0 c.in-Frame.n
+at-line : (c : In-Frame) → Lined c.args.body.now c.write_frame-wrote.new.out c.in-Frame.n
 at-line c = let wrote = c.write_frame-wrote in lined _ _ _ wrote.result refl wrote.ensures _ c.in-Frame.is
 
 pub slice_bounds-line-end : goal.slice_bounds-line-end
-slice_bounds-line-end c = (at-line (goal.at.slice_bounds-line-end c).In-Frame-2).fits
+slice_bounds-line-end c = (at-line c).fits
 
 pub slice_bounds-read_frame-end : goal.slice_bounds-read_frame-end
-slice_bounds-read_frame-end c = sym (length-take-le _ _ (at-line (goal.at.slice_bounds-read_frame-end c).In-Frame-2).fits)
+slice_bounds-read_frame-end c = sym (length-take-le _ _ (at-line (goal.at.slice_bounds-read_frame-end c).In-Frame).fits)
 
 pub returns-in_default-found : goal.returns-in_default-found
 returns-in_default-found c =
-    let l = at-line (goal.at.returns-in_default-found c).In-Frame-2 in
+    let l = at-line (goal.at.returns-in_default-found c).In-Frame in
     let e = found _ c.read_frame-back.result l.frames (rw l.is at c.read_frame-back.ensures) in
-    absurd (⊎_elim (λ p. omega arith) (λ p. omega arith) (rw e at c.in-Body.keys2))
+    absurd (c.in_default-found.not-Body _ _ e)
 
-at-end : (c : In-Body-2) → Back c.args.body.now c.read_frame-back.result.body c.in-Body.len
+at-end : (c : In-Body) → Back c.args.body.now c.read_frame-back.result.body c.in-Body.len
 at-end c =
-    let l = at-line c.AT-In-Frame-2 in
+    let wrote = c.write_frame-wrote in
+    let l = lined _ _ _ wrote.result refl wrote.ensures _ c.in-Frame.is in
     given_back _ c.read_frame-back.result l.frames (rw l.is at c.read_frame-back.ensures) _ _ c.in-Body.is
 
 pub overflow_sub-bytes : goal.overflow_sub-bytes
-overflow_sub-bytes c = let k = at-end (goal.at.overflow_sub-bytes c).In-Body-2 in omega (arith, k.one_more)
+overflow_sub-bytes c = let k = at-end (goal.at.overflow_sub-bytes c).In-Body in omega (arith, k.one_more)
 
 pub bounds-bytes-len : goal.bounds-bytes-len
-bounds-bytes-len c = let k = at-end (goal.at.bounds-bytes-len c).In-Body-2 in omega (arith, k.one_more, k.small)
+bounds-bytes-len c = let k = at-end (goal.at.bounds-bytes-len c).In-Body in omega (arith, k.one_more, k.small)
 
 pub overflow_sub-result : goal.overflow_sub-result
-overflow_sub-result c = let k = at-end (goal.at.overflow_sub-result c).In-Body-2 in omega (arith, k.one_more)
+overflow_sub-result c = let k = at-end (goal.at.overflow_sub-result c).In-Body in omega (arith, k.one_more)
 
 pub returns : goal.returns
 unfolding echo_of
 returns c =
-    let k = at-end (goal.at.returns c).In-Body-2 in
+    let k = at-end (goal.at.returns c).In-Body in
     hands-done (pick-t _ _ _ k.frames) (omega (arith, k.one_more)) k.holds

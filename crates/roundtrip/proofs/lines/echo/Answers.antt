@@ -2,13 +2,11 @@
 use mathlib.Core.Path.{◌≡◌, refl, sym, ap, ◌∙◌}
 use mathlib.Core.Bool.{Bool, true, false}
 use mathlib.Core.List.{List, [], ◌∷◌}
-use mathlib.Core.Logic.{⊎_elim}
 use Prim.Native.Nat.{ℕ, ◌≤◌}
 use native.Mathlib.Omega.{arith}
 use lib.Dec.{lit≤}
 use lib.ListN.{length, take}
 use lib.Seq.{take_at, length-take-le}
-use borrow.Author.Rules.{rules}
 use Rattle.laws.specs.Pick.{pick-t, pick-f}
 use Rattle.laws.specs.Over.{over}
 use Rattle.paper.specs.Answer.{Answer, done, refused, told, leaves, Fills}
@@ -17,16 +15,17 @@ use Rattle.paper.specs.Numbers.{R10}
 use Rattle.journal.specs.Line.{in_range, text_of, write_of, one_line}
 use Rattle.journal.specs.LineLaws.{text-most, write-range, write-fits}
 use Rattle.journal.specs.Singles.{one-text}
-use Rattle.journal.specs.Says.{one-one}
+use Rattle.journal.specs.Says.{says_one, one-one}
 use Rattle.entry.specs.Says.{says_wrote, wrote_one}
 use Rattle.journal.specs.declared.Form.{Form}
 use Rattle.journal.specs.declared.Line.{Line}
+use Rattle.journal.specs.declared.One.{One}
 use Rattle.journal.specs.declared.One.TheVariants as O
 use Rattle.entry.specs.declared.Wrote.{Wrote}
 use Rattle.entry.specs.declared.Wrote.TheVariants as W
 use Rattle.roundtrip.specs.Lines.{echo_of}
 use Rattle.roundtrip.proofs.lines.echo.Goals as goal
-use Rattle.roundtrip.proofs.lines.echo.Goals.{After-read_line-back, In-Line}
+use Rattle.roundtrip.proofs.lines.echo.Goals.{In-Line}
 
 -- what the writer left where it answered a length
 record Written (f : Form) (l : Line) (n : ℕ) (new : List ℕ) : Type 0 where
@@ -62,16 +61,12 @@ F c = c.args.form
 abbrev L : In-Line → Line
 L c = c.args.line
 
-filled : (c : In-Line) → Written (F c) (L c) c.in-Line.len c.write-wrote.new.1.1.0
-filled c = let w = c.write-wrote in written (F c) (L c) c.in-Line.len w.ensures (lit≤ tt) w.auto.1.1.0 c.in-Line.is
+filled : (c : In-Line) → Written (F c) (L c) c.in-Line.len c.write-wrote.new.out
+filled c = let w = c.write-wrote in written (F c) (L c) c.in-Line.len w.ensures (lit≤ tt) w.auto.out c.in-Line.is
 
 -- and the reader read it back
-read_back : (c : After-read_line-back) → c.read_line-back.result ≡ O.Line (L c.AT-In-Line)
-read_back c =
-    let w = filled c.AT-In-Line in
-    let f = F c.AT-In-Line in
-    let l = L c.AT-In-Line in
-    one-one c.read_line-back.result (O.Line l) (c.read_line-back.ensures ∙ ap (one_line f) w.text ∙ one-text f l w.range)
+read_back : (f : Form) (l : Line) (n : ℕ) {new : List ℕ} {r : One} → Written f l n new → says_one r ≡ one_line f (take n new) → r ≡ O.Line l
+read_back f l n {r = r} w e = one-one r (O.Line l) (e ∙ ap (one_line f) w.text ∙ one-text f l w.range)
 
 pub returns-in_default : goal.returns-in_default
 unfolding echo_of
@@ -79,9 +74,7 @@ returns-in_default c = go (in_range c.args.form c.args.line) refl
   where
     go : (b : Bool) → in_range c.args.form c.args.line ≡ b
         → refused R10 (0 ∷ []) ≡ echo_of c.args.form c.args.line
-    go true e =
-        let w = answered c.args.form c.args.line {w = c.write-wrote.result} c.write-wrote.ensures (lit≤ tt) e in
-        absurd (⊎_elim (λ p. omega arith) (λ p. omega arith) (rw w at c.match.keys2))
+    go true e = absurd (c.in_default.not-Line _ (answered c.args.form c.args.line {w = c.write-wrote.result} c.write-wrote.ensures (lit≤ tt) e))
     go false e = sym (pick-f _ _ _ e)
 
 pub slice_bounds-buffer-end : goal.slice_bounds-buffer-end
@@ -91,11 +84,13 @@ pub slice_bounds-read_line-end : goal.slice_bounds-read_line-end
 slice_bounds-read_line-end c = sym (length-take-le _ _ (filled (goal.at.slice_bounds-read_line-end c).In-Line).room)
 
 pub returns-in_default-back : goal.returns-in_default-back
-returns-in_default-back c = absurd (⊎_elim (λ p. omega arith) (λ p. omega arith) (rw (read_back (goal.at.returns-in_default-back c).After-read_line-back) at c.in-Line-back.keys2))
+returns-in_default-back c = absurd (c.in_default-back.not-Line _ (read_back _ _ _ (filled (goal.at.returns-in_default-back c).In-Line) c.read_line-back.ensures))
 
 pub returns : goal.returns
 unfolding echo_of
-returns c = ap done (same_line (sym c.in-Line-back.is ∙ read_back (goal.at.returns c).After-read_line-back)) ∙ sym (pick-t _ _ _ (filled (goal.at.returns c).In-Line).range)
+returns c =
+    let w = filled (goal.at.returns c).In-Line in
+    ap done (same_line (sym c.in-Line-back.is ∙ read_back _ _ _ w c.read_line-back.ensures)) ∙ sym (pick-t _ _ _ w.range)
   where
     same_line : {x y : Line} → O.Line x ≡ O.Line y → x ≡ y
     same_line e = cc
