@@ -1,12 +1,11 @@
 -- A line request, put together from what its stages give. Assumes nothing.
+use Rattle.std.proofs.Common.{◌≢◌}
 use mathlib.Core.Path.{◌≡◌, refl, sym, ap, subst, ◌∙◌}
 use mathlib.Core.Bool.{Bool, true, false, ◌&&◌}
 use mathlib.Core.List.{List, [], ◌∷◌}
 use Prim.Native.Nat.{ℕ}
 use lib.Dec.{leb, eqb}
 use lib.ListN.{length}
-use types.Run.{OneOf, miss}
-use denote.Enum.Declared.{tag_of}
 use Rattle.laws.specs.Pick.{pick, pick-t, pick-f, pick-map}
 use Rattle.paper.specs.Answer.{Answer, done, refused, told, on_done, in_room, leaves, Fills}
 use Rattle.paper.specs.AnswerLaws.{refused-done, done_refused, passed}
@@ -16,7 +15,6 @@ use Rattle.window.specs.declared.Window.{Window}
 use Rattle.dosing.specs.declared.Units.{Units}
 use Rattle.scale.specs.Scale.{as_window}
 use Rattle.scale.specs.Laws.{lent-window}
-use Rattle.asking.specs.contracts.Sent.{the_type as sent-type}
 use Rattle.asking.specs.declared.Sent.{Sent}
 use Rattle.asking.specs.declared.Sent.TheVariants as W
 use Rattle.message.specs.declared.Form.{Form}
@@ -147,14 +145,13 @@ module _ (c : Controller) (s old : List ℕ) (sound : Sound c) where
     unfolding request_of replies_to
     asked-so = rw e
 
-    pub no_room : {r : Requested} → OneOf (1 ∷ 2 ∷ 3 ∷ []) (tag_of sent-type w) → r.next ≡ c → says_reply r.answer ≡ refused R8 (a.place ∷ []) → Replies c s old new r
+    pub no_room : {r : Requested} → ((n : ℕ) → w ≢ W.Frame n) → r.next ≡ c → says_reply r.answer ≡ refused R8 (a.place ∷ []) → Replies c s old new r
     unfolding replied in_room told leaves
     no_room {r} k n h = go (leb (length (reply_frame c a)) (length old)) refl
       where
         go : (t : Bool) → leb (length (reply_frame c a)) (length old) ≡ t → Replies c s old new r
         go true l =
-            let same = sent-one w (W.Frame (length (reply_frame c a))) (fills.says ∙ rw (pick-t _ _ _ l)) in
-            absurd (miss (1 ∷ 2 ∷ 3 ∷ []) 0 tt (subst (λ (x : Sent). OneOf (1 ∷ 2 ∷ 3 ∷ []) (tag_of sent-type x)) same k))
+            absurd (k _ (sent-one w (W.Frame (length (reply_frame c a))) (fills.says ∙ rw (pick-t _ _ _ l))))
         go false l = replies (still c (refused R8 (a.place ∷ []))) (asked-so ∙ pick-f _ _ _ l) n h (fills.left ∙ rw (pick-f _ _ _ l))
 
     pub sends : {r : Requested} {n : ℕ} → w ≡ W.Frame n → r.next ≡ zeroed_by c a.operation → says_reply r.answer ≡ done (a.place, n) → Replies c s old new r

@@ -13,5 +13,5 @@ returns c =
     let a = c.args in
     let h : length (refusal_text a.number a.line) ≤ 65536 = omega (arith, refusal-length a.number a.line, digits-most a.number (search rules), digits-most a.line (search rules)) in
     let put = c.put_refused-len in
-    let made : Printout = record { bytes = put.new.0; len = put.result } in
+    let made : Printout = record { bytes = put.new.out; len = put.result } in
     holds-put (refusal_text a.number a.line) c.no_bytes-out.result made c.no_bytes-out.ensures h put.ensures

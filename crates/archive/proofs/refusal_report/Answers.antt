@@ -2,7 +2,6 @@ use mathlib.Core.Path.{subst}
 use Rattle.journal.specs.declared.Named.{Named}
 use Rattle.report.specs.Report.{refusal_text}
 use Rattle.archive.specs.Promises.{Holds}
-use borrow.Author.Rules.{rules}
 use Rattle.archive.proofs.refusal_report.Goals as goal
 
 pub returns : goal.returns

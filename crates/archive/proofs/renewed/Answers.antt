@@ -20,4 +20,4 @@ returns c =
     let z = c.no_bytes-out in
     let k = c.smaller-size in
     let p = c.renew-converted in
-    prints-renewed bytes z.result p.new.1.0 a.n k.result p.result c.shown.result z.ensures size k.ensures c.shown.ensures p.ensures
+    prints-renewed bytes z.result p.new.out a.n k.result p.result c.shown.result z.ensures size k.ensures c.shown.ensures p.ensures

@@ -4,7 +4,6 @@ use Prim.Native.Nat.{ℕ}
 use Rattle.conversion.specs.declared.Converted.{Converted}
 use Rattle.archive.specs.Promises.{Shows}
 use Rattle.archive.specs.declared.Printout.{Printout}
-use borrow.Author.Rules.{rules}
 use Rattle.archive.proofs.shown.Goals as goal
 
 -- an arm of the match

@@ -1,13 +1,9 @@
-use borrow.Author.Rules.{rules}
 use Rattle.controller.specs.Ready.{ready_in}
 use Rattle.controller.proofs.is_ready.Goals as goal
 
 pub returns-in_default : goal.returns-in_default
 unfolding ready_in
 returns-in_default c = rw c.in_default.is
-
-pub at_ready-requires : goal.at_ready-requires
-at_ready-requires c = tt
 
 pub returns : goal.returns
 unfolding ready_in

@@ -1,13 +1,8 @@
 -- As long as all were digits, k bytes stand at the place, and the others behind them.
-use mathlib.Core.Path.{◌≡◌, refl, sym, ap, ◌∙◌}
-use mathlib.Core.Bool.{Bool, true, ◌&&◌}
-use mathlib.Core.List.{List}
-use Prim.Native.Nat.{ℕ, ◌+◌, ◌*◌, ◌-◌, ◌≤◌, ◌<◌}
-use native.Mathlib.Omega.{arith}
-use lib.ListN.{length, get_or}
-use borrow.Author.Rules.{rules}
-use Rattle.laws.specs.Bools.{and_left, and_right}
-use Rattle.operands.specs.Bytes.{is_hex, standing, lead-two}
+use mathlib.Core.Path.{◌≡◌}
+use mathlib.Core.Bool.{true}
+use Prim.Native.Nat.{ℕ, ◌+◌, ◌*◌, ◌-◌, ◌≤◌}
+use Rattle.operands.specs.Bytes.{standing}
 use Rattle.operands.proofs.all_hex.Given as goal
 
 abbrev pub invariant-loop-k : goal.invariant-loop-k

@@ -1,12 +1,7 @@
-use mathlib.Core.Path.{◌≡◌, ap, ◌∙◌}
-use mathlib.Core.Bool.{Bool, ◌&&◌}
+use mathlib.Core.Path.{◌≡◌}
 use Prim.Native.Nat.{◌+◌, ◌-◌, ◌≤◌}
-use native.Mathlib.Omega.{arith}
-use lib.ListN.{length, get_or}
-use borrow.Author.Tests.{not-true, not-false}
-use Rattle.laws.specs.Pick.{so}
-use Rattle.operands.specs.Bytes.{is_hex, carried, standing, lead-end, lead-two, lead-none}
-use borrow.Author.Rules.{rules}
+use lib.ListN.{length}
+use Rattle.operands.specs.Bytes.{standing}
 use Rattle.operands.proofs.count_from.Given as goal
 
 abbrev pub invariant-loop-p : goal.invariant-loop-p

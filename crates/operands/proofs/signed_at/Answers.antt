@@ -19,7 +19,6 @@ use Rattle.text.specs.declared.Num.TheVariants.{Good}
 use Rattle.operands.specs.Parsing.{from_byte, num, good-as}
 use Rattle.operands.specs.Numbers.{minus, plus, signed_at, signed_field, ReadsSigned}
 use Rattle.operands.specs.declared.Signed.TheVariants as S
-use borrow.Author.Rules.{rules}
 use Rattle.operands.proofs.signed_at.Goals as goal
 use Rattle.operands.proofs.signed_at.Goals.{Else-byte_at-ne-MINUS, Else-v-eq0, In-Good, Then-byte_at-ne-MINUS}
 
@@ -100,15 +99,34 @@ returns-then-byte_at-ne-MINUS c =
     let read = c.number_at.ensures in
     found _ read c.in-Good.is (plus-rule (goal.at.returns-then-byte_at-ne-MINUS c).Then-byte_at-ne-MINUS ∙ ap plus (num read c.in-Good.is) ∙ good-as (sym (to_z_pos w32 {n = c.in-Good.v} (omega (arith, high c)))))
 
+pub returns-then-byte_at-ne-TAB : goal.returns-then-byte_at-ne-TAB
+unfolding signed_field
+returns-then-byte_at-ne-TAB c = none _ _ (expect-miss c.args.s.now c.args.at TAB signed_at (λ h. c.if-byte_at-ne-TAB.true (c.byte_at.ensures ∙ h)))
+
+pub returns-in_default : goal.returns-in_default
+unfolding plus
+returns-in_default c = none _ _ (plus-rule (goal.at.returns-in_default c).Then-byte_at-ne-MINUS ∙ ap plus (num c.number_at.ensures c.in_default.is))
+
+pub overflow_cast-result : goal.overflow_cast-result
+overflow_cast-result c = fits32 (pos c.in-Good.v) (omega (arith, high c))
+
+pub returns-in_default-number_at : goal.returns-in_default-number_at
+unfolding minus
+returns-in_default-number_at c =
+    none _ _ (minus-rule (goal.at.returns-in_default-number_at c).Else-byte_at-ne-MINUS ∙ ap minus (num c.number_at-2.ensures c.in_default-number_at.is))
+
 pub returns-then-v-eq0 : goal.returns-then-v-eq0
 unfolding minus
 returns-then-v-eq0 c =
-    let v = c.v-in-Good-number_at-2-1.given in
-    let rest = drop v.0.1.0 c.args.s.now in
-    none _ _ (minus-rule (goal.at.returns-then-v-eq0 c).Else-byte_at-ne-MINUS ∙ ap minus (num c.number_at-2.ensures v.1) ∙ ap (λ (n : ℕ). minus (good n rest)) c.if-v-eq0.true)
+    let v = c.in-Good-number_at in
+    let rest = drop v.next c.args.s.now in
+    none _ _ (minus-rule (goal.at.returns-then-v-eq0 c).Else-byte_at-ne-MINUS ∙ ap minus (num c.number_at-2.ensures v.is) ∙ ap (λ (n : ℕ). minus (good n rest)) c.if-v-eq0.true)
+
+pub overflow_cast-result-3 : goal.overflow_cast-result-3
+overflow_cast-result-3 c = narrow-fits _ (some c) (low c)
 
 pub returns : goal.returns
 returns c =
     let read = c.number_at-2.ensures in
-    let v = c.v-in-Good-number_at-2-1.given in
-    found _ read v.1 (minus-rule (goal.at.returns c).Else-byte_at-ne-MINUS ∙ ap minus (num read v.1) ∙ minus-some _ _ (some c) ∙ good-as (sym (below _ (some c) (low c))))
+    let v = c.in-Good-number_at in
+    found _ read v.is (minus-rule (goal.at.returns c).Else-byte_at-ne-MINUS ∙ ap minus (num read v.is) ∙ minus-some _ _ (some c) ∙ good-as (sym (below _ (some c) (low c))))

@@ -1,9 +1,6 @@
 use Rattle.controller.specs.State.{restarted}
 use Rattle.controller.proofs.restart.made.Goals as goal
 
-pub new-requires : goal.new-requires
-new-requires c = tt
-
 pub returns : goal.returns
 unfolding restarted
 returns c = simp c.new.ensures

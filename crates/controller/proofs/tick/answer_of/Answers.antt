@@ -1,9 +1,5 @@
-use borrow.Author.Rules.{rules}
 use Rattle.counters.specs.Counters.{records_of}
 use Rattle.controller.proofs.tick.answer_of.Goals as goal
-
-pub record_of-record-requires : goal.record_of-record-requires
-record_of-record-requires c = tt
 
 pub returns-in-Nothing : goal.returns-in-Nothing
 unfolding records_of
