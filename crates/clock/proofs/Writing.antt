@@ -5,8 +5,6 @@ use mathlib.Core.List.{List, [], ◌∷◌, ◌++◌}
 use Prim.Native.Nat.{ℕ, ◌+◌, ◌-◌, ◌≤◌, ◌<◌}
 use native.Mathlib.Nat.{add_assoc, add-zero}
 use native.Mathlib.Omega.{arith}
-use types.Run.{OneOf, miss}
-use denote.Enum.Declared.{tag_of}
 use lib.Dec.{eqb}
 use lib.ListN.{length, length-append}
 use lib.Seq.{sets}
@@ -32,12 +30,12 @@ use Rattle.clock.specs.Clock.{ticks_an_hour, greatest_hour, Note, note, with_sta
 use Rattle.clock.specs.Marking.{size_of, Prints, Adds, Writes, prints-writes, writes_as, writes-none, roomed, fits_line, Writable, Does, Opens, Marks, Passes}
 use Rattle.clock.specs.Keeps.{heard-runs, first_runs, fitted-is, passed-runs, roomed-is, Uncounted, restarted, lost, other}
 use Rattle.clock.specs.Part.{put-part, part_length}
+use Rattle.counters.specs.declared.Record.{Record}
 use Rattle.clock.specs.declared.Heard.{Heard}
 use Rattle.clock.specs.declared.Heard.TheVariants.{Ticked, Dosed, Restarted, Lost, Other}
 use Rattle.clock.specs.declared.Stage.TheVariants.{Over}
 use Rattle.clock.specs.declared.Clock.{Clock}
 use Rattle.clock.specs.declared.Marked.{Marked}
-use Rattle.clock.specs.contracts.Heard.{the_type as heard-type}
 
 -- ---- what a writer wrote
 
@@ -131,29 +129,29 @@ dosed-writes {old} {mid} {new} {q} {r} k d h room p a =
 -- ---- the calls
 
 -- a line that is no dose fits
-pub other_fits : (h : Heard) → OneOf (0 ∷ 2 ∷ 3 ∷ 4 ∷ []) (tag_of heard-type h) → true ≡ fits_line h
+pub other_fits : (h : Heard) → ((d : Record) → h ≡ Dosed d → ⊥) → true ≡ fits_line h
 unfolding fits_line
-other_fits Ticked e = refl
-other_fits (Dosed d) e = absurd (miss (0 ∷ 2 ∷ 3 ∷ 4 ∷ []) 1 tt e)
-other_fits Restarted e = refl
-other_fits Lost e = refl
-other_fits Other e = refl
+other_fits Ticked n = refl
+other_fits (Dosed d) n = absurd (n d refl)
+other_fits Restarted n = refl
+other_fits Lost n = refl
+other_fits Other n = refl
 
 -- a line that is neither a restart nor no call passes and leaves the clock
-pub stays : (k : Clock) (h : Heard) → OneOf (0 ∷ 1 ∷ 4 ∷ []) (tag_of heard-type h) → k ≡ passed_by k h
+pub stays : (k : Clock) (h : Heard) → (h ≡ Restarted → ⊥) → (h ≡ Lost → ⊥) → k ≡ passed_by k h
 unfolding passed_by
-stays k Ticked e = refl
-stays k (Dosed d) e = refl
-stays k Restarted e = absurd (miss (0 ∷ 1 ∷ 4 ∷ []) 2 tt e)
-stays k Lost e = absurd (miss (0 ∷ 1 ∷ 4 ∷ []) 3 tt e)
-stays k Other e = refl
+stays k Ticked n m = refl
+stays k (Dosed d) n m = refl
+stays k Restarted n m = absurd (n refl)
+stays k Lost n m = absurd (m refl)
+stays k Other n m = refl
 
-pub uncounted : (h : Heard) → OneOf (2 ∷ 3 ∷ 4 ∷ []) (tag_of heard-type h) → Uncounted h
-uncounted Ticked e = absurd (miss (2 ∷ 3 ∷ 4 ∷ []) 0 tt e)
-uncounted (Dosed d) e = absurd (miss (2 ∷ 3 ∷ 4 ∷ []) 1 tt e)
-uncounted Restarted e = restarted
-uncounted Lost e = lost
-uncounted Other e = other
+pub uncounted : (h : Heard) → (h ≡ Ticked → ⊥) → ((d : Record) → h ≡ Dosed d → ⊥) → Uncounted h
+uncounted Ticked n m = absurd (n refl)
+uncounted (Dosed d) n m = absurd (m d refl)
+uncounted Restarted n m = restarted
+uncounted Lost n m = lost
+uncounted Other n m = other
 
 pub passes : {r : Clock} (k : Clock) (h : Heard) → r ≡ passed_by k h → Passes k h r
 passes k h e = record { next = e; runs = λ s. subst Runs (sym e) (passed-runs k h s) }

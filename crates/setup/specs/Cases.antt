@@ -1,10 +1,10 @@
 -- Settings and resets on numbers. Assumes nothing.
 use Rattle.std.specs.Prelude.{◌≡◌, refl, true, List, [], ◌∷◌, map, ℕ, pos, replicate}
-use Rattle.paper.specs.Answer.{done, refused, fault}
+use Rattle.paper.specs.Answer.{done, refused}
 use Rattle.paper.specs.Numbers.{R2, R3}
 use Rattle.settings.specs.declared.Settings.{Settings}
 use Rattle.settings.specs.Cases.{set_of}
-use Rattle.dosing.specs.Rules.{hold, units}
+use Rattle.dosing.specs.Rules.{units}
 use Rattle.controller.specs.State.{restarted, fresh_of, with_z, with_alarm, with_link, with_inputs}
 use Rattle.controller.specs.Cases.{ticked, rules}
 use Rattle.setup.specs.Setup.{taken, settings_answer, after, settings_of, reset_answer, reset_of, link_of}

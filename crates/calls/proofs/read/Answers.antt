@@ -12,7 +12,6 @@ use Rattle.calls.specs.Reading.{room_call, room_most, Asks}
 use Rattle.calls.specs.declared.Call as declared
 use Rattle.operands.specs.Bytes.{carried}
 use Rattle.calls.proofs.Steps.{unread-room, unread-long, stored, by_key}
-use borrow.Author.Rules.{rules}
 use Rattle.calls.proofs.read.Goals as goal
 
 -- the bytes of a call fit
@@ -33,4 +32,23 @@ returns-then-letter-eq84 c =
 pub returns-then-letter-eq66 : goal.returns-then-letter-eq66
 unfolding call_by room_call pick
 returns-then-letter-eq66 c =
-    kept c.if-bytes-lt-BYTES.false c.type_size.ensures (by_key 66 (λ n. room_at 64 (room_call n)) c.byte_at-letter.ensures c.if-letter-eq66.true refl c.room-call.ensures) c.if-line-gt-LONGEST.false c.store.ensures
+    kept c.if-bytes-lt-BYTES.false c.size_of.ensures (by_key 66 (λ n. room_at 64 (room_call n)) c.byte_at-letter.ensures c.if-letter-eq66.true refl c.room-call.ensures) c.if-line-gt-LONGEST.false c.store.ensures
+
+pub returns-then-bytes-lt-BYTES : goal.returns-then-bytes-lt-BYTES
+returns-then-bytes-lt-BYTES c = unread-room c.if-bytes-lt-BYTES.true
+
+pub returns-then-line-gt-LONGEST : goal.returns-then-line-gt-LONGEST
+returns-then-line-gt-LONGEST c = unread-long c.if-bytes-lt-BYTES.false c.if-line-gt-LONGEST.true
+
+pub room-call-requires-clause-most : goal.room-call-requires-clause-most
+unfolding room_most pick
+room-call-requires-clause-most c = sym (ap room_most c.if-letter-eq66.true)
+
+pub store-requires-clause-room : goal.store-requires-clause-room
+store-requires-clause-room c = (fits c.if-bytes-lt-BYTES.false c.size_of.ensures c.room-call.ensures).1
+
+pub store-requires-2-clause-room : goal.store-requires-2-clause-room
+store-requires-2-clause-room c = (fits c.if-bytes-lt-BYTES.false c.size_of-2.ensures c.call_of-call.ensures).1
+
+pub returns : goal.returns
+returns c = kept c.if-bytes-lt-BYTES.false c.size_of-2.ensures c.call_of-call.ensures c.if-line-gt-LONGEST.false c.store-2.ensures

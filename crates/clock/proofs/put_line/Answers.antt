@@ -1,11 +1,11 @@
 use native.Mathlib.Omega.{arith}
 use Rattle.clock.proofs.Writing.{line-put}
-use borrow.Author.Rules.{rules}
 use Rattle.clock.proofs.put_line.Goals as goal
-use Rattle.clock.proofs.put_line.Goals.{Start}
+
+pub overflow_add-result : goal.overflow_add-result
+overflow_add-result c =
+    let p = line-put c.args.out.now c.write.new.out c.args.at c.args.line c.write.result c.requires.0 c.requires.1 c.size_of.ensures c.write.ensures in
+    omega (arith, p.short, p.next)
 
 pub returns : goal.returns
-returns c =
-    let start = (goal.at.returns c).Start in
-    let write = c.write in
-    line-put start.args.out.now write.new.1.1.0 start.args.at start.args.line write.result start.requires.0 start.requires.1 c.type_size.ensures write.ensures
+returns c = line-put c.args.out.now c.write.new.out c.args.at c.args.line c.write.result c.requires.0 c.requires.1 c.size_of.ensures c.write.ensures

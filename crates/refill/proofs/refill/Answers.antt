@@ -9,7 +9,6 @@ use Rattle.lines.specs.declared.Intake.{Intake}
 use Rattle.lines.specs.Places.{Carries, carry-inside}
 use Rattle.lines.specs.Intake.{pending, carry-pending}
 use Rattle.refill.specs.Refills.{Keeps, Refills}
-use borrow.Author.Rules.{rules}
 use Rattle.refill.proofs.refill.Goals as goal
 
 -- n bytes were read behind those that were carried to the start

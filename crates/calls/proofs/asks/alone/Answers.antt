@@ -19,3 +19,19 @@ returns c =
     (good-as (ap (λ (l : List ℕ). room_call a.letter l 0) (whole n)) ∙ e.reads _)
     (omega (arith, e.size, n))
     e.within
+
+pub returns-then-byte_at-ne-TAB : goal.returns-then-byte_at-ne-TAB
+unfolding bytes_call
+returns-then-byte_at-ne-TAB c = unasked (on-bad _ (no_bytes c.args.line.now (λ e. c.if-byte_at-ne-TAB.true (c.byte_at.ensures ∙ e))))
+
+pub overflow_mul-n : goal.overflow_mul-n
+overflow_mul-n c = omega (arith, few _ c.count-n.ensures c.requires)
+
+pub overflow_add-n : goal.overflow_add-n
+overflow_add-n c = omega (arith, few _ c.count-n.ensures c.requires)
+
+pub overflow_cast-n : goal.overflow_cast-n
+overflow_cast-n c = omega (arith, few _ c.count-n.ensures c.requires)
+
+pub room_call-requires : goal.room_call-requires
+room_call-requires c = (omega (arith, few _ c.count-n.ensures c.requires), omega arith)

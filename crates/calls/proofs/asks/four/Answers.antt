@@ -32,3 +32,19 @@ returns c =
     (rw (c.byte_of.ensures, c.byte_of-2.ensures, c.byte_of-3.ensures, c.byte_of-4.ensures) refl)
     (omega arith)
     tt
+
+pub returns-then-byte_at-ne-TAB : goal.returns-then-byte_at-ne-TAB
+unfolding read_field_at
+returns-then-byte_at-ne-TAB c = unasked (on-bad _ (no_bytes c.args.line.now (λ e. c.if-byte_at-ne-TAB.true (c.byte_at.ensures ∙ e))))
+
+pub byte_of-requires : goal.byte_of-requires
+byte_of-requires c = omega (arith, c.if-count-ne4.false, c.count.ensures)
+
+pub byte_of-requires-2 : goal.byte_of-requires-2
+byte_of-requires-2 c = omega (arith, c.if-count-ne4.false, c.count.ensures)
+
+pub byte_of-requires-3 : goal.byte_of-requires-3
+byte_of-requires-3 c = omega (arith, c.if-count-ne4.false, c.count.ensures)
+
+pub byte_of-requires-4 : goal.byte_of-requires-4
+byte_of-requires-4 c = omega (arith, c.if-count-ne4.false, c.count.ensures)

@@ -11,3 +11,11 @@ unfolding on_at as_call size_of Within
 returns c =
     let room = num c.field_at-2.ensures c.in-Good-field_at.is in
     asked c.ended.ensures (on-good _ (num c.field_at.ensures c.in-Good.is) ∙ on-good _ room) refl (omega arith) tt
+
+pub returns-in_default : goal.returns-in_default
+unfolding on_at
+returns-in_default c = unasked (on-bad _ (num c.field_at.ensures c.in_default.is))
+
+pub returns-in_default-field_at : goal.returns-in_default-field_at
+unfolding on_at
+returns-in_default-field_at c = unasked (on-good _ (num c.field_at.ensures c.in-Good.is) ∙ on-bad _ (num c.field_at-2.ensures c.in_default-field_at.is))

@@ -7,7 +7,6 @@ use Rattle.calls.specs.Reads.{as_call, size_of, Within}
 use Rattle.operands.specs.Parsing.{on-good, on-bad, num, good-as}
 use Rattle.calls.specs.declared.Order.TheVariants.{Restart}
 use Rattle.calls.proofs.Steps.{row, no_row, unasked, asked, asked-last, last_none, last_some}
-use borrow.Author.Rules.{rules}
 use Rattle.calls.proofs.asks.restart.Goals as goal
 
 pub returns-then-line-numbers : goal.returns-then-line-numbers
@@ -36,3 +35,7 @@ returns c =
     (good-as (ap (λ (x : Settings). order (Restart x (get_or v 18 0) c.in-Good.total)) (sym c.set_of-2.ensures)))
     (omega arith)
     tt
+
+pub returns-then-not-numbers : goal.returns-then-not-numbers
+unfolding restart_at
+returns-then-not-numbers c = unasked (on-bad _ (no_row c.numbers_at-numbers.ensures c.if-not-numbers.true))

@@ -6,7 +6,6 @@ use Rattle.operands.specs.Parsing.{on-good, on-bad, num, good-as}
 use Rattle.settings.specs.declared.Settings.{Settings}
 use Rattle.calls.specs.declared.Order.TheVariants.{Settings as Set}
 use Rattle.calls.proofs.Steps.{row, no_row, unasked, asked, asked-last, last_none, last_some}
-use borrow.Author.Rules.{rules}
 use Rattle.calls.proofs.asks.set.Goals as goal
 
 pub returns-then-line-numbers : goal.returns-then-line-numbers
@@ -27,3 +26,7 @@ returns c =
     let got = row c.numbers_at-numbers.ensures c.if-not-numbers.false in
     let product = num c.field_at.ensures c.in-Good.is in
     asked c.ended.ensures (on-good _ got ∙ last_some _ _ _ _ c.if-line-numbers.false ∙ on-good _ product) (good-as (ap (λ (x : Settings). order (Set x)) (sym c.set_of-2.ensures))) (omega arith) tt
+
+pub returns-then-not-numbers : goal.returns-then-not-numbers
+unfolding settings_at
+returns-then-not-numbers c = unasked (on-bad _ (no_row c.numbers_at-numbers.ensures c.if-not-numbers.true))

@@ -15,16 +15,32 @@ use Rattle.calls.specs.declared.Item.TheVariants.{Weight}
 use Rattle.calls.proofs.Steps.{step, unasked, asked}
 use borrow.Author.Rules.{rules}
 use Rattle.calls.proofs.asks.weight.Goals as goal
-use Rattle.calls.proofs.asks.weight.Goals.{In-Good}
-
-value-fits : (c : In-Good) → SFits w32 c.in-Good.value
-value-fits c = search rules
 
 pub returns : goal.returns
 unfolding write_field_at flag_field as_call size_of Within
 returns c =
+    let fits : SFits w32 c.in-Good.value = search rules in
     asked c.ended.ensures
     (on-good _ (step c.signed_at.ensures c.in-Good.is) ∙ on-good _ (on-good _ (num c.field_at.ensures c.in-Good-field_at.is)) ∙ on-good _ (on-good _ (num c.field_at-2.ensures c.in-Good-field_at-2.is)) ∙ on-good _ (num c.field_at-3.ensures c.in-Good-field_at-3.is))
-    (ap (λ (x : ℤ). good (item (Weight (weight x (eqb c.in-Good-field_at.stable 1) (eqb c.in-Good-field_at-2.over 1) c.in-Good-field_at-3.point))) []) (sym (to_z-of_z (value-fits (goal.at.returns c).In-Good))))
+    (ap (λ (x : ℤ). good (item (Weight (weight x (eqb c.in-Good-field_at.stable 1) (eqb c.in-Good-field_at-2.over 1) c.in-Good-field_at-3.point))) []) (sym (to_z-of_z fits)))
     (omega arith)
     tt
+
+pub returns-in_default : goal.returns-in_default
+unfolding write_field_at
+returns-in_default c = unasked (on-bad _ (step c.signed_at.ensures c.in_default.is))
+
+pub returns-in_default-field_at : goal.returns-in_default-field_at
+unfolding write_field_at flag_field
+returns-in_default-field_at c = unasked (on-good _ (step c.signed_at.ensures c.in-Good.is) ∙ on-bad _ (on-bad _ (num c.field_at.ensures c.in_default-field_at.is)))
+
+pub returns-in_default-field_at-2 : goal.returns-in_default-field_at-2
+unfolding write_field_at flag_field
+returns-in_default-field_at-2 c = unasked (on-good _ (step c.signed_at.ensures c.in-Good.is) ∙ on-good _ (on-good _ (num c.field_at.ensures c.in-Good-field_at.is)) ∙ on-bad _ (on-bad _ (num c.field_at-2.ensures c.in_default-field_at-2.is)))
+
+pub returns-in_default-field_at-3 : goal.returns-in_default-field_at-3
+unfolding write_field_at flag_field
+returns-in_default-field_at-3 c = unasked (on-good _ (step c.signed_at.ensures c.in-Good.is) ∙ on-good _ (on-good _ (num c.field_at.ensures c.in-Good-field_at.is)) ∙ on-good _ (on-good _ (num c.field_at-2.ensures c.in-Good-field_at-2.is)) ∙ on-bad _ (num c.field_at-3.ensures c.in_default-field_at-3.is))
+
+pub overflow_cast-weight : goal.overflow_cast-weight
+overflow_cast-weight c = omega (arith, field-most _ _ (num c.field_at-3.ensures c.in-Good-field_at-3.is))

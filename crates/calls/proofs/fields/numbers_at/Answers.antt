@@ -2,7 +2,7 @@ use mathlib.Core.Path.{◌≡◌, sym, ap, ◌∙◌}
 use mathlib.Core.List.{List}
 use Prim.Native.Nat.{ℕ, suc, ◌+◌, ◌-◌, ◌≤◌, ◌<◌}
 use native.Mathlib.Omega.{arith}
-use lib.ListN.{length, drop, set, replicate, length-set}
+use lib.ListN.{drop, set, replicate, length-set}
 use Rattle.laws.specs.Pick.{pick_true, pick-false}
 use Rattle.laws.specs.Decimal.{good}
 use Rattle.text.specs.Scan.{on_good, field_at}

@@ -1,15 +1,8 @@
 -- What is left from the next number on, after those that are there, gives the whole row.
-use mathlib.Core.Path.{◌≡◌, sym, ap, ◌∙◌}
-use mathlib.Core.List.{List}
-use Prim.Native.Nat.{ℕ, suc, ◌+◌, ◌-◌, ◌≤◌, ◌<◌}
-use native.Mathlib.Omega.{arith}
-use lib.ListN.{length, drop, set, replicate, length-set}
-use Rattle.laws.specs.Pick.{pick_true, pick-false}
-use Rattle.laws.specs.Decimal.{good}
-use Rattle.text.specs.Scan.{on_good, field_at}
-use Rattle.operands.specs.Parsing.{on-good, on-bad, num}
-use Rattle.calls.specs.Call.{greatest32, row_from, numbers_field}
-use borrow.Author.Rules.{rules}
+use mathlib.Core.Path.{◌≡◌}
+use Prim.Native.Nat.{◌-◌, ◌≤◌}
+use lib.ListN.{length, drop}
+use Rattle.calls.specs.Call.{row_from, numbers_field}
 use Rattle.calls.proofs.fields.numbers_at.Given as goal
 
 abbrev pub invariant-loop-k : goal.invariant-loop-k

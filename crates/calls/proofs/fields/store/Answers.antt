@@ -1,13 +1,12 @@
-use mathlib.Core.Path.{◌≡◌, refl, sym, ap, ◌∙◌}
+use mathlib.Core.Path.{◌≡◌, sym, ap, ◌∙◌}
 use mathlib.Core.List.{List, [], ◌∷◌}
-use Prim.Native.Nat.{ℕ, ◌+◌, ◌-◌, ◌≤◌, ◌<◌}
+use Prim.Native.Nat.{ℕ, ◌+◌, ◌<◌}
 use native.Mathlib.Omega.{arith}
 use native.Mathlib.Numerals.{add-one}
 use lib.ListN.{length, get_or, take, set, length-set}
 use lib.Seq.{sets, take-suc, length-take-le}
 use Rattle.laws.specs.Over.{sets-append}
 use Rattle.operands.specs.Bytes.{carried}
-use borrow.Author.Rules.{rules}
 use Rattle.calls.proofs.fields.store.Goals as goal
 
 -- one byte more is stored

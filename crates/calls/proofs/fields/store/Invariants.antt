@@ -1,13 +1,8 @@
-use mathlib.Core.Path.{◌≡◌, refl, sym, ap, ◌∙◌}
-use mathlib.Core.List.{List, [], ◌∷◌}
-use Prim.Native.Nat.{ℕ, ◌+◌, ◌-◌, ◌≤◌, ◌<◌}
-use native.Mathlib.Omega.{arith}
-use native.Mathlib.Numerals.{add-one}
-use lib.ListN.{length, get_or, take, set, length-set}
-use lib.Seq.{sets, take-suc, length-take-le}
-use Rattle.laws.specs.Over.{sets-append}
+use mathlib.Core.Path.{◌≡◌}
+use Prim.Native.Nat.{◌-◌, ◌≤◌}
+use lib.ListN.{length, take}
+use lib.Seq.{sets}
 use Rattle.operands.specs.Bytes.{carried}
-use borrow.Author.Rules.{rules}
 use Rattle.calls.proofs.fields.store.Given as goal
 
 abbrev pub invariant-loop-k : goal.invariant-loop-k
