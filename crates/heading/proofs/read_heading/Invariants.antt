@@ -1,12 +1,10 @@
 use mathlib.Core.Path.{◌≡◌}
 use lib.ListN.{length}
-use borrow.Author.Rules.{rules}
 use Rattle.heading.specs.Heading.{ReadsHeading}
-use Rattle.heading.proofs.Coming.{headed-first, headed-on}
 use Rattle.heading.proofs.read_heading.Given as goal
 
 abbrev pub invariant-loop-turns : goal.invariant-loop-turns
-invariant-loop-turns l = (length buffer ≡ length buffer₀) × ReadsHeading buffer headed
+invariant-loop-turns l = (length l.buffer ≡ length l.initial.buffer) × ReadsHeading l.buffer l.headed
 
 abbrev pub decreases-loop-turns : goal.decreases-loop-turns
-decreases-loop-turns l = turns
+decreases-loop-turns l = l.turns

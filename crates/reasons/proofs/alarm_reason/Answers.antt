@@ -1,10 +1,6 @@
-use borrow.Author.Rules.{rules}
 use Rattle.laws.specs.Pick.{pick}
 use Rattle.reasons.specs.Reasons.{fault_or, alarm_cause}
 use Rattle.reasons.proofs.alarm_reason.Goals as goal
-
-pub fault_reason-requires : goal.fault_reason-requires
-fault_reason-requires c = tt
 
 pub returns-in-Faulted : goal.returns-in-Faulted
 unfolding alarm_cause fault_or

@@ -1,4 +1,3 @@
-use borrow.Author.Rules.{rules}
 use Rattle.reasons.specs.Reasons.{fault_cause}
 use Rattle.reasons.proofs.fault_reason.Goals as goal
 
