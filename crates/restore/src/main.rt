@@ -7,7 +7,6 @@ const STDIN_FILENO: i32 = 0;
 // Standard output.
 const STDOUT_FILENO: i32 = 1;
 
-
 fn main() {
     let mut bytes = [0u8; journal::READ];
     let n = io::read_full(STDIN_FILENO, &mut bytes);

@@ -1,7 +1,6 @@
 use mathlib.Core.Path.{sym, ap}
 use Rattle.controller.specs.declared.RestartAnswer.{RestartAnswer}
 use Rattle.acts.specs.Makes.{in_use}
-use borrow.Author.Rules.{rules}
 use Rattle.acts.proofs.in_use.Goals as goal
 
 pub returns-in-Done : goal.returns-in-Done

@@ -1,4 +1,4 @@
-use mathlib.Core.Path.{refl, sym}
+use mathlib.Core.Path.{refl}
 use mathlib.Core.List.{List}
 use Prim.Native.Nat.{ℕ}
 use native.Mathlib.Omega.{arith}
@@ -14,10 +14,12 @@ use Rattle.acts.proofs.requested.Goals as goal
 pub returns : goal.returns
 unfolding said_to says_act
 returns c =
-    let start = c.before.before.before.before.before.before.before.before.before in
     let small = c.if-room-gt-REPLY.false in
     let asked = c.request-requested in
-    acts-as (framed-in (λ (s : List ℕ). request s start.args.room) start.args.bytes.now start.args.n small c.least-size.ensures) (record {
+    acts-as (framed-in (λ (s : List ℕ). request s c.args.room) c.args.bytes.now c.args.n small c.least-size.ensures) (record {
       made = made-asked (length-take-le _ _ (omega (arith, c.no_reply-reply.ensures, small))) asked.result asked.ensures;
       says = refl;
     })
+
+pub returns-then-room-gt-REPLY : goal.returns-then-room-gt-REPLY
+returns-then-room-gt-REPLY c = acts-as (roomed-out _ c.if-room-gt-REPLY.true) c.unread.ensures

@@ -1,5 +1,4 @@
 use Rattle.acts.proofs.Making.{acts-restart}
-use borrow.Author.Rules.{rules}
 use Rattle.acts.proofs.restart.Goals as goal
 
 pub returns : goal.returns

@@ -1,5 +1,4 @@
 use mathlib.Core.Path.{sym}
-use borrow.Author.Rules.{rules}
 use lib.Seq.{length-take-le}
 use Rattle.report.specs.Promises.{holds-inside}
 use Rattle.hours.proofs.main.Goals as goal

@@ -1,5 +1,4 @@
 use mathlib.Core.Path.{sym}
-use borrow.Author.Rules.{rules}
 use lib.Seq.{length-take-le}
 use Rattle.archive.specs.Promises.{holds-inside}
 use Rattle.restore.proofs.main.Goals as goal

@@ -17,7 +17,7 @@ use Rattle.calls.specs.Call.{tick, tick_at}
 use Rattle.script.specs.Sight.{tick_line}
 use borrow.Author.Rules.{rules}
 use Rattle.script.proofs.tick_at.Goals as goal
-use Rattle.script.proofs.tick_at.Goals.{Else-byte_at-ne-LF, Else-byte_at-ne84, In-Good, In-Good-field_at}
+use Rattle.script.proofs.tick_at.Goals.{Else-byte_at-ne-LF, Else-byte_at-ne84, In-Good-field_at}
 
 -- what the rule of a signed number reads, by its answer
 signed : {s : List ℕ} {at : ℕ} {r r' : Signed} → ReadsSigned s at r → r ≡ r' → signed_field (drop at s) ≡ leads_signed s r'
@@ -35,9 +35,6 @@ sampled c =
     on-good _ (signed c.signed_at.ensures c.in-Good.is)
     ∙ on-good _ (num c.field_at.ensures c.in-Good-field_at.is)
 
-sample-fits : (c : In-Good) → SFits w32 c.in-Good.sample
-sample-fits c = search rules
-
 pub returns-then-byte_at-ne84 : goal.returns-then-byte_at-ne84
 unfolding tick_line
 returns-then-byte_at-ne84 c =
@@ -48,7 +45,7 @@ inside : (c : Else-byte_at-ne84) → c.args.at < length c.args.s.now
 inside c = let a = c.args in byte_inside a.s.now a.at (omega (arith, c.byte_at.ensures, c.if-byte_at-ne84.false))
 
 pub overflow_add-at : goal.overflow_add-at
-overflow_add-at c = omega (arith, inside c, c.well_formed)
+overflow_add-at c = omega (arith, inside (goal.at.overflow_add-at c).Else-byte_at-ne84, c.well_formed)
 
 pub returns-in_default : goal.returns-in_default
 unfolding tick_at
@@ -86,17 +83,17 @@ pub overflow_cast-result : goal.overflow_cast-result
 overflow_cast-result c = omega (arith, field-most _ _ (num c.field_at.ensures c.in-Good-field_at.is))
 
 pub overflow_add-result : goal.overflow_add-result
-overflow_add-result c = omega (arith, end-inside c, c.well_formed)
+overflow_add-result c = omega (arith, end-inside (goal.at.overflow_add-result c).Else-byte_at-ne-LF, c.well_formed)
 
 pub returns : goal.returns
 returns c =
     let s = c.args.s.now in
-    let i = c.inputs-1.given in
+    let fits : SFits w32 c.in-Good.sample = search rules in
     record {
       reads =
           letter (goal.at.returns c).Else-byte_at-ne84
           ∙ on-good _ (sampled (goal.at.returns c).In-Good-field_at)
-          ∙ expect-hit s i.0.1.0 LF _ (omega arith) (sym c.byte_at-2.ensures ∙ c.if-byte_at-ne-LF.false)
-          ∙ ap (λ (x : ℤ). good (tick x i.0.0) (drop (i.0.1.0 + 1) s)) (sym (to_z-of_z (sample-fits (goal.at.returns c).In-Good)));
-      inside = omega (arith, end-inside c);
+          ∙ expect-hit s c.in-Good-field_at.end LF _ (omega arith) (sym c.byte_at-2.ensures ∙ c.if-byte_at-ne-LF.false)
+          ∙ ap (λ (x : ℤ). good (tick x c.in-Good-field_at.inputs) (drop (c.in-Good-field_at.end + 1) s)) (sym (to_z-of_z fits));
+      inside = omega (arith, end-inside (goal.at.returns c).Else-byte_at-ne-LF);
     }

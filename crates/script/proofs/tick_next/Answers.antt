@@ -4,7 +4,6 @@ use Prim.Native.Nat.{ℕ, ◌<◌, min}
 use native.Mathlib.Omega.{arith}
 use native.Mathlib.Decide.{dec_lt}
 use lib.ListN.{length, take, drop, drop_of_length-le, length-take}
-use lib.Seq.{length-take-le}
 use Rattle.laws.specs.Pick.{pick-t, pick-f}
 use Rattle.laws.specs.Decimal.{good}
 use Rattle.text.specs.Scan.{expect}
@@ -15,7 +14,6 @@ use Rattle.calls.specs.Call.{Call}
 use Rattle.script.specs.Sight.{tick_line, ReadsTick, sight_of}
 use Rattle.script.specs.SightNext.{kept, sight-is}
 use Rattle.script.specs.declared.Sighted.{Sighted}
-use borrow.Author.Rules.{rules}
 use Rattle.script.proofs.tick_next.Goals as goal
 
 -- of the first bytes that are held
@@ -37,7 +35,17 @@ read_as {s} {at} p e = subst (ReadsTick s at) e p
 
 pub overflow_add-intake : goal.overflow_add-intake
 overflow_add-intake c =
-    let a = c.before.before.before.before.before.before.before.before in
     let p = read_as c.tick_at-sighted.ensures c.in-Tick.is in
-    let held = take c.least-have.result a.args.input.now in
-    omega (arith, begins held a.args.intake.at p.reads, length-take c.least-have.result a.args.input.now, a.well_formed)
+    let held = take c.least-have.result c.args.input.now in
+    omega (arith, begins held c.args.intake.at p.reads, length-take c.least-have.result c.args.input.now, c.well_formed)
+
+pub returns-in_default : goal.returns-in_default
+returns-in_default c = ap (kept c.args.intake) (sym c.in_default.is) ∙ read_held c.args.intake c.args.input.now _ c.least-have.ensures c.tick_at-sighted.ensures
+
+pub returns-then-intake-next : goal.returns-then-intake-next
+returns-then-intake-next c =
+    sym (pick-t _ _ _ c.if-intake-next.true) ∙ ap (kept c.args.intake) (sym c.in-Tick.is) ∙ read_held c.args.intake c.args.input.now _ c.least-have.ensures c.tick_at-sighted.ensures
+
+pub returns : goal.returns
+returns c =
+    sym (pick-f _ _ _ c.if-intake-next.false) ∙ ap (kept c.args.intake) (sym c.in-Tick.is) ∙ read_held c.args.intake c.args.input.now _ c.least-have.ensures c.tick_at-sighted.ensures

@@ -4,7 +4,6 @@ use Rattle.hourly.specs.declared.Hour.{Hour}
 use Rattle.hourly.specs.declared.Asked.{Asked}
 use Rattle.hourly.specs.Exact.{Numbered, ask-numbered}
 use Rattle.hourly.specs.Says.{says_hour, says_asked}
-use borrow.Author.Rules.{rules}
 use Rattle.asides.proofs.hours.ask.Goals as goal
 use Rattle.asides.proofs.hours.ask.Goals.{Start}
 

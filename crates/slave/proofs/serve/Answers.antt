@@ -1,0 +1,12 @@
+use mathlib.Core.Path.{sym, subst}
+use Prim.Native.Nat.{ℕ}
+use native.Mathlib.Omega.{arith}
+use lib.Seq.{length-take-le}
+use Rattle.slave.specs.Serves.{Serves}
+use Rattle.slave.proofs.serve.Goals as goal
+
+pub returns : goal.returns
+returns c =
+    let a = c.args in
+    let replied = c.reply_to-replied in
+    subst (λ (room : ℕ). Serves a.c a.frame.now room replied.result.next) (sym c.no_frame-reply.ensures) replied.ensures.serves
