@@ -1,9 +1,7 @@
 -- What a line was, from the contracts of the reader and of what acts, and what it adds. Assumes nothing.
 use mathlib.Core.Path.{◌≡◌, refl, sym, ap, ◌∙◌, subst}
-use mathlib.Core.List.{List, [], ◌∷◌}
+use mathlib.Core.List.{List, []}
 use Prim.Native.Nat.{ℕ, ◌≤◌}
-use types.Run.{OneOf, miss}
-use denote.Enum.Declared.{tag_of}
 use lib.IntN.{ℤ}
 use mir.Syntax.{w32}
 use mir.Val.{SFits, to_z, of_z}
@@ -16,7 +14,6 @@ use Rattle.controller.specs.declared.Fault.TheVariants as F
 use Rattle.controller.specs.Sound.{Sound}
 use Rattle.controller.specs.declared.RestartAnswer.{RestartAnswer}
 use Rattle.controller.specs.declared.RestartAnswer.TheVariants as N
-use Rattle.controller.specs.contracts.RestartAnswer.{the_type as restart-type}
 use Rattle.controller.specs.Says.{says_tick, says_restart, Ticks}
 use Rattle.controller.specs.Tick.{says_fault}
 use Rattle.laws.specs.Decimal.{good}
@@ -30,7 +27,6 @@ use Rattle.acts.specs.Script.{made-tick}
 use Rattle.acts.specs.declared.Acted.{Acted}
 use Rattle.acts.specs.declared.Answer as acts
 use Rattle.acts.specs.declared.Answer.TheVariants as A
-use Rattle.acts.specs.contracts.Answer.{the_type as answer-type}
 use Rattle.clock.specs.Clock.{note, heard_by, passed_by}
 use Rattle.clock.specs.Marking.{Writable, Writes, writes_as, Opens, Marks}
 use Rattle.clock.specs.Keeps.{fitted-is, does-writes, heard-passed}
@@ -40,7 +36,6 @@ use Rattle.clock.specs.declared.Stage.{Stage}
 use Rattle.clock.specs.declared.Stage.TheVariants.{First, Recording, Over}
 use Rattle.clock.specs.declared.Clock.{Clock}
 use Rattle.clock.specs.declared.Marked.{Marked}
-use Rattle.clock.specs.contracts.Stage.{the_type as stage-type}
 use Rattle.recorder.specs.Recording.{heard_tick, heard_restart, heard_said, heard_of, with, note_by, note_of, box_by}
 use Rattle.recorder.specs.Noting.{Hears}
 use Rattle.recorder.specs.Keeps.{heard-writable}
@@ -52,34 +47,31 @@ fault-heard (F.F14 channel) = refl
 fault-heard F.F21 = refl
 
 -- a refused restart changes nothing
-pub refused-heard : (a : RestartAnswer) → OneOf (1 ∷ 2 ∷ []) (tag_of restart-type a) → H.Other ≡ heard_restart (says_restart a)
+pub refused-heard : (a : RestartAnswer) → (a ≡ N.Done → ⊥) → H.Other ≡ heard_restart (says_restart a)
 unfolding heard_restart
-refused-heard N.Done h = absurd (miss (1 ∷ 2 ∷ []) 0 tt h)
+refused-heard N.Done h = absurd (h refl)
 refused-heard (N.R2 row) h = refl
 refused-heard N.R15 h = refl
 
 -- an answer that is neither a restart's nor that the line is no call
-abbrev others : List ℕ
-others = 0 ∷ 1 ∷ 2 ∷ 3 ∷ 5 ∷ 6 ∷ 7 ∷ []
-
-pub other-answer : (a : acts.Answer) → OneOf others (tag_of answer-type a) → H.Other ≡ heard_said (says_act a)
+pub other-answer : (a : acts.Answer) → ((r : RestartAnswer) → a ≡ A.Restart r → ⊥) → (a ≡ A.Unknown → ⊥) → H.Other ≡ heard_said (says_act a)
 unfolding heard_said says_act
-other-answer A.Link h = refl
-other-answer (A.Set a) h = refl
-other-answer (A.Reset a) h = refl
-other-answer (A.Counters n) h = refl
-other-answer (A.Restart a) h = absurd (miss others 4 tt h)
-other-answer (A.Why a) h = refl
-other-answer A.Frame h = refl
-other-answer A.Aside h = refl
-other-answer A.Unknown h = absurd (miss others 8 tt h)
+other-answer A.Link h k = refl
+other-answer (A.Set a) h k = refl
+other-answer (A.Reset a) h k = refl
+other-answer (A.Counters n) h k = refl
+other-answer (A.Restart a) h k = absurd (h a refl)
+other-answer (A.Why a) h k = refl
+other-answer A.Frame h k = refl
+other-answer A.Aside h k = refl
+other-answer A.Unknown h k = absurd (k refl)
 
 -- ---- a line before or after recording
 
 -- after it where it is not the first
-pub is-over : {s : Stage} → OneOf (0 ∷ 2 ∷ []) (tag_of stage-type s) → OneOf (1 ∷ 2 ∷ []) (tag_of stage-type s) → s ≡ Over
-is-over {s = First} h g = absurd (miss (1 ∷ 2 ∷ []) 0 tt g)
-is-over {s = Recording} h g = absurd (miss (0 ∷ 2 ∷ []) 1 tt h)
+pub is-over : {s : Stage} → (s ≡ Recording → ⊥) → (s ≡ First → ⊥) → s ≡ Over
+is-over {s = First} h g = absurd (g refl)
+is-over {s = Recording} h g = absurd (h refl)
 is-over {s = Over} h g = refl
 
 module _ (c : Controller) (k : Clock) (l : List ℕ) where

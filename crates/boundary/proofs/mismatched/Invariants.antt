@@ -1,6 +1,5 @@
 use Prim.Native.Nat.{◌≤◌, ◌-◌}
 use Rattle.controller.specs.Sound.{Sound}
-use borrow.Author.Rules.{rules}
 use Rattle.boundary.proofs.mismatched.Given as goal
 
 abbrev pub invariant-loop-n : goal.invariant-loop-n

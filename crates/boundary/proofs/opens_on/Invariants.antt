@@ -1,5 +1,4 @@
 use Prim.Native.Nat.{◌≤◌, ◌-◌}
-use borrow.Author.Rules.{rules}
 use Rattle.controller.specs.Sound.{Sound}
 use Rattle.boundary.proofs.opens_on.Given as goal
 

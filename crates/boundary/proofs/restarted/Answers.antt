@@ -1,4 +1,3 @@
-use borrow.Author.Rules.{rules}
 use Rattle.boundary.proofs.Laws.{restarted-sound}
 use Rattle.boundary.proofs.restarted.Goals as goal
 

@@ -1,5 +1,3 @@
-use mathlib.Core.Bool.{true≢false}
-use mathlib.Core.Path.{sym}
 use Prim.Native.Nat.{◌-◌}
 use native.Mathlib.Omega.{arith}
 use borrow.Author.Tests.{leb-true}

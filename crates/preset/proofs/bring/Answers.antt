@@ -1,21 +1,36 @@
-use mathlib.Core.Path.{◌≡◌, sym, ◌∙◌}
-use Prim.Native.Nat.{◌-◌}
 use native.Mathlib.Omega.{arith}
-use lib.ListN.{length}
-use Rattle.lines.specs.Intake.{Behind}
-use Rattle.acts.specs.Script.{Brings, brings-none, brings-line, brings-more, line-behind, line-short}
+use borrow.Author.Rules.{rules}
+use Rattle.acts.specs.Script.{brings-line, brings-more, line-behind, line-short}
 use Rattle.preset.proofs.bring.Goals as goal
-use Rattle.preset.proofs.bring.Goals.{After-made-c, In-Line}
+
+pub returns-in_default : goal.returns-in_default
+returns-in_default c = brings-more _ _ _ c.next_line-taken.ensures c.loop-from.invariant c.in_default.is
 
 -- the line lies in the buffer
-lies : (c : In-Line) → Behind c.loop-from.held c.args.input.now c.in-Line.from c.in-Line.to c.next_line-taken.result.intake
-lies c = line-behind _ _ _ c.next_line-taken.ensures c.in-Line.is
+pub slice_bounds-made-count : goal.slice_bounds-made-count
+slice_bounds-made-count c = (line-behind _ _ _ c.next_line-taken.ensures c.in-Line.is).order
+
+pub slice_bounds-made-start : goal.slice_bounds-made-start
+slice_bounds-made-start c = (line-behind _ _ _ c.next_line-taken.ensures c.in-Line.is).order
+
+pub slice_bounds-made-end : goal.slice_bounds-made-end
+slice_bounds-made-end c = let b = line-behind _ _ _ c.next_line-taken.ensures c.in-Line.is in omega (arith, b.inside)
 
 pub made-c-requires : goal.made-c-requires
-made-c-requires c =
-    let inv = c.loop-from.invariant in
-    (inv.0.sound, (line-short _ _ _ c.next_line-taken.ensures c.in-Line.is, omega (arith, inv.1)))
+made-c-requires c = record {
+  sound = c.loop-from.invariant.sound;
+  line = line-short _ _ _ c.next_line-taken.ensures c.in-Line.is;
+  room = search rules;
+}
 
 -- what a line makes of the box, the lines behind it find
-brings : (c : After-made-c) → Brings c.args.c c.args.held c.args.input.now c.made-c.result c.next_line-taken.result.intake
-brings c = brings-line _ _ _ c.next_line-taken.ensures c.loop-from.invariant.0 c.in-Line.is c.made-c.ensures
+pub returns-then-to-start : goal.returns-then-to-start
+returns-then-to-start c = brings-line _ _ _ c.next_line-taken.ensures c.loop-from.invariant c.in-Line.is c.made-c.ensures
+
+pub loop-from-preserved : goal.loop-from-preserved
+loop-from-preserved c = brings-line _ _ _ c.next_line-taken.ensures c.loop-from.invariant c.in-Line.is c.made-c.ensures
+
+pub loop-from-smaller : goal.loop-from-smaller
+loop-from-smaller c =
+    let b = line-behind _ _ _ c.next_line-taken.ensures c.in-Line.is in
+    omega (arith, b.place, b.ahead, b.inside)

@@ -1,7 +1,6 @@
 use mathlib.Core.Path.{◌≡◌, sym, ◌∙◌, subst}
 use Prim.Native.Nat.{ℕ, ◌≤◌, ◌<◌}
 use native.Mathlib.Omega.{arith}
-use borrow.Author.Rules.{rules}
 use Rattle.heading.specs.Heading.{Inside, said-line, said_more, said-nothing}
 use Rattle.heading.specs.declared.Found.{Found}
 use Rattle.heading.specs.declared.Found.TheVariants as F

@@ -1,5 +1,4 @@
 use mathlib.Core.Path.{sym}
-use borrow.Author.Rules.{rules}
 use lib.Seq.{length-take-le}
 use Rattle.report.specs.Promises.{holds-inside}
 use Rattle.heading.specs.Heading.{heading-inside}

@@ -18,12 +18,11 @@ returns-in-Done c = record {
 pub returns-in_default-restart : goal.returns-in_default-restart
 unfolding heard_said says_act
 returns-in_default-restart c =
-    let a = c.answer-1.given in
-    record { is = sym (ap (λ (x : Answer). heard_said (says_act x)) a.1 ∙ sym (refused-heard a.0.0 c.in-Done.keys2)); uncounted = other }
+    record { is = sym (ap (λ (x : Answer). heard_said (says_act x)) c.in-Restart.is ∙ sym (refused-heard c.in-Restart.restart c.in_default-restart.not-Done)); uncounted = other }
 
 pub returns-in-Unknown : goal.returns-in-Unknown
 unfolding heard_said says_act
 returns-in-Unknown c = record { is = sym (ap (λ (a : Answer). heard_said (says_act a)) c.in-Unknown.is); uncounted = lost }
 
 pub returns-in_default : goal.returns-in_default
-returns-in_default c = record { is = other-answer c.args.answer c.match.keys3; uncounted = other }
+returns-in_default c = record { is = other-answer c.args.answer c.in_default.not-Restart c.in_default.not-Unknown; uncounted = other }

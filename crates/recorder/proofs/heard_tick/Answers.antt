@@ -3,7 +3,6 @@ use Rattle.controller.specs.declared.TickAnswer.{TickAnswer}
 use Rattle.controller.specs.Says.{says_tick}
 use Rattle.recorder.specs.Recording.{heard_doses, heard_tick}
 use Rattle.recorder.proofs.Listening.{fault-heard}
-use borrow.Author.Rules.{rules}
 use Rattle.recorder.proofs.heard_tick.Goals as goal
 
 pub returns-in-Outputs : goal.returns-in-Outputs

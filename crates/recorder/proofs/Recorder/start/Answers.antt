@@ -4,7 +4,6 @@ use Rattle.clock.specs.declared.Clock.{Clock}
 use Rattle.recorder.specs.Recording.{start_of, Carries}
 use Rattle.recorder.specs.Keeps.{start-carries}
 use Rattle.recorder.specs.declared.Recorder.{Recorder}
-use borrow.Author.Rules.{rules}
 use Rattle.recorder.proofs.Recorder.start.Goals as goal
 
 pub returns : goal.returns
