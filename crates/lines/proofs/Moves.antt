@@ -6,7 +6,7 @@ use native.Mathlib.Nat.{zero-add}
 use native.Mathlib.Omega.{arith}
 use native.Mathlib.Numerals.{add-one}
 use lib.ListN.{length, get_or, take, drop, set, length-drop}
-use lib.Seq.{length-take-le, get_or-drop, paste, paste-suc, length-paste, drop-paste}
+use lib.Seq.{length-take-le, get_or-drop, paste, paste-suc, drop-paste}
 use Rattle.laws.specs.Over.{over}
 use Rattle.lines.specs.Places.{part_of, part-least, Carries}
 
@@ -20,9 +20,6 @@ pub record Moved (from end : ℕ) (old new : List ℕ) (i n : ℕ) : Type 0 wher
 module _ {from end i n : ℕ} {old new : List ℕ} (m : Moved from end old new i n) where
   moved-few : n ≤ length (drop from old)
   moved-few = omega (arith, m.most, m.all, length-drop from old)
-
-  pub moved_length : length new ≡ length old
-  moved_length = ap length m.left ∙ length-paste old 0 (drop from old) n (omega (arith, m.most, m.all)) moved-few
 
   -- what has not been reached yet is as it was
   moved-byte : get_or new i 0 ≡ get_or (drop from old) n 0
