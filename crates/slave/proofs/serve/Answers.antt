@@ -1,7 +1,5 @@
 use mathlib.Core.Path.{sym, subst}
 use Prim.Native.Nat.{ℕ}
-use native.Mathlib.Omega.{arith}
-use lib.Seq.{length-take-le}
 use Rattle.slave.specs.Serves.{Serves}
 use Rattle.slave.proofs.serve.Goals as goal
 
