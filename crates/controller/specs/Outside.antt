@@ -50,7 +50,7 @@ completes c c' =
     clear c'.condition
     && pick (leb 2 c.set.algorithm) (leaves_settle c c') (eqb c.set.algorithm 1 && shuts3 c c')
 
--- w as it was noted at the named ticks: at the tick that began the cycle (w0 or w_h), and at the tick that opened output 3 (w_s)
+-- w as it was noted at the named ticks: at the tick that began the cycle (w0 or wH), and at the tick that opened output 3 (wS)
 pub record Noted : Type 0 where
   pub began : ℤ
   pub opened : ℤ
@@ -65,7 +65,7 @@ opens3 c c' = not c.gates.three && c'.gates.three
 unfoldable pub noted : Controller → Controller → ℤ → Noted → Noted
 noted c c' w m = record { began = pick (begins c c') w m.began; opened = pick (opens3 c c') w m.opened }
 
--- Amount: AL1: w_s-w_e if p11 = 0, w_s-w0 if 1; AL2, AL3: w_h-w; below 0 it is 0
+-- Amount: AL1: wS-wE if p11 = 0, wS-w0 if 1; AL2, AL3: wH-w; below 0 it is 0
 unfoldable pub amount_seen : Settings → Noted → ℤ → ℕ
 amount_seen set m w =
     pick (leb 2 set.algorithm) (not_below_zero (m.began -ℤ w))

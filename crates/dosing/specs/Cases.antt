@@ -52,7 +52,7 @@ both_gates algorithm = set_of (algorithm ∷ 1000 ∷ 500 ∷ 100 ∷ 20 ∷ 50 
 abbrev slow : ℕ → ℕ → Settings
 slow algorithm level = set_of (algorithm ∷ 1000 ∷ 500 ∷ 100 ∷ 20 ∷ level ∷ 4 ∷ 4 ∷ 2 ∷ 0 ∷ 0 ∷ 0 ∷ 0 ∷ 0 ∷ 1 ∷ 0 ∷ 0 ∷ [])
 
--- AL2 with Pc and Pf at D: wf is 0
+-- AL2 with Pc and Pf at D: Wf is 0
 abbrev no_fill : Settings
 no_fill = set_of (2 ∷ 1000 ∷ 500 ∷ 500 ∷ 500 ∷ 800 ∷ 4 ∷ 4 ∷ 1 ∷ 0 ∷ 0 ∷ 0 ∷ 0 ∷ 0 ∷ 1 ∷ 0 ∷ 0 ∷ [])
 
@@ -64,7 +64,7 @@ sees w start stable = record { f = units w; z = units (pos 0); w = units w; star
 abbrev sees_from : ℤ → ℤ → Seen
 sees_from f z = record { f = units f; z = units z; w = units (f -ℤ z); start = true; stable = false }
 
--- AL1: at wf the coarse stage shuts both and enters Settle at once
+-- AL1: at Wf the coarse stage shuts both and enters Settle at once
 pub fine-passed : step_of al1 (Coarse (units (pos 0))) (sees (pos 480) true false) ≡ to (Settle (units (pos 0)) 0) shut (sees (pos 480) true false)
 unfolding step_of coarse_stage fill full reached_wf wf pick
 fine-passed = refl
@@ -94,7 +94,7 @@ pub starts :
 unfolding step_of ready ready_to_fill fill_begins zeroed near_zero coarse_stage full reached_wf reached_wc wc wf pick
 starts = (refl, refl, refl, refl, refl, refl, refl)
 
--- the zeroing test is on F, not on w; where it fails w0 = F-Z; AL0 zeroes as AL1 does; a start with w >= wf enters Settle at once
+-- the zeroing test is on F, not on w; where it fails w0 = F-Z; AL0 zeroes as AL1 does; a start with w >= Wf enters Settle at once
 pub starts-by-F :
     (step_of al1 Ready (sees_from (pos 60) (pos 20)) ≡ to (Coarse (units (pos 40))) (gates true false false) (sees_from (pos 60) (pos 20)))
     × (step_of al1 Ready (sees_from (pos 40) (negsuc 19)) ≡ to (Coarse (units (pos 0))) (gates true false false) (sees_from (pos 40) (pos 40)))
@@ -123,7 +123,7 @@ pub settles-later :
 unfolding set_of step_of settle calm settle_ends discharge_opens pick
 settles-later = (refl, refl, refl, refl, refl)
 
--- Discharge: at w = M it goes on; below M the amount is w_s-w_e if p11 = 0, w_s-w0 if 1; below 0 it is 0
+-- Discharge: at w = M it goes on; below M the amount is wS-wE if p11 = 0, wS-w0 if 1; below 0 it is 0
 pub discharges :
     ((step_of al1 (Discharge (units (pos 7)) (units (pos 490)) true) (sees (pos 50) true false)).phase ≡ Discharge (units (pos 7)) (units (pos 490)) true)
     × (step_of al1 (Discharge (units (pos 7)) (units (pos 490)) true) (sees (pos 49) true false) ≡ complete 441 true (sees (pos 49) true false))
@@ -153,7 +153,7 @@ pub loads :
 unfolding step_of ready ready_to_dose waits load calm settle_ends pick
 loads = (refl, refl, refl, refl, refl, refl)
 
--- AL2: Dose goes by w_h-w; its amount is w_h-w, or 0 if below 0
+-- AL2: Dose goes by wH-w; its amount is wH-w, or 0 if below 0
 pub doses :
     (step_of al2 Ready (sees (pos 800) true false) ≡ to (DoseCoarse (units (pos 800))) (gates true true false) (sees (pos 800) true false))
     × ((step_of al2 (DoseCoarse (units (pos 800))) (sees (pos 401) true false)).gates ≡ gates true true false)
@@ -165,7 +165,7 @@ pub doses :
 unfolding step_of ready ready_to_dose waits dose_coarse dose_fine dose_settle settle_ends not_below_zero reached_wf reached_wc wc wf pick
 doses = (refl, refl, refl, refl, refl, refl, refl)
 
--- AL2: coarse does not open again in the fine stage; wf may be reached in the coarse stage; with wf = 0 Settle begins on the tick of the start
+-- AL2: coarse does not open again in the fine stage; Wf may be reached in the coarse stage; with Wf = 0 Settle begins on the tick of the start
 pub doses-on :
     (step_of al2 (DoseFine (units (pos 800))) (sees (pos 500) true false) ≡ to (DoseFine (units (pos 800))) (gates false true false) (sees (pos 500) true false))
     × (step_of al2 (DoseCoarse (units (pos 800))) (sees (pos 320) true false) ≡ to (DoseSettle (units (pos 800)) 0) shut (sees (pos 320) true false))

@@ -30,7 +30,7 @@ to p g t = record { phase = p; z = t.z; gates = g; dose = Nothing }
 abbrev pub complete : ℕ → Bool → Seen → Moved
 complete amount settled t = record { phase = Ready; z = t.z; gates = shut; dose = Complete amount settled }
 
--- ---- what the stages compare: x is w in AL0 and AL1, w_h-w in AL2 and AL3
+-- ---- what the stages compare: x is w in AL0 and AL1, wH-w in AL2 and AL3
 
 unfoldable pub reached_wf : Settings → ℤ → Bool
 reached_wf set x = le_z (pos (wf set)) x
@@ -54,18 +54,18 @@ unfoldable pub zeroed : Settings → Seen → Seen
 zeroed set t =
     pick (near_zero set t.f.v) (record { f = t.f; z = t.f; w = units (pos 0); start = t.start; stable = t.stable }) t
 
--- on reaching wf: AL1 enters Settle, and the tick that enters is number 0; AL0 holds with both closed
+-- on reaching Wf: AL1 enters Settle, and the tick that enters is number 0; AL0 holds with both closed
 unfoldable pub full : Settings → Units → Phase
 full set w0 = pick (eqb set.algorithm 0) Hold (Settle w0 0)
 
--- Coarse stage: w >= wf closes 1 and 2, Settle; else w >= wc closes 1 and opens 2, fine stage; else 1 open, and 2 open exactly if o = 1
+-- Coarse stage: w >= Wf closes 1 and 2, Settle; else w >= Wc closes 1 and opens 2, fine stage; else 1 open, and 2 open exactly if o = 1
 unfoldable pub coarse_stage : Settings → Units → Seen → Moved
 coarse_stage set w0 t =
     pick (reached_wf set t.w.v) (to (full set w0) shut t)
     (pick (reached_wc set t.w.v) (to (Fine w0) (gates false true false) t)
     (to (Coarse w0) (gates true (eqb set.o 1) false) t))
 
--- Fine stage: w >= wf closes 2, Settle; else 2 open
+-- Fine stage: w >= Wf closes 2, Settle; else 2 open
 unfoldable pub fine_stage : Settings → Units → Seen → Moved
 fine_stage set w0 t = pick (reached_wf set t.w.v) (to (full set w0) shut t) (to (Fine w0) (gates false true false) t)
 
@@ -89,7 +89,7 @@ hold t = pick t.start (to Hold shut t) (to Ready shut t)
 unfoldable pub settle_ends : Settings → ℕ → Bool → Bool
 settle_ends set n stable = stable || leb (256 * set.p9) n
 
--- then w_s = w, output 3 opens, Discharge
+-- then wS = w, output 3 opens, Discharge
 unfoldable pub discharge_opens : Units → Seen → Moved
 discharge_opens w0 t = to (Discharge w0 t.w t.stable) (gates false false true) t
 
@@ -97,11 +97,11 @@ discharge_opens w0 t = to (Discharge w0 t.w t.stable) (gates false false true) t
 unfoldable pub settle : Settings → Units → ℕ → Seen → Moved
 settle set w0 n t = pick (settle_ends set n t.stable) (discharge_opens w0 t) (to (Settle w0 n) shut t)
 
--- Amount: w_s-w_e if p11 = 0, w_s-w0 if 1; below 0 it is 0
+-- Amount: wS-wE if p11 = 0, wS-w0 if 1; below 0 it is 0
 unfoldable pub amount_of : Settings → Units → Units → Units → ℕ
 amount_of set w0 w_s w_e = pick (eqb set.p11 0) (not_below_zero (w_s.v -ℤ w_e.v)) (not_below_zero (w_s.v -ℤ w0.v))
 
--- Discharge: w < M closes 3, w_e = w, the dose is complete, Ready
+-- Discharge: w < M closes 3, wE = w, the dose is complete, Ready
 unfoldable pub discharge : Settings → Units → Units → Bool → Seen → Moved
 discharge set w0 w_s settled t =
     pick (lt_z t.w.v (pos set.level)) (complete (amount_of set w0 w_s t.w) settled t)
@@ -117,7 +117,7 @@ load set t = pick (le_z (pos set.level) t.w.v) (to (Calm 0) shut t) (to Load (ga
 unfoldable pub calm : Settings → ℕ → Seen → Moved
 calm set n t = pick (settle_ends set n t.stable) (to Ready shut t) (to (Calm n) shut t)
 
--- Dose uses w_h-w where AL1 uses w, with 1 and 2 both open in the coarse stage; then Settle
+-- Dose uses wH-w where AL1 uses w, with 1 and 2 both open in the coarse stage; then Settle
 unfoldable pub dose_coarse : Settings → Units → Seen → Moved
 dose_coarse set w_h t =
     pick (reached_wf set (w_h.v -ℤ t.w.v)) (to (DoseSettle w_h 0) shut t)
@@ -128,12 +128,12 @@ unfoldable pub dose_fine : Settings → Units → Seen → Moved
 dose_fine set w_h t =
     pick (reached_wf set (w_h.v -ℤ t.w.v)) (to (DoseSettle w_h 0) shut t) (to (DoseFine w_h) (gates false true false) t)
 
--- at its end the dose is complete, amount w_h-w or 0 if below 0, Ready
+-- at its end the dose is complete, amount wH-w or 0 if below 0, Ready
 unfoldable pub dose_settle : Settings → Units → ℕ → Seen → Moved
 dose_settle set w_h n t =
     pick (settle_ends set n t.stable) (complete (not_below_zero (w_h.v -ℤ t.w.v)) t.stable t) (to (DoseSettle w_h n) shut t)
 
--- Ready: w < D opens 3, Load, with or without start; else on start w_h = w, Dose on the same tick
+-- Ready: w < D opens 3, Load, with or without start; else on start wH = w, Dose on the same tick
 unfoldable pub ready_to_dose : Settings → Seen → Moved
 ready_to_dose set t =
     pick (lt_z t.w.v (pos set.dose)) (to Load (gates false false true) t)

@@ -137,7 +137,7 @@ fn shuts_at(dose: u32, lead: u32) -> u32
     if lead <= dose { dose - lead } else { 0 }
 }
 
-// x >= wf
+// x >= Wf
 fn reached_wf(set: Settings, x: Wide) -> bool
     ensures { result ≡ reached_wf set x.v }
 {
@@ -145,7 +145,7 @@ fn reached_wf(set: Settings, x: Wide) -> bool
     at_least(x, wf)
 }
 
-// x >= wc
+// x >= Wc
 fn reached_wc(set: Settings, x: Wide) -> bool
     ensures { result ≡ reached_wc set x.v }
 {
@@ -226,7 +226,7 @@ fn zeroed(set: Settings, mut t: Seen) -> Seen
     t
 }
 
-// On reaching wf AL1 enters Settle at tick number 0; AL0 holds.
+// On reaching Wf AL1 enters Settle at tick number 0; AL0 holds.
 fn full(set: Settings, w0: Units) -> Phase
     ensures { result ≡ full set w0 }
 {
@@ -236,7 +236,7 @@ fn full(set: Settings, w0: Units) -> Phase
     Phase::Settle { w0: w0, n: 0 }
 }
 
-// Coarse stage of Fill: 1 open, and 2 open exactly if o = 1; at wc 2 open, fine stage; at wf both closed.
+// Coarse stage of Fill: 1 open, and 2 open exactly if o = 1; at Wc 2 open, fine stage; at Wf both closed.
 fn coarse_stage(set: Settings, w0: Units, t: Seen) -> Moved
     ensures { result ≡ coarse_stage set w0 t }
 {
@@ -251,7 +251,7 @@ fn coarse_stage(set: Settings, w0: Units, t: Seen) -> Moved
     opens(Phase::Coarse { w0: w0 }, true, both, false, t)
 }
 
-// Fine stage of Fill: 2 open; at wf closed.
+// Fine stage of Fill: 2 open; at Wf closed.
 fn fine_stage(set: Settings, w0: Units, t: Seen) -> Moved
     ensures { result ≡ fine_stage set w0 t }
 {
@@ -321,7 +321,7 @@ fn settle_ends(set: Settings, n: u64, stable: bool) -> bool
     true
 }
 
-// w_s = w, output 3 opens, Discharge.
+// wS = w, output 3 opens, Discharge.
 fn discharge_opens(w0: Units, t: Seen) -> Moved
     ensures { result ≡ discharge_opens w0 t }
 {
@@ -345,7 +345,7 @@ fn settle(set: Settings, w0: Units, n: u64, t: Seen) -> Moved
     rests(Phase::Settle { w0: w0, n: n + 1 }, t)
 }
 
-// w_s-w_e if p11 = 0, w_s-w0 if 1; below 0 it is 0.
+// wS-wE if p11 = 0, wS-w0 if 1; below 0 it is 0.
 fn amount_of(set: Settings, w0: Units, ws: Units, we: Units) -> u32
     ensures { result ≡ amount_of set w0 ws we }
 {
@@ -355,7 +355,7 @@ fn amount_of(set: Settings, w0: Units, ws: Units, we: Units) -> u32
     not_below_zero(ws, w0)
 }
 
-// AL1, Discharge: w < M closes 3, w_e = w, the dose is complete, Ready.
+// AL1, Discharge: w < M closes 3, wE = w, the dose is complete, Ready.
 fn discharge(set: Settings, w0: Units, ws: Units, settled: bool, t: Seen) -> Moved
     ensures { result ≡ discharge set w0 ws settled t }
 {
@@ -390,7 +390,7 @@ fn calm(set: Settings, n: u64, t: Seen) -> Moved
     rests(Phase::Calm { n: n + 1 }, t)
 }
 
-// Coarse stage of Dose: 1 and 2 open; at wc 2 open, fine stage; at wf both closed.
+// Coarse stage of Dose: 1 and 2 open; at Wc 2 open, fine stage; at Wf both closed.
 fn dose_coarse(set: Settings, wh: Units, t: Seen) -> Moved
     ensures { result ≡ dose_coarse set wh t }
 {
@@ -404,7 +404,7 @@ fn dose_coarse(set: Settings, wh: Units, t: Seen) -> Moved
     opens(Phase::DoseCoarse { wh: wh }, true, true, false, t)
 }
 
-// Fine stage of Dose: 2 open; at wf closed.
+// Fine stage of Dose: 2 open; at Wf closed.
 fn dose_fine(set: Settings, wh: Units, t: Seen) -> Moved
     ensures { result ≡ dose_fine set wh t }
 {
@@ -414,7 +414,7 @@ fn dose_fine(set: Settings, wh: Units, t: Seen) -> Moved
     opens(Phase::DoseFine { wh: wh }, false, true, false, t)
 }
 
-// Settle of Dose: at its end the dose is complete, amount w_h-w or 0 if below 0, Ready.
+// Settle of Dose: at its end the dose is complete, amount wH-w or 0 if below 0, Ready.
 fn dose_settle(set: Settings, wh: Units, n: u64, t: Seen) -> Moved
     ensures { result ≡ dose_settle set wh (n + 1) t }
 {
@@ -424,7 +424,7 @@ fn dose_settle(set: Settings, wh: Units, n: u64, t: Seen) -> Moved
     rests(Phase::DoseSettle { wh: wh, n: n + 1 }, t)
 }
 
-// AL2, Ready: w < D opens 3, Load; else on start w_h = w, Dose on the same tick.
+// AL2, Ready: w < D opens 3, Load; else on start wH = w, Dose on the same tick.
 fn ready_to_dose(set: Settings, t: Seen) -> Moved
     ensures { result ≡ ready_to_dose set t }
 {

@@ -60,7 +60,7 @@ pub in-AL0 :
 unfolding whole
 in-AL0 = (refl, refl, refl, refl, refl)
 
--- AL2: start off with w >= D, where output 3 has no start to wait for; Load; Calm; Dose in its stages, with w_h-w; its Settle
+-- AL2: start off with w >= D, where output 3 has no start to wait for; Load; Calm; Dose in its stages, with wH-w; its Settle
 pub in-AL2 :
     (whys (ticked (box 2 800) ((pos 900, 0) ∷ [])) ≡ says no_start no_start (in_phase ready) no_alarm)
     × (whys (ticked (box 2 800) ((pos 0, 0) ∷ [])) ≡ says (in_phase load) (in_phase load) is_open no_alarm)
@@ -71,7 +71,7 @@ pub in-AL2 :
 unfolding whole
 in-AL2 = (refl, refl, refl, refl, refl, refl)
 
--- AL3: input 4 is no start, and output 3 waits for start too; with the link start its Dose in the fine stage, with w_h-w, and its Settle
+-- AL3: input 4 is no start, and output 3 waits for start too; with the link start its Dose in the fine stage, with wH-w, and its Settle
 pub in-AL3 :
     (whys (ticked (box 3 800) ((pos 0, 8) ∷ [])) ≡ says no_start no_start no_start no_alarm)
     × (whys (ticked (link_of (box 3 800) true) ((pos 900, 0) ∷ (pos 100, 0) ∷ [])) ≡ says (lead_reached (pos 400) 400) is_open (in_phase dose) no_alarm)

@@ -75,7 +75,7 @@ settling_or set (DoseCoarse w_h) k next = next
 settling_or set (DoseFine w_h) k next = next
 settling_or set (DoseSettle w_h n) k next = next
 
--- lead reached, with w (w_h-w in AL2, AL3) and limit (wc for 1 in the fine stage, wf for 1 or 2 in Settle or AL0's hold)
+-- lead reached, with w (wH-w in AL2, AL3) and limit (Wc for 1 in the fine stage, Wf for 1 or 2 in Settle or AL0's hold)
 unfoldable pub lead_or : Settings → Phase → ℤ → ℕ → Cause → Cause
 lead_or set Ready w k next = next
 lead_or set (Coarse w0) w k next = next

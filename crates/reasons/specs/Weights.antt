@@ -11,7 +11,7 @@ use Rattle.controller.specs.Tick.{w_of}
 use Rattle.controller.specs.Sound.{Sound}
 use Rattle.controller.specs.declared.Controller.{Controller}
 
--- w_h-w, where it is compared, is at most 1,800,000 in size
+-- wH-w, where it is compared, is at most 1,800,000 in size
 abbrev pub Comparable : Phase → ℤ → Type 0
 Comparable Ready w = Unit {0}
 Comparable (Coarse w0) w = Unit {0}
@@ -30,7 +30,7 @@ pub weight-most : (c : Controller) → Sound c → nat_abs (w_of c) ≤ 924998
 unfolding w_of
 weight-most c s = omega (arith, abs-sub c.f.v c.z.v, s.previous, s.zero)
 
--- w_h and F were both on the scale
+-- wH and F were both on the scale
 drawn-most : (w_h f z : ℤ) → nat_abs (w_h +ℤ z) ≤ 900000 → nat_abs f ≤ 900000 → nat_abs (w_h -ℤ (f -ℤ z)) ≤ 1800000
 drawn-most w_h f z h k =
     omega (arith, ap nat_abs (sym (shift w_h (f -ℤ z) z) ∙ ap (λ (x : ℤ). (w_h +ℤ z) -ℤ x) (-ℤ-+ℤ_cancel f z)), abs-sub (w_h +ℤ z) f)

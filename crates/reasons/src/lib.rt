@@ -36,7 +36,7 @@ pub enum Reason {
     NoStart,
     // The ticks gone and those allowed.
     Settling { gone: u64, allowed: u64 },
-    // What is compared, w or w_h-w, and its limit.
+    // What is compared, w or wH-w, and its limit.
     Lead { w: Units, limit: u32 },
     Phase(Name),
     Overload,
@@ -157,7 +157,7 @@ fn phase_reason(set: Settings, phase: Phase, w: Units, output: u8) -> Reason
     }
 }
 
-// The fine stage has reached wc for output 1.
+// The fine stage has reached Wc for output 1.
 fn at_wc(x: Units, wc: u32, output: u8, name: Name) -> Reason
     ensures { says_reason result ≡ done (pick (eqb output 1) (lead_reached x.v wc) (in_phase (says_name name))) }
 {
@@ -167,7 +167,7 @@ fn at_wc(x: Units, wc: u32, output: u8, name: Name) -> Reason
     Reason::Phase(name)
 }
 
-// Settle and AL0's hold have reached wf for outputs 1 and 2.
+// Settle and AL0's hold have reached Wf for outputs 1 and 2.
 fn at_wf(x: Units, wf: u32, output: u8, name: Name) -> Reason
     ensures { says_reason result ≡ done (pick (leb output 2) (lead_reached x.v wf) (in_phase (says_name name))) }
 {

@@ -26,7 +26,7 @@ pub record GoodBounds (s : Settings) : Type 0 where
   pub pf : s.pf ≤ s.dose
   pub least : 1 ≤ s.level
   pub most : s.level ≤ capacity_most
-  -- wc = D-Pc and wf = D-Pf in whole numbers, nothing cut off at 0
+  -- Wc = D-Pc and Wf = D-Pf in whole numbers, nothing cut off at 0
   pub coarse : wc s + s.pc ≡ s.dose
   pub fine : wf s + s.pf ≡ s.dose
   pub order : wc s ≤ wf s

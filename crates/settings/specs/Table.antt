@@ -83,7 +83,7 @@ first_from n (r ∷ rs) = pick (in_range r) (first_from (suc n) rs) (refused R2 
 unfoldable pub first_bad : Settings → Answer (Unit {0})
 first_bad s = first_from 1 (table s)
 
--- wc = D-Pc, wf = D-Pf
+-- Wc = D-Pc, Wf = D-Pf
 unfoldable pub wc : Settings → ℕ
 wc s = s.dose - s.pc
 

@@ -1,22 +1,19 @@
 use mathlib.Core.Path.{◌≡◌, refl, sym, ap, ◌∙◌, subst}
-use mathlib.Core.List.{List, [], ◌∷◌, ◌++◌}
-use Prim.Native.Nat.{ℕ, ◌-◌, ◌≤◌, ◌<◌}
+use mathlib.Core.List.{List}
+use Prim.Native.Nat.{ℕ, ◌-◌, ◌≤◌}
 use native.Mathlib.Omega.{arith}
-use types.Run.{OneOf, miss}
-use denote.Enum.Declared.{tag_of}
-use lib.ListN.{length, take, drop, length-append, length-drop}
+use lib.ListN.{length, take, drop}
 use lib.Seq.{length-take-le}
 use Rattle.controller.specs.declared.Controller.{Controller}
 use Rattle.controller.specs.declared.Requested.{Requested}
 use Rattle.controller.specs.Says.{Replies}
 use Rattle.calls.specs.declared.Call as read
 use Rattle.calls.specs.declared.Call.TheVariants as C
-use Rattle.calls.specs.contracts.Call.{the_type as call-type}
 use Rattle.calls.specs.Reads.{as_call, Unticked, Within, ReadsCall, read-call}
 use Rattle.lines.specs.declared.Intake.{Intake}
 use Rattle.lines.specs.declared.Taken.{Taken}
 use Rattle.lines.specs.declared.Next.TheVariants.{Line}
-use Rattle.lines.specs.Intake.{next_of, Behind}
+use Rattle.lines.specs.Intake.{next_of}
 use Rattle.lines.specs.Places.{part_of}
 use Rattle.script.specs.Told.{no-tick}
 use Rattle.laws.specs.Decimal.{Parsed}
@@ -27,7 +24,6 @@ use Rattle.acts.specs.Script.{Brings, brings-none, brings-then, brings-line, bri
 use Rattle.runs.specs.Runs.{Stops}
 use borrow.Author.Rules.{rules}
 use Rattle.runs.proofs.answer.Goals as goal
-use Rattle.runs.proofs.answer.Goals.{After-lend, After-out-1, After-reply-1, After-reply-in-loop-from-4-1, After-ticks-reached, In-Line, In-Line-2}
 
 -- ---- what a line request makes of the controller
 
@@ -40,65 +36,62 @@ roomy : {call : read.Call} {n room : ℕ} → call ≡ C.Request n room → With
 unfolding Within
 roomy e w = subst Within e w
 
--- a reply in the first bytes of a buffer leaves its length
-part_length : (spare part : List ℕ) (k : ℕ) → k ≤ length spare → length part ≡ length (take k spare) → length (part ++ drop k spare) ≡ length spare
-part_length spare part k h e = omega (arith, e, length-append part (drop k spare), length-take-le k spare h, length-drop k spare)
-
 -- the lines behind it find that controller
 step : (input : List ℕ) (held : Intake) (t : Taken) → t ≡ next_of held input → {first c d : Controller} {start : Intake} {from to : ℕ} {call : read.Call} {old new : List ℕ}
     → Brings first start input c held → t.next ≡ Line from to → ReadsCall (take (to - from) (drop from input)) old new call → 2048 ≤ length old → Made c (as_call new call) d → Brings first start input d t.intake
 step input held t e g n r h m = brings-line input held t e g n (made-read r h (line-short input held t e n) m)
 
 -- no tick and no line request: it is answered as it is
-abbrev others : List ℕ
-others = 0 ∷ 2 ∷ 3 ∷ 4 ∷ 5 ∷ 6 ∷ []
-
-answered-as : (s : List ℕ) (call : read.Call) → OneOf others (tag_of call-type call) → Unticked call → Within call → answered_in s call ≡ as_call s call
+answered-as : (s : List ℕ) (call : read.Call) → ((n room : ℕ) → call ≡ C.Request n room → ⊥) → Unticked call → Within call → answered_in s call ≡ as_call s call
 unfolding answered_in as_call
 answered-as s (C.Tick x i) h u w = absurd u
-answered-as s (C.Request n room) h u w = absurd (miss others 1 tt h)
+answered-as s (C.Request n room) h u w = absurd (h n room refl)
 answered-as s (C.Modbus n room) h u w = heard-as s (C.Modbus n room) tt w
 answered-as s (C.Order o) h u w = heard-as s (C.Order o) tt w
 answered-as s (C.Item i) h u w = heard-as s (C.Item i) tt w
 answered-as s (C.Bytes v n k) h u w = heard-as s (C.Bytes v n k) tt w
 answered-as s C.Unknown h u w = refl
 
--- ---- the loop
+-- ---- the line that was found, and a line request's bytes and reply
 
--- the ticks that stand next, after the lines before them
-ticked : (c : After-ticks-reached) → Brings c.args.c c.args.held c.args.input.now c.ticks-reached.result.controller c.ticks-reached.result.intake
-ticked c = brings-then c.loop-from.invariant.0 c.ticks-reached.ensures.brings
+pub slice_bounds-read-count : goal.slice_bounds-read-count
+slice_bounds-read-count c = (line-behind _ _ _ c.next_line-taken.ensures c.in-Line.is).order
 
--- the line behind them
-behind : (c : In-Line) → Behind c.ticks-reached.result.intake c.args.input.now c.in-Line.from c.in-Line.to c.next_line-taken.result.intake
-behind c = line-behind _ _ _ c.next_line-taken.ensures c.in-Line.is
+pub slice_bounds-read-start : goal.slice_bounds-read-start
+slice_bounds-read-start c = (line-behind _ _ _ c.next_line-taken.ensures c.in-Line.is).order
 
--- lies further on
-further : (c : In-Line) → length c.args.input.now - c.next_line-taken.result.intake.at < length c.args.input.now - c.loop-from.held.at
-further c = let b = behind c in omega (arith, b.place, b.ahead, b.inside, c.ticks-reached.ensures.less)
+pub slice_bounds-read-end : goal.slice_bounds-read-end
+slice_bounds-read-end c = let b = line-behind _ _ _ c.next_line-taken.ensures c.in-Line.is in omega (arith, b.inside)
 
--- a reply lies in its buffer, which keeps its length
-reply-fits : (c : After-lend) → c.in-Request.room ≤ length c.lend.new.0
-reply-fits c = omega (arith, (roomy c.in-Request.is c.read-call.ensures.within).1, c.lend.auto.0, c.loop-from.invariant.3)
+pub slice_bounds-request-end : goal.slice_bounds-request-end
+slice_bounds-request-end c = omega (arith, (roomy c.in-Request.is c.read-call.ensures.within).0, c.read-call.auto.bytes, c.loop-from.auto.bytes, c.if-bytes-lt-BYTES.false)
 
-pub slice_bounds-say_request-end : goal.slice_bounds-say_request-end
-slice_bounds-say_request-end c =
-    let lend = c.lend in
-    let request = c.request-asked in
-    c.loop-from.invariant.3 ∙ sym lend.auto.0 ∙ sym (part_length lend.new.0 request.new.1.1.0 _ (reply-fits (goal.at.slice_bounds-say_request-end c).After-reply-1) request.auto.1.1.0)
+pub slice_bounds-request-end-in-loop-from : goal.slice_bounds-request-end-in-loop-from
+slice_bounds-request-end-in-loop-from c =
+    sym (length-take-le _ _ (omega (arith, (roomy c.in-Request.is c.read-call.ensures.within).0, c.read-call.auto.bytes, c.loop-from.auto.bytes, c.if-bytes-lt-BYTES.false)))
+
+pub slice_bounds-reply-end : goal.slice_bounds-reply-end
+slice_bounds-reply-end c = let whole : 64 ≡ length c.loop-from.reply = search rules in omega (arith, whole, (roomy c.in-Request.is c.read-call.ensures.within).1, c.lend.auto.spare)
+
+pub slice_bounds-request-end-in-loop-from-2 : goal.slice_bounds-request-end-in-loop-from-2
+slice_bounds-request-end-in-loop-from-2 c = let whole : 64 ≡ length c.loop-from.reply = search rules in sym (length-take-le _ _ (omega (arith, whole, (roomy c.in-Request.is c.read-call.ensures.within).1, c.lend.auto.spare)))
+
+pub loop-from-smaller : goal.loop-from-smaller
+loop-from-smaller c =
+    let b = line-behind _ _ _ c.next_line-taken.ensures c.in-Line.is in
+    omega (arith, b.place, b.ahead, b.inside, c.ticks-reached.ensures.less)
 
 pub loop-from-preserved : goal.loop-from-preserved
 loop-from-preserved c =
     let inv = c.loop-from.invariant in
-    let read = c.read-call in
-    let call = c.call-1.given in
-    let request = c.request-asked in (
-      step _ _ _ c.next_line-taken.ensures (ticked (goal.at.loop-from-preserved c).After-ticks-reached) c.in-Line.is read.ensures (omega (arith, inv.2, c.if-bytes-lt-BYTES.false))
-          (asked _ request.result call.1 (length-take-le _ _ (reply-fits (goal.at.loop-from-preserved c).After-reply-1)) request.ensures),
-      omega (arith, inv.1, further (goal.at.loop-from-preserved c).In-Line-2),
-      read.auto.1.0 ∙ inv.2,
-      reply-whole (goal.at.loop-from-preserved c).After-reply-in-loop-from-4-1,
-      c.say_request-len.auto.0 ∙ c.ticks-reached.auto.1.1.1.0 ∙ inv.4,
+    let next = c.next_line-taken.ensures in
+    let b = line-behind _ _ _ next c.in-Line.is in
+    let ticked = brings-then inv.0 c.ticks-reached.ensures.brings in
+    let whole : 64 ≡ length c.loop-from.reply = search rules in
+    let room : c.in-Request.room ≤ length c.lend.new.spare = omega (arith, whole, (roomy c.in-Request.is c.read-call.ensures.within).1, c.lend.auto.spare) in (
+      step _ _ _ next ticked c.in-Line.is c.read-call.ensures (omega (arith, c.loop-from.auto.bytes, c.if-bytes-lt-BYTES.false))
+          (asked _ c.request-asked.result c.in-Request.is (length-take-le _ _ room) c.request-asked.ensures),
+      omega (arith, inv.1, b.place, b.ahead, b.inside, c.ticks-reached.ensures.less),
     )
 
 -- without room for the bytes of a line none is answered
@@ -111,8 +104,9 @@ pub returns-in_default : goal.returns-in_default
 unfolding Stops
 returns-in_default c =
     let next = c.next_line-taken.ensures in
-    let brings = brings-more _ _ _ next (ticked (goal.at.returns-in_default c).After-out-1) c.in_default.is in
-    record { sound = brings.sound; stops = (brings, λ h. none-waits _ _ _ next c.in_default.is); none = λ h. absurd (omega (arith, c.loop-from.invariant.2, c.if-bytes-lt-BYTES.false)) }
+    let ticked = brings-then c.loop-from.invariant.0 c.ticks-reached.ensures.brings in
+    let brings = brings-more _ _ _ next ticked c.in_default.is in
+    record { sound = brings.sound; stops = (brings, λ h. none-waits _ _ _ next c.in_default.is); none = λ h. absurd (omega (arith, c.if-bytes-lt-BYTES.false)) }
 
 -- a call that is no tick and no line request
 pub returns-in_default-call : goal.returns-in_default-call
@@ -123,17 +117,15 @@ returns-in_default-call c =
     let read = c.read-call in
     let line = c.in-Line.is in
     let next = c.next_line-taken.ensures in
-    let room = c.if-bytes-lt-BYTES.false in
-    let unticked = no-tick _ _ ticks.ensures.none (ap (λ (t : Taken). t.next) (sym next) ∙ line) _ read.result (read-call read.ensures (omega (arith, inv.2, room)) (line-short _ _ _ next line)) in
+    let b = line-behind _ _ _ next line in
+    let ticked = brings-then inv.0 ticks.ensures.brings in
+    let room : 2048 ≤ length c.loop-from.bytes = omega (arith, c.loop-from.auto.bytes, c.if-bytes-lt-BYTES.false) in
+    let unticked = no-tick _ _ ticks.ensures.none (ap (λ (t : Taken). t.next) (sym next) ∙ line) _ read.result (read-call read.ensures room (line-short _ _ _ next line)) in
     record {
-      sound = (ticked (goal.at.returns-in_default-call c).After-out-1).sound;
+      sound = ticked.sound;
       stops = record {
-        made = λ d m. step _ _ _ next (ticked (goal.at.returns-in_default-call c).After-out-1) line read.ensures (omega (arith, inv.2, room)) (subst (λ (q : Parsed Call). Made ticks.result.controller q d) (answered-as _ read.result c.in-Request.keys2 unticked read.ensures.within) m);
-        less = omega (arith, inv.1, further (goal.at.returns-in_default-call c).In-Line);
+        made = λ d m. step _ _ _ next ticked line read.ensures room (subst (λ (q : Parsed Call). Made ticks.result.controller q d) (answered-as _ read.result c.in_default-call.not-Request unticked read.ensures.within) m);
+        less = omega (arith, inv.1, b.place, b.ahead, b.inside, ticks.ensures.less);
       };
-      none = λ h. absurd (omega (arith, read.auto.1.0, inv.2, room));
+      none = λ h. absurd (omega (arith, read.auto.bytes, room));
     }
-
--- a line request's bytes lie in the buffer
-bytes_fit : (c : After-lend) → c.in-Request.n ≤ length c.read-call.new.1.0
-bytes_fit c = omega (arith, (roomy c.in-Request.is c.read-call.ensures.within).0, c.read-call.auto.1.0, c.loop-from.invariant.2, c.if-bytes-lt-BYTES.false)
