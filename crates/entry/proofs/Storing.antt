@@ -14,7 +14,7 @@ use Rattle.journal.specs.Line.{letter_d, dose_fields, fields_text, text_of}
 use Rattle.journal.specs.LineLaws.{product_text}
 use Rattle.journal.specs.declared.Form.{Form}
 use Rattle.journal.specs.declared.Form.TheVariants.{Old, New}
-use Rattle.journal.specs.declared.Line.TheVariants.{Dose}
+use Rattle.journal.specs.declared.Line.TheVariants.{Dose, On}
 use Rattle.entry.specs.Store.{Stores}
 
 pub stores-then : {old mid new xs ys : List ℕ} {at r q : ℕ} → Stores old at xs mid r → Stores mid r ys new q → Stores old at (xs ++ ys) new q
@@ -44,3 +44,7 @@ pub dose-text : (f : Form) (h c a s p : ℕ) → text_of f (Dose h c a s p) ≡ 
 unfolding text_of dose_fields fields_text product_text
 dose-text Old h c a s p = refl
 dose-text New h c a s p = refl
+
+pub on-text : (f : Form) (h : ℕ) → text_of Old (On h) ≡ text_of f (On h)
+unfolding text_of
+on-text f h = refl

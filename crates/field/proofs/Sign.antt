@@ -1,12 +1,17 @@
--- A number's sign, as the code finds it.
-use mathlib.Core.Path.{◌≡◌, refl}
+-- A number's sign and its size, as the code finds them.
+use mathlib.Core.Path.{◌≡◌, refl, ap, ◌∙◌}
+use mathlib.Core.Bool.{true}
 use native.Mathlib.Omega.{arith}
-use lib.IntN.{ℤ, pos, negsuc}
+use lib.IntN.{ℤ, pos, negsuc, ◌-ℤ◌, neg_ℤ, nat_abs, +ℤ_idl, neg_ℤ-neg_ℤ}
 use lib.Signed.{lt_z}
 use borrow.Author.Tests.{le-ltb}
+use Rattle.laws.specs.Whole.{below-zero}
 use Rattle.field.specs.Field.{negative}
 
 pub negative-test : (w : ℤ) → lt_z w (pos 0) ≡ negative w
 unfolding negative
 negative-test (pos n) = le-ltb n 0 (omega arith)
 negative-test (negsuc n) = refl
+
+pub turned : (w : ℤ) → lt_z w (pos 0) ≡ true → pos 0 -ℤ w ≡ pos (nat_abs w)
+turned w t = +ℤ_idl (neg_ℤ w) ∙ ap neg_ℤ (below-zero w t) ∙ neg_ℤ-neg_ℤ (pos (nat_abs w))
