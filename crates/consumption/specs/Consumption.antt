@@ -40,7 +40,8 @@ use Rattle.controller.specs.Keeps.{fresh-sound}
 use Rattle.hourly.specs.Text.{row_from, row_of}
 use Rattle.series.specs.Events.{Event, tick, link, request, modbus, settings, reset, restart, run, hands_back, records_in, records_at, records}
 use Rattle.series.specs.Products.{asked_of, event-product}
-use Rattle.series.specs.Holes.{counts_of, records-follow}
+use Rattle.series.specs.Holes.{counts_of}
+use Rattle.series.proofs.Holes.{records-follow}
 use Rattle.series.specs.Records.{records-append}
 use Rattle.series.specs.Lines.{amounts_of, hour_with}
 use Rattle.lines.specs.Lines.{lines_of}

@@ -1,3 +1,4 @@
 pub mod Tallying
 pub mod Settling
 pub mod Passing
+pub mod Among

@@ -10,6 +10,5 @@ pub mod Floats
 pub mod Exact
 pub mod TallyLaws
 pub mod Refused
-pub mod Among
 pub mod ProductLaws
 pub mod Span

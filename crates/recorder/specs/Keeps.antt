@@ -10,7 +10,7 @@ use Rattle.controller.specs.Keeps.{fresh-sound}
 use Rattle.counters.specs.Laws.{AllRecordable}
 use Rattle.controller.specs.Promises.{tick-recordable}
 use Rattle.series.specs.Events.{Event, event_of, run}
-use Rattle.series.specs.Kept.{event-sound}
+use Rattle.series.proofs.Kept.{event-sound}
 use Rattle.calls.specs.Call.{Call, tick, request, modbus, order, item, bytes, call_of}
 use Rattle.calls.specs.declared.Order.{Order}
 use Rattle.calls.specs.declared.Order.TheVariants as O

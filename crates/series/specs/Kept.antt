@@ -1,5 +1,5 @@
 -- What every event keeps: one record, and one law for each kind of event. Assumes nothing.
-use Rattle.std.specs.Prelude.{◌≡◌, Bool, true, false, List, [], ◌∷◌, ℕ, ◌≤◌, pos, length}
+use Rattle.std.specs.Prelude.{◌≡◌, Bool, true, false, List, [], ℕ, ◌≤◌, pos}
 use Rattle.std.proofs.Math.Path.{refl}
 use Rattle.std.proofs.Common.{sym, ap, subst, arith}
 use Rattle.laws.specs.Pick.{pick}
@@ -15,20 +15,18 @@ use Rattle.counters.specs.declared.Counters.{Counters}
 use Rattle.counters.specs.declared.Record.{Record}
 use Rattle.counters.specs.Counters.{counters}
 use Rattle.controller.specs.State.{restarted}
-use Rattle.controller.specs.Tick.{Told, tick_of}
+use Rattle.controller.specs.Tick.{Told}
 use Rattle.controller.specs.Restart.{stored_bad, restart_of, restarted_from}
-use Rattle.setup.specs.Setup.{taken, after, settings_answer, settings_of, reset_answer, reset_of, link_of}
+use Rattle.setup.specs.Setup.{taken, after, reset_answer, reset_of}
 use Rattle.controller.specs.Ready.{is_ready}
 use Rattle.controller.specs.Sound.{Sound}
-use Rattle.controller.specs.Keeps.{tick-sound, request-sound, restart-sound}
-use Rattle.setup.specs.Keeps.{link-sound, settings-sound, reset-sound}
+use Rattle.controller.specs.Keeps.{restart-sound}
+use Rattle.setup.specs.Keeps.{reset-sound}
 use Rattle.counters.specs.Laws.{AllRecordable, counted_in, Tells}
-use Rattle.controller.specs.Promises.{tick-recordable, request-zero, restart-counters}
-use Rattle.setup.specs.Promises.{settings-counters}
+use Rattle.controller.specs.Promises.{restart-counters}
 use Rattle.controller.specs.Outside.{Noted, Agrees}
-use Rattle.panel.specs.Laws.{modbus-sound, modbus-keeps}
-use Rattle.controller.specs.OutsideLaws.{Answers, tick-agrees, tick-counters, tick-records}
-use Rattle.series.specs.Events.{Event, tick, link, request, modbus, settings, reset, restart, event_of, run, no_notes, Sight, unmoved, sight_of, Counting, goes_on, cleared, given, given_by, counting_at, records_in, records_at}
+use Rattle.controller.specs.OutsideLaws.{Answers}
+use Rattle.series.specs.Events.{reset, event_of, no_notes, Sight, unmoved, Counting, goes_on, cleared, given, given_by, counting_at, records_in}
 
 -- the numbers from which the doses are counted after a call
 unfoldable pub counters_from : Counting → Counters → Counters
@@ -50,20 +48,20 @@ pub record Kept (c d : Controller) (s : Sight) (k : Counting) (rs : List Record)
   pub recordable : AllRecordable rs
 
 -- a call that changes neither phase nor counters
-still_kept : (c d : Controller) (m : Noted) → Agrees c.phase m → Sound d → d.phase ≡ c.phase → d.counters ≡ c.counters → Kept c d (unmoved m) goes_on []
+pub still_kept : (c d : Controller) (m : Noted) → Agrees c.phase m → Sound d → d.phase ≡ c.phase → d.counters ≡ c.counters → Kept c d (unmoved m) goes_on []
 unfolding counters_from counted_in Tells
 still_kept c d m a s p n =
     record { sound = s; agrees = rw p a; range = subst InRange n (s.count, s.total); counters = n; told = tt; recordable = tt }
 
 -- ---- a tick
 
-told_of : (n : Counters) (amounts : List ℕ) (a : Answer Told) → Answers n amounts a → Tells n amounts (records_in a)
+pub told_of : (n : Counters) (amounts : List ℕ) (a : Answer Told) → Answers n amounts a → Tells n amounts (records_in a)
 unfolding Answers Tells records_in
 told_of n amounts (done t) h = h
 told_of n amounts (refused r vs) h = rw h tt
 told_of n amounts (fault r vs) h = rw h tt
 
-told-recordable : (a : Answer Told) → ((t : Told) → a ≡ done t → AllRecordable t.doses) → AllRecordable (records_in a)
+pub told-recordable : (a : Answer Told) → ((t : Told) → a ≡ done t → AllRecordable t.doses) → AllRecordable (records_in a)
 unfolding records_in
 told-recordable (done t) h = h t refl
 told-recordable (refused n vs) h = tt
@@ -71,7 +69,7 @@ told-recordable (fault n vs) h = tt
 
 -- ---- settings
 
-settings-phase : (c : Controller) (set : Settings) (a : Answer (Unit {0})) → (after a (taken set c) c).phase ≡ c.phase
+pub settings-phase : (c : Controller) (set : Settings) (a : Answer (Unit {0})) → (after a (taken set c) c).phase ≡ c.phase
 unfolding after taken
 settings-phase c set (done u) = refl
 settings-phase c set (refused n vs) = refl
@@ -80,7 +78,7 @@ settings-phase c set (fault n vs) = refl
 -- ---- a counter reset
 
 -- in Ready the counters and the doses are forgotten together, else neither
-reset-kept : (c : Controller) (m : Noted) (ready : Bool) → is_ready c ≡ ready → Sound c → Agrees c.phase m → Kept c (event_of c reset) (unmoved m) (counting_at c reset) []
+pub reset-kept : (c : Controller) (m : Noted) (ready : Bool) → is_ready c ≡ ready → Sound c → Agrees c.phase m → Kept c (event_of c reset) (unmoved m) (counting_at c reset) []
 unfolding event_of counting_at reset_of reset_answer after pick counters_from counted_in Tells
 reset-kept c m true e s a =
     record { sound = reset-sound c s; agrees = rw e a; range = rw e (omega arith, omega arith); counters = rw e refl; told = tt; recordable = tt }
@@ -93,7 +91,7 @@ unfolding restart_of restarted
 restart-phase set count total d e =
     on-done (first_bad set) _ d e (λ u good h. ap (λ (x : Controller). x.phase) (sym (failed (stored_bad count total) _ R15 [] d h).1))
 
-restart-kept : (c : Controller) (m : Noted) (set : Settings) (count total : ℕ) (a : Answer Controller) → restart_of set count total ≡ a → Sound c → Agrees c.phase m → Kept c (restarted_from c a) (unmoved m) (given_by a count total) []
+pub restart-kept : (c : Controller) (m : Noted) (set : Settings) (count total : ℕ) (a : Answer Controller) → restart_of set count total ≡ a → Sound c → Agrees c.phase m → Kept c (restarted_from c a) (unmoved m) (given_by a count total) []
 unfolding restarted_from given_by counters_from counted_in Tells Agrees
 restart-kept c m set count total (done d) e s a =
     let sound = restart-sound set count total d e in
@@ -111,34 +109,10 @@ restart-kept c m set count total (fault n vs) e s a = still_kept c c m a s refl 
 
 -- ---- any event
 
-module _ (c : Controller) (m : Noted) (s : Sound c) (a : Agrees c.phase m) where
-  pub event-kept : (e : Event) → Kept c (event_of c e) (sight_of c e m) (counting_at c e) (records_at c e)
-  unfolding event_of sight_of counting_at records_at link_of settings_of counters_from
-  event-kept (tick x i) =
-      record {
-        sound = tick-sound c x i s;
-        agrees = tick-agrees c x i m s a;
-        range = (s.count, s.total);
-        counters = tick-counters c x i m s a;
-        told = told_of c.counters _ (tick_of c x i).answer (tick-records c x i m s a);
-        recordable = told-recordable (tick_of c x i).answer (λ t e. tick-recordable c x i t s e);
-      }
-  event-kept (link on) = still_kept c _ m a (link-sound c on s) refl refl
-  event-kept (request b reply) =
-      let z = (request-zero c b (length reply)).1 in
-      still_kept c _ m a (request-sound c b (length reply) s) (ap (λ (d : Controller). d.phase) z) (ap (λ (d : Controller). d.counters) z)
-  event-kept (modbus b reply) =
-      let k = modbus-keeps c b (length reply) in
-      still_kept c _ m a (modbus-sound c b (length reply) s) k.0 k.1
-  event-kept (settings set) =
-      still_kept c _ m a (settings-sound c set s) (settings-phase c set (settings_answer c set)) (settings-counters c set)
-  event-kept reset = reset-kept c m (is_ready c) refl s a
-  event-kept (restart set count total) = restart-kept c m set count total (restart_of set count total) refl s a
-
 -- ---- from any sound controller
 
 -- what a phase keeps may have been noted
-notes-of : (p : Phase) → (m : Noted) × Agrees p m
+pub notes-of : (p : Phase) → (m : Noted) × Agrees p m
 unfolding Agrees
 notes-of Ready = (no_notes, tt)
 notes-of (Coarse w0) = (record { began = w0.v; opened = pos 0 }, refl)
@@ -151,16 +125,3 @@ notes-of (Calm n) = (no_notes, tt)
 notes-of (DoseCoarse w_h) = (record { began = w_h.v; opened = pos 0 }, refl)
 notes-of (DoseFine w_h) = (record { began = w_h.v; opened = pos 0 }, refl)
 notes-of (DoseSettle w_h n) = (record { began = w_h.v; opened = pos 0 }, refl)
-
--- so the law holds from it too
-pub sound-kept : (c : Controller) (e : Event) → Sound c → (m : Noted) × Kept c (event_of c e) (sight_of c e m) (counting_at c e) (records_at c e)
-sound-kept c e s = let m = notes-of c.phase in (m.0, event-kept c m.0 s m.1 e)
-
--- every event keeps a controller sound, and so does any series
-pub event-sound : (c : Controller) (e : Event) → Sound c → Sound (event_of c e)
-event-sound c e s = (sound-kept c e s).1.sound
-
-pub run_sound : (es : List Event) (c : Controller) → Sound c → Sound (run c es)
-unfolding run
-run_sound [] c s = s
-run_sound (e ∷ es) c s = run_sound es (event_of c e) (event-sound c e s)

@@ -1,32 +1,26 @@
 -- What the doses of a series become: a journal whose D lines carry them is read back as exactly those doses, each hour's answer is of the doses completed in it, and the box leaves no hole in it. Assumes nothing.
 use Rattle.std.specs.Prelude.{◌≡◌, refl, Bool, true, false, ◌&&◌, ℕ, ◌≤◌, eqb, length}
-use Rattle.std.proofs.Common.{sym, subst, ◌∙◌, arith}
+use Rattle.std.proofs.Common.{sym, ◌∙◌, arith}
 use Rattle.std.proofs.Math.Path.{ap, ap₂}
 use mathlib.Core.List.{List, [], ◌∷◌, ◌++◌, map, map-append}
 use Rattle.laws.specs.Pick.{pick, pick-map}
-use Rattle.paper.specs.Answer.{Answer, done, told, on_done, in_room}
 use Rattle.journal.specs.declared.Form.TheVariants.{New}
 use Rattle.journal.specs.declared.Line.{Line}
 use Rattle.journal.specs.declared.Line.TheVariants.{Dose, On}
 use Rattle.journal.specs.Line.{in_range, product_most}
 use Rattle.journal.specs.LineLaws.{dose-inside, hour-inside}
-use Rattle.journal.specs.Journal.{hour_in, journal_of, journal_text}
+use Rattle.journal.specs.Journal.{hour_in, journal_text}
 use Rattle.journal.specs.JournalLaws.{Each}
-use Rattle.journal.specs.Order.{Ordered, ordered-journal}
-use Rattle.holes.specs.Holes.{in_hole}
-use Rattle.holes.specs.HoleLaws.{counts_in, all_follow, follow-no-hole}
+use Rattle.journal.specs.Order.{Ordered}
+use Rattle.holes.specs.HoleLaws.{counts_in}
 use Rattle.hourly.specs.declared.Products.{Products}
-use Rattle.hourly.specs.declared.Products.TheVariants.{One}
-use Rattle.hourly.specs.Hours.{HourAnswer, missing, asks_for, dose_at, amounts_at, has_on, measured_or_idle, hour_of, ask_of}
-use Rattle.hourly.specs.Text.{hours_text, row_from, row_of, print_of}
+use Rattle.hourly.specs.Hours.{HourAnswer, missing, asks_for, dose_at, amounts_at, measured_or_idle}
 use Rattle.counters.specs.declared.Record.{Record}
 use Rattle.controller.specs.declared.Controller.{Controller}
-use Rattle.controller.specs.Sound.{Sound}
 use Rattle.counters.specs.Laws.{Recordable, AllRecordable}
-use Rattle.series.specs.Events.{Event, run, hands_back, records}
-use Rattle.series.specs.Records.{records-recordable}
-use Rattle.series.specs.Products.{asked_of, records_while, asked-append, doses-of-product}
-use Rattle.series.specs.Holes.{counts_of, records-follow}
+use Rattle.series.specs.Events.{Event, records}
+use Rattle.series.specs.Products.{asked_of, asked-append}
+use Rattle.series.specs.Holes.{counts_of}
 
 -- ---- a journal of a series
 
@@ -61,7 +55,7 @@ stamped-range : (s : Stamped) → s.hour ≤ 9999999 → Recordable s.dose → i
 unfolding line_for product_most
 stamped-range s h r = dose-inside New s.hour s.dose.count s.dose.amount s.dose.settled s.dose.product h r.count r.amount r.settled r.product
 
-lines-range : (ls : List Line) (stamps : List Stamped) → dose_lines ls ≡ map line_for stamps → AllRecordable (map dose_of stamps) → Each (λ l. hour_in l ≤ 9999999) ls → Each (λ l. in_range New l ≡ true) ls
+pub lines-range : (ls : List Line) (stamps : List Stamped) → dose_lines ls ≡ map line_for stamps → AllRecordable (map dose_of stamps) → Each (λ l. hour_in l ≤ 9999999) ls → Each (λ l. in_range New l ≡ true) ls
 unfolding dose_lines hour_in line_for
 lines-range [] stamps e r h = tt
 lines-range (On x ∷ ls) stamps e r h = (hour-inside New x h.0, lines-range ls stamps e r h.1)
@@ -70,12 +64,6 @@ lines-range (Dose x c a s p ∷ ls) (t ∷ ts) e r h =
     let same : Dose x c a s p ≡ line_for t = cc in
     let hour : x ≡ t.hour = ap hour_in same in
     (rw same (stamped-range t (omega arith) r.0), lines-range ls ts (cc) r.1 h.1)
-
-pub lines-read : (c : Controller) (es : List Event) (stamps : List Stamped) (ls : List Line) → Sound c → JournalOf c es stamps ls → journal_of (journal_text New ls) ≡ done ls
-lines-read c es stamps ls s j =
-    ordered-journal New ls j.order
-    (lines-range ls stamps j.doses (subst AllRecordable (sym j.whole) (records-recordable es c s)) j.hours)
-    j.size
 
 -- ---- each hour's doses
 
@@ -87,7 +75,7 @@ completed_in h (s ∷ more) = pick (eqb s.hour h) (s.dose ∷ []) [] ++ complete
 abbrev pub amounts_of : List Record → List ℕ
 amounts_of rs = map (λ r. r.amount) rs
 
-doses-amounts : (w : Products) (h : ℕ) (ls : List Line) → amounts_at w h ls ≡ amounts_at w h (dose_lines ls)
+pub doses-amounts : (w : Products) (h : ℕ) (ls : List Line) → amounts_at w h ls ≡ amounts_at w h (dose_lines ls)
 unfolding amounts_at dose_at dose_lines
 doses-amounts w h [] = refl
 doses-amounts w h (Dose x c a s p ∷ ls) = ap (λ (l : List ℕ). pick (asks_for w p && eqb x h) (a ∷ []) [] ++ l) (doses-amounts w h ls)
@@ -107,7 +95,7 @@ one-amount w r false = go (asks_for w r.product)
     go true = refl
     go false = refl
 
-stamped-amounts : (w : Products) (h : ℕ) (stamps : List Stamped) → amounts_at w h (map line_for stamps) ≡ amounts_of (asked_of w (completed_in h stamps))
+pub stamped-amounts : (w : Products) (h : ℕ) (stamps : List Stamped) → amounts_at w h (map line_for stamps) ≡ amounts_of (asked_of w (completed_in h stamps))
 unfolding amounts_at dose_at line_for completed_in asked_of
 stamped-amounts w h [] = refl
 stamped-amounts w h (s ∷ more) =
@@ -118,13 +106,13 @@ stamped-amounts w h (s ∷ more) =
 
 -- its counts
 
-doses-counts : (ls : List Line) → counts_in ls ≡ counts_in (dose_lines ls)
+pub doses-counts : (ls : List Line) → counts_in ls ≡ counts_in (dose_lines ls)
 unfolding counts_in dose_lines
 doses-counts [] = refl
 doses-counts (Dose x c a s p ∷ ls) = ap (λ (l : List ℕ). c ∷ l) (doses-counts ls)
 doses-counts (On x ∷ ls) = doses-counts ls
 
-stamped-counts : (stamps : List Stamped) → counts_in (map line_for stamps) ≡ counts_of (map dose_of stamps)
+pub stamped-counts : (stamps : List Stamped) → counts_in (map line_for stamps) ≡ counts_of (map dose_of stamps)
 unfolding counts_in line_for
 stamped-counts [] = refl
 stamped-counts (s ∷ more) = ap (λ (l : List ℕ). s.dose.count ∷ l) (stamped-counts more)
@@ -132,33 +120,6 @@ stamped-counts (s ∷ more) = ap (λ (l : List ℕ). s.dose.count ∷ l) (stampe
 -- an hour by whether it lies in a hole and whether it has an H, and by the doses completed in it
 unfoldable pub hour_with : Bool → Bool → List Record → HourAnswer
 hour_with hole on rs = pick hole missing (pick on (measured_or_idle (amounts_of rs)) missing)
-
-module _ (c : Controller) (es : List Event) (stamps : List Stamped) (ls : List Line) (j : JournalOf c es stamps ls) where
-  -- the amounts of an hour are those of the doses completed in it, of the products that are asked for: so its number of doses and its sum are theirs
-  pub hour-amounts : (w : Products) (h : ℕ) → amounts_at w h ls ≡ amounts_of (asked_of w (completed_in h stamps))
-  hour-amounts w h = doses-amounts w h ls ∙ ap (amounts_at w h) j.doses ∙ stamped-amounts w h stamps
-
-  -- the counts of its D lines are those of the records
-  line-counts : counts_in ls ≡ counts_of (records c es)
-  line-counts = doses-counts ls ∙ ap counts_in j.doses ∙ stamped-counts stamps ∙ ap counts_of j.whole
-
-  hour-kind : (w : Products) (h : ℕ) → hour_of w ls h ≡ hour_with (in_hole h ls) (has_on h ls) (asked_of w (completed_in h stamps))
-  unfolding hour_of hour_with
-  hour-kind w h = ap (λ (l : List ℕ). pick (in_hole h ls) missing (pick (has_on h ls) (measured_or_idle l) missing)) (hour-amounts w h)
-
-  -- and so are its kind, its figures and its row in print
-  pub hour-answer : Sound c → (w : Products) (h : ℕ) → ask_of w (journal_text New ls) h ≡ done (hour_with (in_hole h ls) (has_on h ls) (asked_of w (completed_in h stamps)))
-  unfolding ask_of told
-  hour-answer s w h =
-      ap (told (λ (m : List Line). hour_of w m h)) (lines-read c es stamps ls s j) ∙ ap done (hour-kind w h)
-
-  pub hour-row : (w : Products) (h : ℕ) → row_of w ls h ≡ row_from (hour_with (in_hole h ls) (has_on h ls) (asked_of w (completed_in h stamps))) (amounts_of (asked_of w (completed_in h stamps)))
-  unfolding row_of
-  hour-row w h = ap₂ row_from (hour-kind w h) (hour-amounts w h)
-
-  pub hours-printed : Sound c → (w : Products) (room : ℕ) → print_of w (journal_text New ls) room ≡ in_room [] room (hours_text w ls)
-  unfolding print_of on_done
-  hours-printed s w room = ap (λ (a : Answer (List Line)). on_done a (λ m. in_room [] room (hours_text w m))) (lines-read c es stamps ls s j)
 
 -- ---- the lines of one product
 
@@ -172,45 +133,22 @@ unfoldable pub asked_stamps : Products → List Stamped → List Stamped
 asked_stamps w [] = []
 asked_stamps w (s ∷ more) = pick (asks_for w s.dose.product) (s ∷ []) [] ++ asked_stamps w more
 
-doses-asked : (w : Products) (ls : List Line) → asked_lines w ls ≡ asked_lines w (dose_lines ls)
+pub doses-asked : (w : Products) (ls : List Line) → asked_lines w ls ≡ asked_lines w (dose_lines ls)
 unfolding asked_lines dose_lines
 doses-asked w [] = refl
 doses-asked w (Dose x c a s p ∷ ls) = ap (λ (l : List Line). pick (asks_for w p) (Dose x c a s p ∷ []) [] ++ l) (doses-asked w ls)
 doses-asked w (On x ∷ ls) = doses-asked w ls
 
-stamped-asked : (w : Products) (stamps : List Stamped) → asked_lines w (map line_for stamps) ≡ map line_for (asked_stamps w stamps)
+pub stamped-asked : (w : Products) (stamps : List Stamped) → asked_lines w (map line_for stamps) ≡ map line_for (asked_stamps w stamps)
 unfolding asked_lines asked_stamps line_for
 stamped-asked w [] = refl
 stamped-asked w (s ∷ more) =
     ap₂ (λ (a b : List Line). a ++ b) (sym (pick-map (map line_for) (asks_for w s.dose.product) (s ∷ []) [])) (stamped-asked w more)
     ∙ sym (map-append line_for (pick (asks_for w s.dose.product) (s ∷ []) []) (asked_stamps w more))
 
-asked-records : (w : Products) (stamps : List Stamped) → map dose_of (asked_stamps w stamps) ≡ asked_of w (map dose_of stamps)
+pub asked-records : (w : Products) (stamps : List Stamped) → map dose_of (asked_stamps w stamps) ≡ asked_of w (map dose_of stamps)
 unfolding asked_stamps asked_of
 asked-records w [] = refl
 asked-records w (s ∷ more) =
     map-append dose_of (pick (asks_for w s.dose.product) (s ∷ []) []) (asked_stamps w more)
     ∙ ap₂ (λ (a b : List Record). a ++ b) (pick-map (map dose_of) (asks_for w s.dose.product) (s ∷ []) []) (asked-records w more)
-
--- the D lines of product p in a journal of a series are the doses that the rules complete while p is set, in order
-pub product-lines : (c : Controller) (es : List Event) (stamps : List Stamped) (ls : List Line) → Sound c → JournalOf c es stamps ls → (p : ℕ)
-    → (asked_lines (One p) ls ≡ map line_for (asked_stamps (One p) stamps)) × (map dose_of (asked_stamps (One p) stamps) ≡ records_while p c es)
-product-lines c es stamps ls s j p = (
-  doses-asked (One p) ls ∙ ap (asked_lines (One p)) j.doses ∙ stamped-asked (One p) stamps,
-  asked-records (One p) stamps ∙ ap (asked_of (One p)) j.whole ∙ doses-of-product es c p s,
-)
-
--- ---- the box makes no holes
-
--- from any sound controller: no hour of a journal of a series lies in a hole, where every accepted restart from the first record on hands back the counters as they were; those before it may bring any numbers
-pub journal-no-hole : (before es : List Event) (c : Controller) (stamps : List Stamped) (ls : List Line) → Sound c → records c before ≡ [] → hands_back (run c before) es ≡ true
-    → JournalOf c (before ++ es) stamps ls → (h : ℕ) → in_hole h ls ≡ false
-journal-no-hole before es c stamps ls s none back j h =
-    follow-no-hole h ls (ap all_follow (line-counts c (before ++ es) stamps ls j) ∙ records-follow before es c s none back)
-
--- so each hour of it is as its H and the doses completed in it say
-pub hour-kept : (before es : List Event) (c : Controller) (stamps : List Stamped) (ls : List Line) → Sound c → records c before ≡ [] → hands_back (run c before) es ≡ true
-    → JournalOf c (before ++ es) stamps ls → (w : Products) (h : ℕ) → ask_of w (journal_text New ls) h ≡ done (hour_with false (has_on h ls) (asked_of w (completed_in h stamps)))
-hour-kept before es c stamps ls s none back j w h =
-    hour-answer c (before ++ es) stamps ls j s w h
-    ∙ ap (λ (b : Bool). done (hour_with b (has_on h ls) (asked_of w (completed_in h stamps)))) (journal-no-hole before es c stamps ls s none back j h)

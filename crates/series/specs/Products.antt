@@ -4,7 +4,7 @@ use Rattle.std.proofs.Common.{sym, ap, ap₂, ◌∙◌, append_assoc}
 use Rattle.laws.specs.Pick.{pick}
 use Rattle.paper.specs.Answer.{Answer, done, refused, fault}
 use Rattle.hourly.specs.declared.Products.{Products}
-use Rattle.hourly.specs.declared.Products.TheVariants.{All, One}
+use Rattle.hourly.specs.declared.Products.TheVariants.{All}
 use Rattle.hourly.specs.Hours.{asks_for}
 use Rattle.counters.specs.declared.Record.{Record}
 use Rattle.counters.specs.Laws.{AllOf}
@@ -12,8 +12,7 @@ use Rattle.controller.specs.declared.Controller.{Controller}
 use Rattle.controller.specs.Tick.{Told, tick_of}
 use Rattle.controller.specs.Sound.{Sound}
 use Rattle.controller.specs.Promises.{tick-product}
-use Rattle.series.specs.Events.{Event, tick, link, request, modbus, settings, reset, restart, event_of, records_in, records_at, records}
-use Rattle.series.specs.Kept.{event-sound}
+use Rattle.series.specs.Events.{Event, tick, link, request, modbus, settings, reset, restart, event_of, records_in, records_at}
 
 -- the records of the products that are asked for
 unfoldable pub asked_of : Products → List Record → List Record
@@ -71,14 +70,3 @@ event-product c (modbus b reply) s = tt
 event-product c (settings set) s = tt
 event-product c reset s = tt
 event-product c (restart set count total) s = tt
-
--- ---- any series
-
--- the doses of product p among the records of a series are those that the rules complete while p is set
-pub doses-of-product : (es : List Event) (c : Controller) (p : ℕ) → Sound c → asked_of (One p) (records c es) ≡ records_while p c es
-unfolding records records_while asked_of asks_for
-doses-of-product [] c p s = refl
-doses-of-product (e ∷ es) c p s =
-    asked-append (One p) (records_at c e) (records (event_of c e) es)
-    ∙ ap₂ (λ (a b : List Record). a ++ b) (asked-same (One p) c.set.product (records_at c e) (event-product c e s))
-    (doses-of-product es (event_of c e) p (event-sound c e s))

@@ -18,7 +18,7 @@ use Rattle.controller.specs.Outside.{w_at, clear}
 use Rattle.controller.specs.OutsideLaws.{tick-set, tick-weight}
 use Rattle.series.specs.Events.{Event, run, Outside, nothing_seen, seen, hands_back}
 use Rattle.series.specs.Statement.{accepted, Demand3}
-use Rattle.series.specs.Walk.{Accords, CountsAll, accords-run, accords-fresh, all-run, all-fresh}
+use Rattle.series.specs.Walk.{Accords, CountsAll}
 
 -- in a fault
 unfilled : (c : Controller) → Sound c → (k : Condition) → c.condition ≡ k → clear c.condition ≡ false → filling_open c.set c.gates ≡ false
@@ -45,7 +45,7 @@ over-unfilled c o x i k h over false e =
     ap (λ (t : Settings). filling_open t (tick_of c x i).next.gates) (sym same)
     ∙ unfilled (tick_of c x i).next (tick-sound c x i k.sound) _ refl e
 
-demanded : (es : List Event) → Accords (run fresh_of es) (seen fresh_of nothing_seen es)
+pub demanded : (es : List Event) → Accords (run fresh_of es) (seen fresh_of nothing_seen es)
     → (hands_back fresh_of es ≡ true → CountsAll (run fresh_of es).counters (seen fresh_of nothing_seen es)) → Demand3 es
 demanded es k a =
     let c = run fresh_of es in
@@ -59,8 +59,3 @@ demanded es k a =
       total = λ h. omega (arith, (a h).total);
       sound = k.sound;
     }
-
--- over any series of calls from a fresh controller, and so at each of its steps
-pub demand-3 : (es : List Event) → Demand3 es
-demand-3 es =
-    demanded es (accords-run es fresh_of nothing_seen accords-fresh) (λ h. all-run es fresh_of nothing_seen h accords-fresh all-fresh)

@@ -1,17 +1,13 @@
 -- The dose records that the ticks of a series answer are the doses seen, each with the count after it, and each can be written to a journal. Assumes nothing.
 use Rattle.std.specs.Prelude.{◌≡◌, refl, List, [], ◌∷◌, ◌++◌, map, ℕ, ◌+◌, ◌%◌, length}
 use Rattle.std.proofs.Common.{sym, ap, ap₂, ◌∙◌, append_assoc}
-use Rattle.std.proofs.lemmas.List.{map-append}
 use Rattle.controller.specs.declared.Controller.{Controller}
 use Rattle.counters.specs.declared.Counters.{Counters}
 use Rattle.counters.specs.declared.Record.{Record}
 use Rattle.counters.specs.Counters.{counted_of}
-use Rattle.controller.specs.State.{fresh_of}
-use Rattle.controller.specs.Sound.{Sound}
 use Rattle.counters.specs.Laws.{AllRecordable, Tells}
-use Rattle.series.specs.Events.{Event, event_of, run, sight_of, counting_at, Outside, nothing_seen, counted_from, seen_after, records_at, records}
-use Rattle.series.specs.Kept.{counters_from, event-kept, sound-kept, event-sound}
-use Rattle.series.specs.Walk.{Counts, one_more, Accords, accords-from, accords-event, accords-fresh}
+use Rattle.series.specs.Events.{Event, event_of, run, sight_of, counting_at, Outside, counted_from, seen_after, records_at, records}
+use Rattle.series.specs.Walk.{Counts, one_more}
 
 -- a count and an amount
 pub record Numbered : Type 0 where
@@ -41,7 +37,7 @@ number_of r = record { count = r.count; amount = r.amount }
 
 -- ---- one event, and a series
 
-numbered-tells : (n stored : Counters) (before amounts : List ℕ) (rs : List Record) → Counts n stored before → Tells n amounts rs → map number_of rs ≡ numbered_on stored.count before amounts
+pub numbered-tells : (n stored : Counters) (before amounts : List ℕ) (rs : List Record) → Counts n stored before → Tells n amounts rs → map number_of rs ≡ numbered_on stored.count before amounts
 unfolding Tells numbered_on
 numbered-tells n stored before [] [] h t = refl
 numbered-tells n stored before [] (r ∷ rs) h t = absurd t
@@ -52,24 +48,6 @@ numbered-tells n stored before (amount ∷ more) (r ∷ rs) h t =
     (ap₂ (λ (k a : ℕ). record { count = k; amount = a }) (t.1 ∙ next.count) t.0)
     (numbered-tells (counted_of n amount) stored (before ++ amount ∷ []) more rs next t.2)
 
-event-numbered : (c : Controller) (o : Outside) (e : Event) → Accords c o → map number_of (records_at c e) ≡ numbered_at c e o
-unfolding numbered_at
-event-numbered c o e k =
-    numbered-tells (counters_from (counting_at c e) c.counters) _ _ _ _ (accords-from c o e k)
-    (event-kept c o.notes k.sound k.agrees e).told
-
--- the records of a series are the doses seen in it, each with the count after it
-pub run-numbered : (es : List Event) (c : Controller) (o : Outside) → Accords c o → map number_of (records c es) ≡ numbered_in c o es
-unfolding records numbered_in
-run-numbered [] c o k = refl
-run-numbered (e ∷ es) c o k =
-    map-append number_of (records_at c e) (records (event_of c e) es)
-    ∙ ap₂ (λ (a b : List Numbered). a ++ b) (event-numbered c o e k)
-    (run-numbered es (event_of c e) (seen_after c e o) (accords-event c o e k))
-
-pub records-numbered : (es : List Event) → map number_of (records fresh_of es) ≡ numbered_in fresh_of nothing_seen es
-records-numbered es = run-numbered es fresh_of nothing_seen accords-fresh
-
 -- the records of a series in two parts
 pub records-append : (before es : List Event) (c : Controller) → records c (before ++ es) ≡ records c before ++ records (run c before) es
 unfolding records run
@@ -79,13 +57,6 @@ records-append (e ∷ before) es c =
 
 -- ---- the ranges of a D line
 
-recordable-append : (rs more : List Record) → AllRecordable rs → AllRecordable more → AllRecordable (rs ++ more)
+pub recordable-append : (rs more : List Record) → AllRecordable rs → AllRecordable more → AllRecordable (rs ++ more)
 recordable-append [] more a b = b
 recordable-append (r ∷ rs) more a b = (a.0, recordable-append rs more a.1 b)
-
--- count at most 999,999, amount at most 1,800,000
-pub records-recordable : (es : List Event) (c : Controller) → Sound c → AllRecordable (records c es)
-unfolding records
-records-recordable [] c s = tt
-records-recordable (e ∷ es) c s =
-    recordable-append (records_at c e) _ (sound-kept c e s).1.recordable (records-recordable es (event_of c e) (event-sound c e s))

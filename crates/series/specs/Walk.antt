@@ -11,8 +11,8 @@ use Rattle.controller.specs.Sound.{Sound}
 use Rattle.controller.specs.Keeps.{fresh-sound}
 use Rattle.controller.specs.Outside.{Agrees}
 use Rattle.counters.specs.Laws.{counted_in}
-use Rattle.series.specs.Events.{Event, event_of, run, sight_of, Counting, goes_on, cleared, given, counting_at, Outside, since_reset, nothing_seen, counted_from, with_sight, seen_after, seen, handed_back, hands_back}
-use Rattle.series.specs.Kept.{InRange, counters_from, event-kept}
+use Rattle.series.specs.Events.{Counting, goes_on, cleared, given, Outside, since_reset, nothing_seen, counted_from, handed_back}
+use Rattle.series.specs.Kept.{InRange, counters_from}
 
 -- they are the numbers stored and these doses
 pub record Counts (n stored : Counters) (doses : List ℕ) : Type 0 where
@@ -33,7 +33,7 @@ one_more n stored doses amount h =
     }
 
 -- doses counted in are doses put at the end
-counted-more : (n stored : Counters) (doses more : List ℕ) → Counts n stored doses → Counts (counted_in n more) stored (doses ++ more)
+pub counted-more : (n stored : Counters) (doses more : List ℕ) → Counts n stored doses → Counts (counted_in n more) stored (doses ++ more)
 unfolding counted_in
 counted-more n stored doses [] h = rw append-nil h
 counted-more n stored doses (amount ∷ more) h =
@@ -51,26 +51,11 @@ pub record Accords (c : Controller) (o : Outside) : Type 0 where
   pub agrees : Agrees c.phase o.notes
   pub counts : Since c.counters o
 
-since-from : (k : Counting) (n : Counters) (o : Outside) → InRange (counters_from k n) → Since n o → Since (counters_from k n) (counted_from k o)
+pub since-from : (k : Counting) (n : Counters) (o : Outside) → InRange (counters_from k n) → Since n o → Since (counters_from k n) (counted_from k o)
 unfolding counters_from counted_from total
 since-from goes_on n o h c = c
 since-from cleared n o h c = record { count = refl; total = refl }
 since-from (given count total) n o h c = record { count = omega arith; total = omega arith }
-
-pub accords-from : (c : Controller) (o : Outside) (e : Event) → Accords c o → Since (counters_from (counting_at c e) c.counters) (counted_from (counting_at c e) o)
-accords-from c o e k =
-    since-from (counting_at c e) c.counters o (event-kept c o.notes k.sound k.agrees e).range k.counts
-
-pub accords-event : (c : Controller) (o : Outside) (e : Event) → Accords c o → Accords (event_of c e) (seen_after c e o)
-unfolding seen_after with_sight
-accords-event c o e k =
-    let r = event-kept c o.notes k.sound k.agrees e in
-    record { sound = r.sound; agrees = r.agrees; counts = rw r.counters (counted-more _ _ _ _ (accords-from c o e k)) }
-
-pub accords-run : (es : List Event) (c : Controller) (o : Outside) → Accords c o → Accords (run c es) (seen c o es)
-unfolding run seen
-accords-run [] c o k = k
-accords-run (e ∷ es) c o k = accords-run es (event_of c e) (seen_after c e o) (accords-event c o e k)
 
 pub accords-fresh : Accords fresh_of nothing_seen
 unfolding fresh_of restarted nothing_seen Agrees total
@@ -90,25 +75,6 @@ given-same count total n h = same_numbers _ _ _ _ h
 abbrev pub CountsAll : Counters → Outside → Type 0
 CountsAll n o = Counts n (counters 0 0) (since_reset o)
 
-all_from : (k : Counting) (n : Counters) (o : Outside) → handed_back k n ≡ true → CountsAll n o → CountsAll (counters_from k n) (counted_from k o)
-unfolding counters_from counted_from total
-all_from goes_on n o h a = a
-all_from cleared n o h a = record { count = refl; total = refl }
-all_from (given count total) n o h a = rw (given-same count total n h, append-nil) a
-
-all-event : (c : Controller) (o : Outside) (e : Event) → handed_back (counting_at c e) c.counters ≡ true → Accords c o → CountsAll c.counters o → CountsAll (event_of c e).counters (seen_after c e o)
-unfolding seen_after with_sight
-all-event c o e h k a =
-    rw (event-kept c o.notes k.sound k.agrees e).counters
-    (rw append_assoc at (counted-more _ _ _ (sight_of c e o.notes).doses (all_from (counting_at c e) c.counters o h a)))
-
 pub all-fresh : CountsAll fresh_of.counters nothing_seen
 unfolding fresh_of restarted nothing_seen total
 all-fresh = record { count = refl; total = refl }
-
-pub all-run : (es : List Event) (c : Controller) (o : Outside) → hands_back c es ≡ true → Accords c o → CountsAll c.counters o → CountsAll (run c es).counters (seen c o es)
-unfolding run seen hands_back
-all-run [] c o h k a = a
-all-run (e ∷ es) c o h k a =
-    let here = handed_back (counting_at c e) c.counters in
-    all-run es (event_of c e) (seen_after c e o) (and_right here _ h) (accords-event c o e k) (all-event c o e (and_left here _ h) k a)

@@ -16,7 +16,7 @@ use Rattle.journal.specs.declared.Refusal.{Refusal}
 use Rattle.journal.specs.declared.Refusal.TheVariants as J
 use Rattle.hourly.specs.declared.Products.TheVariants.{All}
 use Rattle.hourly.specs.Hours.{HourAnswer, hour_of}
-use Rattle.hourly.specs.Among.{among-hour}
+use Rattle.hourly.proofs.Among.{among-hour}
 use Rattle.hourly.specs.Tally.{Tells, lines_of, summary_of, hour_among}
 use Rattle.hourly.specs.TallyLaws.{Found, found-accepted}
 use Rattle.hourly.specs.declared.Hour.{Hour}

@@ -9,7 +9,7 @@ use Rattle.hourly.specs.Tally.{summary_of}
 use Rattle.hourly.specs.Says.{says_judged}
 use Rattle.hourly.specs.TallyLaws.{Found, found_of, found-accepted, counts-tell}
 use Rattle.hourly.specs.Refused.{refused-told}
-use Rattle.hourly.specs.Among.{among-hour}
+use Rattle.hourly.proofs.Among.{among-hour}
 use Rattle.hourly.proofs.hour_of.Goals as goal
 use Rattle.hourly.proofs.hour_of.Goals.{In-Lines}
 

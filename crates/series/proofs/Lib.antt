@@ -1,0 +1,7 @@
+pub mod Kept
+pub mod Walk
+pub mod Records
+pub mod Products
+pub mod Holes
+pub mod Lines
+pub mod Proved
