@@ -107,8 +107,6 @@ restart-kept c m set count total (done d) e s a =
 restart-kept c m set count total (refused n vs) e s a = still_kept c c m a s refl refl
 restart-kept c m set count total (fault n vs) e s a = still_kept c c m a s refl refl
 
--- ---- any event
-
 -- ---- from any sound controller
 
 -- what a phase keeps may have been noted
