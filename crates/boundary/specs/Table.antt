@@ -1,4 +1,4 @@
--- The P cases of document 01's boundary table, proved together: one list, one test computed over it, one law that turns it into the rule for each. Assumes nothing.
+-- The P cases of document 01's boundary table, proved together: one list, one test computed over it, one law that turns it into the rule for each. The statement stands in proofs/Table. Assumes nothing.
 use Rattle.std.specs.Prelude.{◌≡◌, refl, Bool, true, false, not, List, [], ◌∷◌, ℕ, T, eqb, ℤ, pos, negsuc, length}
 use Rattle.std.proofs.Math.Bool.{xor}
 use Rattle.std.proofs.Common.{eqb→eq}

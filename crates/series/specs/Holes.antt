@@ -1,4 +1,4 @@
--- No hole in the dose numbers comes from the box itself: the counts of the dose records of a series follow each other. Assumes nothing.
+-- No hole in the dose numbers comes from the box itself: the counts of the dose records of a series follow each other. The walk over a series stands in proofs/Holes. Assumes nothing.
 use Rattle.std.specs.Prelude.{◌≡◌, true, List, [], ◌∷◌, ◌++◌, map, ℕ, ◌+◌, ◌%◌, ◌≤◌}
 use Rattle.std.proofs.Common.{arith}
 use Rattle.holes.specs.Holes.{follows}

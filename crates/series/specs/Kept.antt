@@ -1,4 +1,4 @@
--- What every event keeps: one record, and one law for each kind of event. Assumes nothing.
+-- What every event keeps: one record, and one law for each kind of event. That it holds of any event stands in proofs/Kept. Assumes nothing.
 use Rattle.std.specs.Prelude.{◌≡◌, Bool, true, false, List, [], ℕ, ◌≤◌, pos}
 use Rattle.std.proofs.Math.Path.{refl}
 use Rattle.std.proofs.Common.{sym, ap, subst, arith}

@@ -1,4 +1,4 @@
--- What the doses of a series become: a journal whose D lines carry them is read back as exactly those doses, each hour's answer is of the doses completed in it, and the box leaves no hole in it. Assumes nothing.
+-- What the doses of a series become: a journal whose D lines carry them is read back as exactly those doses, each hour's answer is of the doses completed in it, and the box leaves no hole in it. The walk over a series stands in proofs/Lines. Assumes nothing.
 use Rattle.std.specs.Prelude.{◌≡◌, refl, Bool, true, false, ◌&&◌, ℕ, ◌≤◌, eqb, length}
 use Rattle.std.proofs.Common.{sym, ◌∙◌, arith}
 use Rattle.std.proofs.Math.Path.{ap, ap₂}

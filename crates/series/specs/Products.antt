@@ -1,4 +1,4 @@
--- The doses of one product among those of a series: exactly those that the rules complete while that product is set. Assumes nothing.
+-- The doses of one product among those of a series: exactly those that the rules complete while that product is set. The walk over a series stands in proofs/Products. Assumes nothing.
 use Rattle.std.specs.Prelude.{◌≡◌, refl, Bool, true, false, List, [], ◌∷◌, ◌++◌, ℕ, eqb}
 use Rattle.std.proofs.Common.{sym, ap, ap₂, ◌∙◌, append_assoc}
 use Rattle.laws.specs.Pick.{pick}

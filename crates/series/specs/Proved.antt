@@ -1,4 +1,4 @@
--- Demand 3 holds of every series of calls from a fresh controller. Assumes nothing.
+-- Demand 3 holds of every series of calls from a fresh controller. The statement itself stands in proofs/Proved. Assumes nothing.
 use Rattle.std.specs.Prelude.{◌≡◌, refl, Bool, true, false, List, ℕ, ◌≤◌, ltb, ℤ}
 use Rattle.std.proofs.Common.{sym, ap, ap₂, ◌∙◌, arith, ltb-false}
 use Rattle.laws.specs.Pick.{pick-if}

@@ -1,4 +1,4 @@
--- The dose records that the ticks of a series answer are the doses seen, each with the count after it, and each can be written to a journal. Assumes nothing.
+-- The dose records that the ticks of a series answer are the doses seen, each with the count after it, and each can be written to a journal. The walk over a series stands in proofs/Records. Assumes nothing.
 use Rattle.std.specs.Prelude.{◌≡◌, refl, List, [], ◌∷◌, ◌++◌, map, ℕ, ◌+◌, ◌%◌, length}
 use Rattle.std.proofs.Common.{sym, ap, ap₂, ◌∙◌, append_assoc}
 use Rattle.controller.specs.declared.Controller.{Controller}

@@ -1,4 +1,4 @@
--- Count and total over any series, from what each event keeps: those of the doses seen since the last accepted restart, and of all since the last accepted reset. Assumes nothing.
+-- Count and total over any series, from what each event keeps: those of the doses seen since the last accepted restart, and of all since the last accepted reset. The walk over a series stands in proofs/Walk. Assumes nothing.
 use Rattle.std.specs.Prelude.{◌≡◌, refl, true, ◌&&◌, List, [], ◌∷◌, ◌++◌, ℕ, ◌+◌, ◌%◌, eqb, length}
 use Rattle.std.proofs.Common.{ap₂, append_assoc, append-nil, arith, length-append, eqb-true}
 use Rattle.laws.specs.Bools.{and_left, and_right}
