@@ -2,15 +2,15 @@
 use mathlib.Core.Path.{◌≡◌, refl, sym, ap, ◌∙◌, subst}
 use mathlib.Core.List.{List, []}
 use Prim.Native.Nat.{ℕ}
+use Rattle.std.specs.Prelude.{Result, Ok, Err, IfOk}
 use Rattle.laws.specs.Decimal.{Parsed, good}
-use Rattle.paper.specs.Answer.{done}
+use Rattle.paper.specs.Answer.{told}
 use Rattle.settings.specs.declared.Settings.{Settings}
 use Rattle.controller.specs.declared.Controller.{Controller}
-use Rattle.controller.specs.declared.RestartAnswer.{RestartAnswer}
-use Rattle.controller.specs.declared.RestartAnswer.TheVariants as N
-use Rattle.controller.specs.declared.Restarted.{Restarted}
+use Rattle.controller.specs.declared.RestartError.{RestartError}
+use Rattle.controller.specs.declared.RestartError.TheVariants as N
 use Rattle.controller.specs.Restart.{restart_of}
-use Rattle.controller.specs.Says.{says_restart, Restarts}
+use Rattle.controller.specs.Says.{says_restart, no_value, Restarts}
 use Rattle.controller.specs.Sound.{Sound}
 use Rattle.series.specs.Events.{event_of, run}
 use Rattle.calls.specs.Call.{Call, order}
@@ -23,22 +23,30 @@ use Rattle.acts.specs.Hears.{heard_in}
 use Rattle.acts.specs.declared.Answer.TheVariants as A
 use Rattle.acts.specs.declared.Acted.{Acted}
 
--- the controller in use after a restart is sound
-in-use-sound : (a : RestartAnswer) (old new : Controller) → Sound old → (says_restart a ≡ done tt → Sound new) → Sound (in_use a old new)
-unfolding in_use
-in-use-sound N.Done old new s h = h refl
-in-use-sound (N.R2 row) old new s h = s
-in-use-sound N.R15 old new s h = s
+-- what a restart answers: that it is done, or its refusal
+abbrev pub answer_of : Result Controller RestartError → Result (Unit {0}) RestartError
+answer_of (Ok d) = Ok tt
+answer_of (Err error) = Err error
 
-pub acts-restart : {c d : Controller} {set : Settings} {count total : ℕ} (r : Restarted) → Sound c → Restarts set count total r → d ≡ in_use r.answer c r.next
-    → Acts c (good (order (Restart set count total)) []) (record { next = d; answer = A.Restart r.answer })
+-- is what the rule tells of it
+answer-told : (r : Result Controller RestartError) → says_restart (answer_of r) ≡ told no_value (says_restart r)
+unfolding told
+answer-told (Ok d) = refl
+answer-told (Err (N.R2 row)) = refl
+answer-told (Err N.R15) = refl
+
+-- the controller in use after a restart is sound
+in-use-sound : (r : Result Controller RestartError) (old : Controller) → Sound old → IfOk r Sound → Sound (in_use r old)
+unfolding in_use
+in-use-sound (Ok new) old s h = h
+in-use-sound (Err error) old s h = s
+
+pub acts-restart : {c : Controller} {set : Settings} {count total : ℕ} (r : Result Controller RestartError) → Sound c → Restarts set count total r
+    → Acts c (good (order (Restart set count total)) []) (record { next = in_use r c; answer = A.Restart (answer_of r) })
 unfolding made_by events_in call_events order_events run event_of said_to said_of says_act
-acts-restart {c} {d} {set} {count} {total} r s h e = record {
-  made = record {
-    next = e ∙ ap (in_use r.answer c) h.next ∙ restart-kept c (restart_of set count total) r.answer h.says;
-    sound = subst Sound (sym e) (in-use-sound r.answer c r.next s h.sound);
-  };
-  says = ap restarted h.says;
+acts-restart {c} {set} {count} {total} r s h = record {
+  made = record { next = restart-kept c (restart_of set count total) r h.says; sound = in-use-sound r c s h.sound };
+  says = ap restarted (answer-told r ∙ ap (told no_value) h.says);
 }
 
 -- an order or a call, by what it was found to be

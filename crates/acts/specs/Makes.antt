@@ -1,14 +1,14 @@
 -- What the calls that act promise, and that they determine everything. Assumes nothing.
-use Rattle.std.specs.Prelude.{◌≡◌, refl}
+use Rattle.std.specs.Prelude.{◌≡◌, refl, Result, Ok, Err}
 use Rattle.std.proofs.Common.{sym, ap, ap₂, ◌∙◌}
 use Rattle.laws.specs.Decimal.{Parsed}
 use Rattle.paper.specs.Answer.{Answer, done, refused, fault, told, same}
 use Rattle.paper.specs.AnswerLaws.{refused-done, fault-done}
 use Rattle.controller.specs.declared.Controller.{Controller}
-use Rattle.controller.specs.declared.RestartAnswer.{RestartAnswer}
-use Rattle.controller.specs.declared.RestartAnswer.TheVariants as N
-use Rattle.controller.specs.Restart.{controller_in, restarted_from}
-use Rattle.controller.specs.Says.{says_restart, no_value}
+use Rattle.controller.specs.declared.RestartError.{RestartError}
+use Rattle.controller.specs.declared.RestartError.TheVariants as N
+use Rattle.controller.specs.Restart.{restarted_from}
+use Rattle.controller.specs.Says.{says_restart}
 use Rattle.setup.specs.Says.{says_set, says_reset}
 use Rattle.controller.specs.Determined.{restart_back, restart-back}
 use Rattle.setup.specs.Determined.{set_back, set_back_lem, reset_back, reset-back}
@@ -46,23 +46,16 @@ pub record Acts (c : Controller) (p : Parsed Call) (r : Acted) : Type 0 where
   pub says : says_act r.answer ≡ said_to c p
 
 -- the controller in use after a restart
-unfoldable pub in_use : RestartAnswer → Controller → Controller → Controller
-in_use N.Done old new = new
-in_use (N.R2 row) old new = old
-in_use N.R15 old new = old
+unfoldable pub in_use : Result Controller RestartError → Controller → Controller
+in_use (Ok new) old = new
+in_use (Err error) old = old
 
 -- is the one that the rule keeps
-pub restart-kept : (c : Controller) (a : Answer Controller) (r : RestartAnswer) → says_restart r ≡ told no_value a → in_use r c (controller_in a) ≡ restarted_from c a
-unfolding in_use told controller_in restarted_from
-restart-kept c (done d) N.Done e = refl
-restart-kept c (done d) (N.R2 row) e = refused-done e
-restart-kept c (done d) N.R15 e = refused-done e
-restart-kept c (refused n vs) N.Done e = refused-done (sym e)
-restart-kept c (refused n vs) (N.R2 row) e = refl
-restart-kept c (refused n vs) N.R15 e = refl
-restart-kept c (fault n vs) N.Done e = fault-done (sym e)
-restart-kept c (fault n vs) (N.R2 row) e = refl
-restart-kept c (fault n vs) N.R15 e = refl
+pub restart-kept : (c : Controller) (a : Answer Controller) (r : Result Controller RestartError) → says_restart r ≡ a → in_use r c ≡ restarted_from c a
+unfolding in_use restarted_from
+restart-kept c a (Ok d) e = rw (← e)
+restart-kept c a (Err (N.R2 row)) e = rw (← e)
+restart-kept c a (Err N.R15) e = rw (← e)
 
 -- ---- two results that both meet the contract are equal
 

@@ -1,5 +1,5 @@
 -- Lines one after another, as blocks of an input hand them over, and the controller that they make. Assumes nothing.
-use Rattle.std.specs.Prelude.{◌≡◌, refl, List, [], ◌∷◌, ◌++◌, ℕ, ◌-◌, ◌≤◌, ℤ, length, take, drop}
+use Rattle.std.specs.Prelude.{◌≡◌, refl, Option, Some, None, List, [], ◌∷◌, ◌++◌, ℕ, ◌-◌, ◌≤◌, ℤ, length, take, drop}
 use Rattle.std.proofs.Math.Path.{sym, ap}
 use Rattle.std.proofs.Common.{◌∙◌, subst, arith, length-take}
 use Rattle.std.proofs.lemmas.List.{length-replicate}
@@ -16,8 +16,6 @@ use Rattle.controller.specs.Sound.{Sound}
 use Rattle.series.specs.Events.{run, event_of}
 use Rattle.lines.specs.declared.Intake.{Intake}
 use Rattle.lines.specs.declared.Taken.{Taken}
-use Rattle.lines.specs.declared.Next.{Next}
-use Rattle.lines.specs.declared.Next.TheVariants.{Line, More}
 use Rattle.lines.specs.Places.{part_of}
 use Rattle.lines.specs.Intake.{comes, next_of, handed, Behind, Waits, NextStands, Steps, next-steps}
 use Rattle.calls.specs.Call.{Call, request, modbus, call_of}
@@ -76,30 +74,30 @@ module _ (input : List ℕ) (held : Intake) (t : Taken) (e : t ≡ next_of held 
   steps : Steps held input t
   steps = subst (Steps held input) (sym e) (next-steps held input)
 
-  pub line-behind : {from to : ℕ} → t.next ≡ Line from to → Behind held input from to t.intake
+  pub line-behind : {from to : ℕ} → t.next ≡ Some (from, to) → Behind held input from to t.intake
   line-behind n = subst (NextStands held input t.intake) n steps.stands
 
-  pub none-waits : t.next ≡ More → Waits t.intake input
+  pub none-waits : t.next ≡ None → Waits t.intake input
   none-waits n = subst (NextStands held input t.intake) n steps.stands
 
-  pub line-short : {from to : ℕ} → t.next ≡ Line from to → length (take (to - from) (drop from input)) ≤ 4095
+  pub line-short : {from to : ℕ} → t.next ≡ Some (from, to) → length (take (to - from) (drop from input)) ≤ 4095
   line-short {from} {to} n = omega (arith, (line-behind n).short, length-take (to - from) (drop from input))
 
   -- a line's call leaves what the others find
   pub brings-line : {first d : Controller} {start : Intake} {c : Controller} {from to : ℕ} → Brings first start input c held
-      → t.next ≡ Line from to → Made c (call_of (take (to - from) (drop from input))) d → Brings first start input d t.intake
+      → t.next ≡ Some (from, to) → Made c (call_of (take (to - from) (drop from input))) d → Brings first start input d t.intake
   unfolding handed part_of made_by_all
   brings-line {c = c} g n m = record {
     sound = m.sound;
     made = λ future.
         g.made future
-        ∙ ap (made_by_all c) (steps.comes future ∙ ap (λ (x : Next). handed input x ++ comes t.intake input future) n)
+        ∙ ap (made_by_all c) (steps.comes future ∙ ap (λ (x : Option (ℕ × ℕ)). handed input x ++ comes t.intake input future) n)
         ∙ ap (λ (d : Controller). made_by_all d (comes t.intake input future)) (sym m.next);
   }
 
-  pub brings-more : {first : Controller} {start : Intake} {c : Controller} → Brings first start input c held → t.next ≡ More → Brings first start input c t.intake
+  pub brings-more : {first : Controller} {start : Intake} {c : Controller} → Brings first start input c held → t.next ≡ None → Brings first start input c t.intake
   unfolding handed
   brings-more {c = c} g n = record {
     sound = g.sound;
-    made = λ future. g.made future ∙ ap (made_by_all c) (steps.comes future ∙ ap (λ (x : Next). handed input x ++ comes t.intake input future) n);
+    made = λ future. g.made future ∙ ap (made_by_all c) (steps.comes future ∙ ap (λ (x : Option (ℕ × ℕ)). handed input x ++ comes t.intake input future) n);
   }

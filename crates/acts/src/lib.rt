@@ -6,25 +6,25 @@ ghost use Rattle.laws.specs.Decimal.{good, bad};
 ghost use Rattle.controller.specs.Sound.{Sound};
 ghost use Rattle.calls.specs.Call.{order, request, modbus};
 ghost use Rattle.calls.specs.declared.Order.TheVariants.{Restart};
-ghost use Rattle.acts.specs.Makes.{in_use, Acts};
+ghost use Rattle.acts.specs.Makes.{Acts};
 ghost use Rattle.acts.specs.Hears.{roomed, heard_in};
 
 use calls::{Call, Order};
-use controller::{Controller, RestartAnswer};
+use controller::{Controller, RestartError};
 use counters::Counters;
-use reasons::Reason;
+use reasons::{Reason, ReasonError};
 use settings::Settings;
-use setup::{ResetAnswer, SetAnswer};
+use setup::{ResetError, SetError};
 
 // What an order answers; that a frame was served, whose reply goes nowhere; that a call needs no box; or that a line is no call.
 #[derive(Clone, Copy)]
 pub enum Answer {
     Link,
-    Set(SetAnswer),
-    Reset(ResetAnswer),
+    Set(Result<(), SetError>),
+    Reset(Result<(), ResetError>),
     Counters(Counters),
-    Restart(RestartAnswer),
-    Why(Reason),
+    Restart(Result<(), RestartError>),
+    Why(Result<Reason, ReasonError>),
     Frame,
     Aside,
     Unknown,
@@ -37,29 +37,20 @@ pub struct Acted {
     pub answer: Answer,
 }
 
-// A refused restart leaves the old controller in use.
-fn in_use(answer: RestartAnswer, old: Controller, new: Controller) -> Controller
-    ensures { result ≡ in_use answer old new }
-{
-    match answer {
-        RestartAnswer::Done => new,
-        RestartAnswer::R2(_) => old,
-        RestartAnswer::R15 => old,
-    }
-}
-
-// A restart.
+// A restart; a refused one leaves the old controller in use.
 fn restart(c: Controller, set: Settings, count: u32, total: u32) -> Acted
     requires { Sound c }
     ensures { Acts c (good (order (Restart set count total)) []) result }
 {
-    let restarted = Controller::restart(set, count, total);
-    let answer = restarted.answer;
-    let new = restarted.next;
-    let next = in_use(answer, c, new);
-    Acted {
-        next,
-        answer: Answer::Restart(answer),
+    match Controller::restart(set, count, total) {
+        Ok(new) => Acted {
+            next: new,
+            answer: Answer::Restart(Ok(())),
+        },
+        Err(error) => Acted {
+            next: c,
+            answer: Answer::Restart(Err(error)),
+        },
     }
 }
 

@@ -10,7 +10,6 @@ ghost use Rattle.acts.specs.Hears.{roomed, answered_in};
 
 use calls::Call;
 use controller::Controller;
-use pieces::Words;
 
 // The controller after the call, and the place after the text of its answer.
 #[derive(Clone, Copy)]
@@ -21,7 +20,7 @@ pub struct Answered {
 
 // ? for what is no call here.
 fn put_unread(out: &mut [u8]) -> usize {
-    pieces::line(out, 0, Words::none(b'?'))
+    pieces::line(out, 0, b'?', &[])
 }
 
 // A MODBUS frame; the buffer that it is lent is shown whole.
@@ -32,7 +31,7 @@ fn serve(c: Controller, frame: &[u8], reply: &mut [u8], out: &mut [u8]) -> Answe
     let polled = panel::poll(c, frame, reply);
     let said = polled.answer;
     let controller = polled.next;
-    let len = pieces::shown(out, 0, boxed::modbus(said), reply);
+    let len = boxed::modbus(out, said, reply);
     Answered { controller, len }
 }
 

@@ -6,102 +6,68 @@ mod hours;
 ghost use Rattle.io.specs.Counts.{IsPrefixLen};
 
 use calls::{Item, Use};
-use entry::Wrote;
-use field::{Field, Got, Weight, Written};
-use frame::{Found, Wrote as Framed};
-use journal::{Form, Line, One};
-use pieces::Words;
+use field::{Field, FieldError, Weight};
+use frame::ReadError;
+use journal::{Entry, Form, Line, LineError};
 
-// W: a frame written into a buffer.
-fn write_frame(body: &[u8], buffer: &mut [u8]) -> Words {
+// W: a frame written into a buffer, which is shown whole.
+fn write_frame(out: &mut [u8], body: &[u8], buffer: &mut [u8]) -> usize {
     match frame::write_frame(body, buffer) {
-        Framed::Frame(len) => Words::one(b'P', len as u64),
-        Framed::R14 => Words::one(b'R', 14),
-        Framed::R8 => Words::one(b'R', 8),
+        Ok(len) => pieces::shown(out, 0, b'P', &[len as u64], buffer),
+        Err(frame::WriteError::R14) => pieces::shown(out, 0, b'R', &[14], buffer),
+        Err(frame::WriteError::R8) => pieces::shown(out, 0, b'R', &[8], buffer),
     }
 }
 
-// D and H: a line of the new form written into a buffer.
-fn write_line(line: Line, buffer: &mut [u8]) -> Words {
+// D and H: a line of the new form written into a buffer, which is shown whole.
+fn write_line(out: &mut [u8], line: Line, buffer: &mut [u8]) -> usize {
     match entry::write(Form::New, line, buffer) {
-        Wrote::Line(len) => Words::one(b'P', len as u64),
-        Wrote::R10 => Words::two(b'R', 10, 0),
-        Wrote::R8 => Words::one(b'R', 8),
+        Ok(len) => pieces::shown(out, 0, b'P', &[len as u64], buffer),
+        Err(entry::WriteError::R10) => pieces::shown(out, 0, b'R', &[10, 0], buffer),
+        Err(entry::WriteError::R8) => pieces::shown(out, 0, b'R', &[8], buffer),
     }
 }
 
 // X: the first finished body, or why there is none.
 fn read_frame(out: &mut [u8], bytes: &[u8]) -> usize {
-    let back = frame::read_frame(bytes);
-    let found = back.found;
-    let body = back.body;
-    match found {
-        Found::Body { place, len } => {
-            let n = pieces::within(len, &body);
-            pieces::shown(
-                out,
-                0,
-                Words::two(b'P', place as u64, len as u64),
-                &body[..n],
-            )
+    match frame::read_frame(bytes) {
+        Ok(found) => {
+            let n = pieces::within(found.len, &found.body);
+            let numbers = [found.place as u64, found.len as u64];
+            pieces::shown(out, 0, b'P', &numbers, &found.body[..n])
         }
-        Found::R9(place) => pieces::line(out, 0, Words::two(b'R', 9, place as u64)),
-        Found::R6(place) => pieces::line(out, 0, Words::two(b'R', 6, place as u64)),
+        Err(ReadError::R9(place)) => pieces::line(out, 0, b'R', &[9, place as u64]),
+        Err(ReadError::R6(place)) => pieces::line(out, 0, b'R', &[6, place as u64]),
     }
 }
 
 // G: the four bytes of a weight, or R16.
 fn write_field(out: &mut [u8], weight: Weight) -> usize {
     match field::write(weight) {
-        Written::Bytes(f) => {
-            pieces::shown(out, 0, Words::none(b'P'), &[f.low, f.middle, f.high, f.con])
-        }
-        Written::R16 => pieces::line(out, 0, Words::one(b'R', 16)),
+        Ok(f) => pieces::shown(out, 0, b'P', &[], &[f.low, f.middle, f.high, f.con]),
+        Err(FieldError::R16) => pieces::line(out, 0, b'R', &[16]),
     }
 }
 
 // P, a weight, its flags and its point.
-fn weight(w: Weight) -> Words {
-    let size = field::size_of(w.value) as u64;
-    let stable = pieces::flag(w.stable);
-    let over = pieces::flag(w.over);
-    Words {
-        minus: w.value < 0,
-        ..Words::four(b'P', size, stable, over, w.point as u64)
-    }
+fn weight(out: &mut [u8], w: Weight) -> usize {
+    let start = text::put_byte(out, 0, b'P');
+    let after = pieces::signed(out, start, w.value);
+    let numbers = [u64::from(w.stable), u64::from(w.over), u64::from(w.point)];
+    let end = pieces::numbers(out, after, &numbers);
+    pieces::end(out, end)
 }
 
 // K: the weight of four bytes, or R16.
-fn read_field(four: Field) -> Words {
+fn read_field(out: &mut [u8], four: Field) -> usize {
     match field::read(four) {
-        Got::Values(w) => weight(w),
-        Got::R16 => Words::one(b'R', 16),
+        Ok(w) => weight(out, w),
+        Err(FieldError::R16) => pieces::line(out, 0, b'R', &[16]),
     }
 }
 
-// D hour count amount settled, and in the new form the product.
-fn dose(form: Form, hour: u32, count: u32, amount: u32, settled: u32, product: u32) -> Words {
-    match form {
-        Form::Old => Words::four(
-            b'D',
-            hour as u64,
-            count as u64,
-            amount as u64,
-            settled as u64,
-        ),
-        Form::New => Words::five(
-            b'D',
-            hour as u64,
-            count as u64,
-            amount as u64,
-            settled as u64,
-            product as u64,
-        ),
-    }
-}
-
-// A dose, or H hour.
-fn line(form: Form, found: Line) -> Words {
+// D hour count amount settled, and in the new form the product; or H hour.
+fn line(out: &mut [u8], form: Form, found: Line) -> usize {
     match found {
         Line::Dose {
             hour,
@@ -109,17 +75,23 @@ fn line(form: Form, found: Line) -> Words {
             amount,
             settled,
             product,
-        } => dose(form, hour, count, amount, settled, product),
-        Line::On { hour } => Words::one(b'H', hour as u64),
+        } => {
+            let numbers = [hour, count, amount, settled, product].map(u64::from);
+            match form {
+                Form::Old => pieces::line(out, 0, b'D', &numbers[..4]),
+                Form::New => pieces::line(out, 0, b'D', &numbers),
+            }
+        }
+        Line::On { hour } => pieces::line(out, 0, b'H', &[u64::from(hour)]),
     }
 }
 
 // l and m: the line of the old or of the new form that bytes are, V for the V line, or R10.
-fn read_line(form: Form, bytes: &[u8]) -> Words {
+fn read_line(out: &mut [u8], form: Form, bytes: &[u8]) -> usize {
     match journal::read_line(form, bytes) {
-        One::Version => Words::none(b'V'),
-        One::Line(found) => line(form, found),
-        One::R10 => Words::two(b'R', 10, 1),
+        Ok(Entry::Version) => pieces::line(out, 0, b'V', &[]),
+        Ok(Entry::Line(found)) => line(out, form, found),
+        Err(LineError::R10) => pieces::line(out, 0, b'R', &[10, 1]),
     }
 }
 
@@ -131,32 +103,14 @@ fn lent(spare: &mut [u8], room: u32) -> usize
     pieces::within(room as usize, spare)
 }
 
-// The answer of the line's writer, with the whole of its buffer.
-fn put_line(out: &mut [u8], line: Line, buffer: &mut [u8]) -> usize {
-    let said = write_line(line, buffer);
-    pieces::shown(out, 0, said, buffer)
-}
-
-// The answer of the frame's writer, with the whole of its buffer.
-fn put_frame(out: &mut [u8], body: &[u8], buffer: &mut [u8]) -> usize {
-    let said = write_frame(body, buffer);
-    pieces::shown(out, 0, said, buffer)
-}
-
-// The hour program's answer, with the whole of its buffer.
-fn put_hours(out: &mut [u8], journal: &[u8], buffer: &mut [u8]) -> usize {
-    let said = hours::print(journal, buffer);
-    pieces::shown(out, 0, said, buffer)
-}
-
 // The answer to an item; a writer's buffer is the start of `spare`.
 pub fn item(out: &mut [u8], item: Item, spare: &mut [u8]) -> usize {
     match item {
         Item::Weight(w) => write_field(out, w),
-        Item::Field(four) => pieces::line(out, 0, read_field(four)),
+        Item::Field(four) => read_field(out, four),
         Item::Line(line, room) => {
             let n = lent(spare, room);
-            put_line(out, line, &mut spare[..n])
+            write_line(out, line, &mut spare[..n])
         }
     }
 }
@@ -166,14 +120,14 @@ pub fn bytes(out: &mut [u8], made: Use, number: u32, bytes: &[u8], spare: &mut [
     match made {
         Use::WriteFrame => {
             let n = lent(spare, number);
-            put_frame(out, bytes, &mut spare[..n])
+            write_frame(out, bytes, &mut spare[..n])
         }
         Use::ReadFrame => read_frame(out, bytes),
-        Use::ReadLine(form) => pieces::line(out, 0, read_line(form, bytes)),
+        Use::ReadLine(form) => read_line(out, form, bytes),
         Use::Hour => hours::ask(out, bytes, number),
         Use::Hours => {
             let n = lent(spare, number);
-            put_hours(out, bytes, &mut spare[..n])
+            hours::print(out, bytes, &mut spare[..n])
         }
     }
 }

@@ -1,30 +1,37 @@
 -- Bodies in arrays: what the reader found, and what building handed over. Assumes nothing.
-use mathlib.Core.Path.{◌≡◌, refl, sym, ap, ◌∙◌}
+use mathlib.Core.Path.{◌≡◌, refl, sym, ap, subst, ◌∙◌}
 use mathlib.Core.List.{List, [], ◌++◌}
 use Prim.Native.Nat.{ℕ, ◌-◌, ◌≤◌}
 use native.Mathlib.Omega.{arith}
 use lib.ListN.{length, take, replicate, length-append}
 use lib.Seq.{take_at}
 use Rattle.laws.specs.Pick.{pick-f}
-use Rattle.paper.specs.Answer.{Answer, done, refused, fault, told, on_done, bytes_in, Fills, Hands}
-use Rattle.paper.specs.AnswerLaws.{refused-done, fault-done, done_refused, told-refused, fills-refused}
+use Rattle.paper.specs.Answer.{Answer, done, refused, fault, told, on_done, Fills}
+use Rattle.paper.specs.AnswerLaws.{passed, refused-done, fault-done, done_refused, told-refused, fills-refused}
 use Rattle.frame.specs.Frame.{write_of}
 use Rattle.frame.specs.Read.{Finished, read_of}
 use Rattle.frame.specs.ReadLaws.{done-whole}
-use Rattle.frame.specs.Says.{says_found, place_and_length, ReadsFrame}
-use Rattle.frame.specs.declared.Found.TheVariants as F
-use Rattle.frame.specs.declared.Read.{Read}
-use Rattle.message.specs.Message.{parts_of, split_of, build_of}
-use Rattle.message.specs.Says.{says_built}
+use Rattle.frame.specs.Says.{says_found, says_wrote, handed}
+use Rattle.frame.specs.declared.Finished as read
+use Rattle.frame.specs.declared.ReadError.{ReadError}
+use Rattle.frame.specs.declared.ReadError.TheVariants as F
+use Rattle.frame.specs.declared.WriteError.{WriteError}
+use Rattle.frame.specs.declared.WriteError.TheVariants as W
+use Rattle.paper.specs.Numbers.{R14}
+use Rattle.frame.specs.Frame.{framable}
+use Rattle.frame.specs.FrameLaws.{framable-is}
+use Rattle.message.specs.Message.{parts_of, split_of, build_of, framable_of, body_of, proper, improper}
+use Rattle.message.specs.declared.SplitError.{SplitError}
+use Rattle.message.specs.declared.SplitError.TheVariants as P
+use Rattle.message.specs.Says as message
+use Rattle.message.specs.declared.Body.{Body}
+use Rattle.message.specs.declared.BuildError.{BuildError}
+use Rattle.message.specs.declared.BuildError.TheVariants as B
 use Rattle.message.specs.declared.Form.{Form}
-use Rattle.message.specs.declared.Built.{Built}
-use Rattle.message.specs.declared.Built.TheVariants as B
-use Rattle.asking.specs.Asking.{heard_of, reply_bytes, reply_of}
-use Rattle.asking.specs.Says.{says_checked, says_framed}
-use Rattle.asking.specs.declared.Checked.{Checked}
-use Rattle.asking.specs.declared.Checked.TheVariants as K
-use Rattle.asking.specs.declared.Framed.TheVariants as Fr
-use Rattle.asking.specs.declared.Reply.{Reply}
+use Rattle.message.specs.declared.Parts.{Parts}
+use Rattle.asking.specs.Asking.{heard_of, framed_of}
+use Rattle.asking.specs.Says.{says_error, says_sent, read_as, built_as, wrote_as}
+use Rattle.std.specs.Prelude.{Ok, Err}
 
 -- ---- bytes in an array
 
@@ -51,7 +58,7 @@ told-done f (fault n vs) y e go = fault-done (sym e)
 
 -- the reader's body stands in its array
 pub record Finds (s array : List ℕ) (place len : ℕ) : Type 0 where
-  pub fits : len ≤ length array
+  pub small : len ≤ 255
   pub read : read_of s ≡ done (record { place = place; bytes = take len array })
   pub splits : split_of (take len array) ≡ done (parts_of (take len array))
 
@@ -60,57 +67,81 @@ whole-splits : (s : List ℕ) (f : Finished) → read_of s ≡ done f → split_
 unfolding split_of
 whole-splits s f e = pick-f _ _ _ (done-whole s f e).long
 
-pub found-body : (s : List ℕ) (r : Read) {place len : ℕ} → ReadsFrame s r → r.found ≡ F.Body place len → Finds s r.body place len
-unfolding told bytes_in
-found-body s r {place} {len} reads e =
-    told-done place_and_length (read_of s) (place, len) (sym (ap says_found e) ∙ reads.says)
-    (λ f k t.
-    let held : r.body ≡ f.bytes ++ replicate (255 - length f.bytes) 0 = reads.holds ∙ rw k in
-    let a : place ≡ f.place = ap (λ (p : ℕ × ℕ). p.0) t in
-    let b : len ≡ length f.bytes = ap (λ (p : ℕ × ℕ). p.1) t in
-    let stands = front f.bytes (255 - length f.bytes) held b in
-    record { fits = stands.fits; read = rw (stands.is, a) k; splits = rw stands.is (whole-splits s f k) })
+pub found-body : (s : List ℕ) (f : read.Finished) → done f ≡ told handed (read_of s) → Finds s f.body f.place f.len
+found-body s f e =
+    told-done handed (read_of s) f e
+    (λ g k t.
+    let held : f.body ≡ g.bytes ++ replicate (255 - length g.bytes) 0 = ap (λ (x : read.Finished). x.body) t in
+    let a : f.place ≡ g.place = ap (λ (x : read.Finished). x.place) t in
+    let b : f.len ≡ length g.bytes = ap (λ (x : read.Finished). x.len) t in
+    let stands = front g.bytes (255 - length g.bytes) held b in
+    record { small = omega (arith, (done-whole s g k).sized.most); read = rw (stands.is, a) k; splits = rw stands.is (whole-splits s g k) })
 
 -- what was found splits, for it is never too short
-pub heard-checked : {s array : List ℕ} {place len : ℕ} → Finds s array place len → (r : Checked) → says_checked r ≡ split_of (take len array) → says_framed place (Fr.Finished r) ≡ heard_of s
+pub heard-parts : {s array : List ℕ} {place len : ℕ} → Finds s array place len → (p : Parts) → done p ≡ split_of (take len array) → done (place, p) ≡ heard_of s
 unfolding heard_of told
-heard-checked {s} {array} {place} {len} finds (K.Good p) says =
+heard-parts {s} {array} {place} {len} finds p says =
     let same = says ∙ finds.splits in
     let q : p ≡ parts_of (take len array) = cc in
     rw (finds.read, q)
-heard-checked finds K.Bad says = refused-done (says ∙ finds.splits)
+
+pub always-parts : {s array : List ℕ} {place len : ℕ} → Finds s array place len → (e : SplitError) → message.says_split (Err e) ≡ split_of (take len array) → {Q : Type 0} → Q
+always-parts finds P.R6 says = refused-done (says ∙ finds.splits)
 
 -- what the reader refuses
-pub heard-unread : (s : List ℕ) {n : ℕ} {vs : List ℕ} → refused n vs ≡ told place_and_length (read_of s) → refused n vs ≡ heard_of s
+heard-unread : (s : List ℕ) {n : ℕ} {vs : List ℕ} → refused n vs ≡ told handed (read_of s) → refused n vs ≡ heard_of s
 unfolding heard_of told
-heard-unread s {n} {vs} e = rw (told-refused place_and_length (read_of s) n vs (sym e))
+heard-unread s {n} {vs} e = rw (told-refused handed (read_of s) n vs (sym e))
+
+pub heard-refused : (s : List ℕ) (e : ReadError) → says_found (Err e) ≡ told handed (read_of s) → says_error (read_as e) ≡ heard_of s
+heard-refused s (F.R9 place) h = heard-unread s h
+heard-refused s (F.R6 place) h = heard-unread s h
 
 -- ---- what building handed over
 
 -- the body that was built stands in its array
-pub record BodyStands (form : Form) (op : ℕ) (holds : Reply) (array : List ℕ) (n : ℕ) : Type 0 where
+pub record BodyStands (form : Form) (op : ℕ) (values array : List ℕ) (n : ℕ) : Type 0 where
   pub body : List ℕ
-  pub built : build_of form op (reply_bytes holds) ≡ done body
+  pub built : build_of form op values ≡ done body
+  pub small : n ≤ 254
   pub front : Front body array n
 
-module _ (form : Form) (op : ℕ) (holds : Reply) (built : Built) {array : List ℕ} (hands : Hands 254 (says_built built) (build_of form op (reply_bytes holds)) array) where
-  -- what building refuses
-  pub not-built : (n : ℕ) → says_built built ≡ refused n [] → (old : List ℕ) → Fills (refused n []) (reply_of form op holds (length old)) old old
-  unfolding reply_of on_done
-  not-built n e old =
-      fills-refused (ap (λ (a : Answer (List ℕ)). on_done a (λ body. write_of body (length old))) (told-refused length (build_of form op (reply_bytes holds)) n [] (sym hands.says ∙ e))) old
+-- a body that is built can be framed
+built-small : (form : Form) (op : ℕ) (values body : List ℕ) → build_of form op values ≡ done body → length body ≤ 254
+unfolding build_of framable_of
+built-small form op values body e =
+    let p = passed (proper form) _ improper [] body e in
+    let f = passed (framable (body_of form op values)) (done (body_of form op values)) R14 [] body p.1 in
+    let same : body_of form op values ≡ body = cc f.1 in
+    subst (λ (b : List ℕ). length b ≤ 254) same (framable-is (body_of form op values) f.0).most
 
-  pub built-stands : {n : ℕ} → built ≡ B.Body n → BodyStands form op holds array n
-  unfolding bytes_in
-  built-stands {n} e =
-      told-done length (build_of form op (reply_bytes holds)) n (sym (ap says_built e) ∙ hands.says)
-      (λ body k l. record {
+module _ (form : Form) (op : ℕ) (values : List ℕ) where
+  unbuilt : {n : ℕ} → refused n [] ≡ told message.handed (build_of form op values) → (old : List ℕ) → Fills (refused n []) (framed_of form op values (length old)) old old
+  unfolding on_done
+  unbuilt {n} e old =
+      fills-refused (ap (λ (a : Answer (List ℕ)). on_done a (λ body. write_of body (length old))) (told-refused message.handed (build_of form op values) n [] (sym e))) old
+
+  -- what building refuses
+  pub not-built : (e : BuildError) → message.says_built (Err e) ≡ told message.handed (build_of form op values) → (old : List ℕ) → Fills (says_sent (Err (built_as e))) (framed_of form op values (length old)) old old
+  not-built B.Improper h old = unbuilt h old
+  not-built B.R14 h old = unbuilt h old
+
+  pub built-stands : (b : Body) → done b ≡ told message.handed (build_of form op values) → BodyStands form op values b.bytes b.len
+  built-stands b e =
+      told-done message.handed (build_of form op values) b e
+      (λ body k t. record {
         body = body;
         built = k;
-        front = front body (254 - length body) (hands.holds ∙ ap (λ (r : Answer (List ℕ)). bytes_in r ++ replicate (254 - length (bytes_in r)) 0) k) l;
+        small = rw (ap (λ (x : Body). x.len) t) (built-small form op values body k);
+        front = front body (254 - length body) (ap (λ (x : Body). x.bytes) t) (ap (λ (x : Body). x.len) t);
       })
 
 -- what was built is framed
-pub built-replies : {form : Form} {op : ℕ} {holds : Reply} {array : List ℕ} {n : ℕ} (s : BodyStands form op holds array n) (room : ℕ) → write_of (take n array) room ≡ reply_of form op holds room
-unfolding reply_of on_done
+pub built-replies : {form : Form} {op : ℕ} {values array : List ℕ} {n : ℕ} (s : BodyStands form op values array n) (room : ℕ) → write_of (take n array) room ≡ framed_of form op values room
+unfolding on_done
 built-replies s room = ap (λ (b : List ℕ). write_of b room) s.front.is ∙ sym (ap (λ (a : Answer (List ℕ)). on_done a (λ body. write_of body room)) s.built)
+
+-- what the writer refuses
+pub wrote-says : (e : WriteError) → says_wrote (Err e) ≡ says_sent (Err (wrote_as e))
+wrote-says W.R14 = refl
+wrote-says W.R8 = refl

@@ -82,6 +82,10 @@ reply_bytes (R.Weight f) = field_bytes f
 unfoldable pub answer_frame : Form → ℕ → List ℕ → List ℕ
 answer_frame form operation values = frame (body_of form operation values)
 
+-- a body is built, then framed in a buffer of `room` bytes, or R8
+abbrev pub framed_of : Form → ℕ → List ℕ → ℕ → Answer (List ℕ)
+framed_of form operation values room = on_done (build_of form operation values) (λ body. write_of body room)
+
 -- the reply in a buffer of `room` bytes: its body is built, then R8
 unfoldable pub reply_of : Form → ℕ → Reply → ℕ → Answer (List ℕ)
-reply_of form operation holds room = on_done (build_of form operation (reply_bytes holds)) (λ body. write_of body room)
+reply_of form operation holds room = framed_of form operation (reply_bytes holds) room

@@ -6,7 +6,6 @@ ghost use Rattle.blocks.specs.Carries.{Carries};
 
 use controller::Controller;
 use lines::Intake;
-use runs::Stop;
 
 // What is carried on behind the whole lines of a block.
 #[derive(Clone, Copy)]
@@ -25,12 +24,12 @@ pub fn answer(mut c: Controller, mut held: Intake, input: &[u8], out: &mut [u8])
     let mut len: usize = 0;
     loop {
         let run = runs::answer(c, held, input, &mut bytes, out, len);
-        let stop = run.stop;
-        let Stop::Call(call) = stop else {
+        let Some(call) = run.stop else {
             runs::write_out(out, run.len);
-            let controller = run.controller;
-            let intake = run.intake;
-            return Carried { controller, intake };
+            return Carried {
+                controller: run.controller,
+                intake: run.intake,
+            };
         };
         let answered = answers::answer(run.controller, call, &bytes, &mut spare, out, run.len);
         c = answered.controller;

@@ -6,7 +6,7 @@ ghost use Rattle.std.specs.Prelude.{◌≡◌, ◌≤◌};
 ghost use Rattle.controller.specs.Sound.{Sound};
 ghost use Rattle.boundary.specs.Table.{al1};
 
-use controller::{Controller, Fault, TickAnswer, Ticked};
+use controller::{Controller, Fault, TickError, Ticked};
 use settings::Settings;
 
 // The run of Settle is given up after so many ticks.
@@ -42,22 +42,21 @@ fn al1() -> Settings
 fn restarted() -> Ticked
     ensures { Sound result.next }
 {
-    let made = Controller::restart(al1(), 0, 0);
-    let next = made.next;
     Ticked {
-        next,
-        answer: TickAnswer::Outputs(0),
+        next: Controller::restart(al1(), 0, 0).unwrap(),
+        answer: Ok(controller::Outputs {
+            outputs: 0,
+            dose: None,
+        }),
     }
 }
 
 // The outputs that the last tick answered; in a fault output 4 alone is on, and R1 tells of none.
 fn outputs(last: Ticked) -> u8 {
-    let answer = last.answer;
-    match answer {
-        TickAnswer::Outputs(outputs) => outputs,
-        TickAnswer::Dose { outputs, record: _ } => outputs,
-        TickAnswer::Fault(_) => 8,
-        TickAnswer::R1 => 0,
+    match last.answer {
+        Ok(told) => told.outputs,
+        Err(TickError::Fault(_)) => 8,
+        Err(TickError::R1) => 0,
     }
 }
 
@@ -79,10 +78,8 @@ fn at_settle() -> Ticked
     ensures { Sound result.next }
 {
     let mut last = ticked(restarted(), 0, true);
-    let mut n: u32 = 0;
-    while n < 8 {
+    for _ in 0..8 {
         last = ticked(last, 479, true);
-        n += 1;
     }
     last = ticked(last, 480, true);
     ticked(last, 482, false)
@@ -98,9 +95,7 @@ fn sample(changing: bool, tick: u32) -> i32
 // The tick of Settle on which output 3 opens; 0 where none does.
 fn opens_on(changing: bool) -> u32 {
     let mut last = at_settle();
-    let mut tick: u32 = 0;
-    while tick < ENOUGH {
-        tick += 1;
+    for tick in 1..=ENOUGH {
         last = ticked(last, sample(changing, tick), false);
         if outputs(last) / 4 % 2 == 1 {
             return tick;
@@ -111,25 +106,14 @@ fn opens_on(changing: bool) -> u32 {
 
 // The last tick answered F14.
 fn is_f14(last: Ticked) -> bool {
-    let answer = last.answer;
-    let TickAnswer::Fault(fault) = answer else {
-        return false;
-    };
-    if let Fault::F14(_) = fault {
-        true
-    } else {
-        false
-    }
+    matches!(last.answer, Err(TickError::Fault(Fault::F14(_))))
 }
 
 // Whether the last of so many mismatches in a row is F14: input 1 is on, and output 1 is shut.
 fn mismatched(number: u32) -> bool {
     let mut last = restarted();
-    let mut n: u32 = 0;
-    while n < number {
-        let c = last.next;
-        last = c.tick(0, 1);
-        n += 1;
+    for _ in 0..number {
+        last = last.next.tick(0, 1);
     }
     is_f14(last)
 }

@@ -1,27 +1,27 @@
 -- The answer at a line's end, by its bytes, by a number more or none, and that of a whole line. Assumes nothing.
 use mathlib.Core.Path.{◌≡◌, refl, sym, ap, ◌∙◌, subst}
-use mathlib.Core.Bool.{Bool, true, false, not, ◌&&◌}
+use mathlib.Core.Bool.{Bool, ◌&&◌}
 use mathlib.Core.List.{List, [], ◌∷◌}
 use Prim.Native.Nat.{ℕ, ◌+◌, ◌*◌, ◌≤◌, ◌<◌}
 use native.Mathlib.Omega.{arith}
 use lib.Dec.{leb}
 use lib.ListN.{length, get_or, drop, drop_of_length-le, take}
 use lib.Seq.{sets, take_at, take_all, drop-drop, length-take-le}
-use borrow.Author.Tests.{leb-true, leb-false, le-leb, lt-leb, not-true, not-false}
+use borrow.Author.Tests.{leb-true, leb-false, le-leb, lt-leb}
 use Rattle.laws.specs.Pick.{pick, pick-if, pick-t, pick-f}
 use Rattle.laws.specs.Decimal.{Parsed, good, bad}
 use Rattle.laws.specs.Over.{over, sets_over}
 use Rattle.text.specs.Scan.{TAB, on_good, field_at}
 use Rattle.text.specs.ScanLaws.{expect-hit, expect-miss}
 use Rattle.operands.specs.Parsing.{from_byte}
-use Rattle.operands.specs.Numbers.{signed_field, leads_signed, ReadsSigned}
+use Rattle.std.specs.Prelude.{Option, Some, None}
+use Rattle.operands.specs.Numbers.{signed_field, Signed, leads_signed, ReadsSigned}
 use Rattle.operands.specs.Bytes.{carried, carried-half}
-use Rattle.operands.specs.declared.Signed.{Signed}
-use Rattle.calls.specs.Call.{Call, greatest32, bytes_at, bytes_field, or_last, at_end, call_by, call_of}
+use Rattle.calls.specs.Call.{Call, request, modbus, bytes, greatest32, bytes_at, bytes_field, or_last, at_end, call_by, call_of}
 use Rattle.calls.specs.Reads.{as_call, size_of, Within, parts, bytes_in, read_in, ReadsCall, known}
-use Rattle.calls.specs.Reading.{Counts, Ended, Asks}
-use Rattle.calls.specs.declared.Numbers.{Numbers}
+use Rattle.calls.specs.Reading.{leads_row, Counts, Ended, call_in, Asks, Carries}
 use Rattle.calls.specs.declared.Call as declared
+use Rattle.calls.specs.declared.Use.{Use}
 use Rattle.calls.specs.declared.Call.TheVariants as C
 
 -- what the rule of a signed number reads, by its answer
@@ -32,14 +32,17 @@ step {s} y e = y.reads ∙ ap (leads_signed s) e
 
 module _ {s : List ℕ} {rule : Parsed Call} where
   -- nothing good was read
-  pub unasked : rule ≡ bad → Asks s rule C.Unknown
+  pub unasked : rule ≡ bad → Asks s rule None
   unfolding as_call size_of Within at_end
   unasked e = record { reads = ap at_end e; carries = omega arith; within = tt }
 
+  pub passed : {r : Option declared.Call} → r ≡ None → rule ≡ bad → Asks s rule r
+  passed f e = subst (Asks s rule) (sym f) (unasked e)
+
   -- by what follows
-  pub asked : {call : Call} {e : ℕ} {d r : declared.Call} → Ended s e d r → rule ≡ good call (drop e s) → good call [] ≡ as_call (carried s) d → size_of d ≤ length (carried s) → Within d → Asks s rule r
+  pub asked : {call : Call} {e : ℕ} {d : declared.Call} {r : Option declared.Call} → Ended s e d r → rule ≡ good call (drop e s) → good call [] ≡ as_call (carried s) d → size_of d ≤ length (carried s) → Within d → Asks s rule r
   unfolding at_end as_call size_of Within
-  asked {call} {e} {d} {r} x h a n w =
+  asked {call} {e} {d} x h a n w =
       let end : (t : List ℕ) → drop e s ≡ t → at_end rule ≡ at_end (good call t) = λ t f. ap at_end (h ∙ ap (good call) f) in
       rw x.is
       (pick-if (Asks s rule) (leb (length s) e)
@@ -47,7 +50,7 @@ module _ {s : List ℕ} {rule : Parsed Call} where
       (λ t. record { reads = end _ (from_byte s e (leb-false _ _ t)); carries = omega arith; within = tt }))
 
   -- where the line ends
-  pub asked-last : {call : Call} {d : declared.Call} → rule ≡ good call [] → good call [] ≡ as_call (carried s) d → size_of d ≤ length (carried s) → Within d → Asks s rule d
+  pub asked-last : {call : Call} {d : declared.Call} → rule ≡ good call [] → good call [] ≡ as_call (carried s) d → size_of d ≤ length (carried s) → Within d → Asks s rule (Some d)
   unfolding at_end
   asked-last h a n w = record { reads = ap at_end h ∙ a; carries = n; within = w }
 
@@ -67,18 +70,28 @@ no_bytes s n = expect-miss s 1 TAB bytes_at n
 pub whole : {l : List ℕ} {n : ℕ} → n ≡ length l → l ≡ take n l
 whole {l} {n} e = sym (take_all n l (omega arith))
 
+-- what is made of them and a number
+module _ {n number : ℕ} {r : declared.Call} (h : n ≤ 2048) where
+  pub request_made : number ≤ 64 → r ≡ C.Request n number → Carries request n number r
+  unfolding as_call size_of Within
+  request_made k e = rw e (record { reads = λ s. refl; size = refl; within = (h, k) })
+
+  pub modbus_made : number ≤ 64 → r ≡ C.Modbus n number → Carries modbus n number r
+  unfolding as_call size_of Within
+  modbus_made k e = rw e (record { reads = λ s. refl; size = refl; within = (h, k) })
+
+  pub bytes_made : (u : Use) → r ≡ C.Bytes u n number → Carries (bytes u) n number r
+  unfolding as_call size_of Within
+  bytes_made u e = rw e (record { reads = λ s. refl; size = refl; within = h })
+
 -- a line of at most 4,095 bytes carries at most 2,047
 pub few : (s : List ℕ) {n : ℕ} → n ≡ length (carried s) → length s ≤ 4095 → n ≤ 2047
 few s e h = omega (arith, carried-half s)
 
 -- ---- a row of numbers
 
-module _ {s : List ℕ} {rule : Parsed (List ℕ)} {r : Numbers} (y : Counts s rule r) where
-  pub row : not r.good ≡ false → rule ≡ good r.values (drop r.next s)
-  row t = y.reads ∙ pick-t _ _ _ (not-false _ t)
-
-  pub no_row : not r.good ≡ true → rule ≡ bad
-  no_row t = y.reads ∙ pick-f _ _ _ (not-true _ t)
+pub row : {s : List ℕ} {rule : Parsed (List ℕ)} {r r' : Option (List ℕ × ℕ)} → Counts s rule r → r ≡ r' → rule ≡ leads_row s r'
+row {s} y e = y.reads ∙ ap (leads_row s) e
 
 -- ---- a number more, or none where the line ends
 
@@ -94,7 +107,7 @@ module _ (without : Call) (behind : ℕ → Call) (s : List ℕ) (next : ℕ) wh
 -- ---- the answer to a whole line
 
 -- by a letter that is k
-pub by_key : {s : List ℕ} {b : ℕ} (k : ℕ) (rule : ℕ → List ℕ → Parsed Call) {r : declared.Call} → b ≡ get_or s 0 0 → b ≡ k → rule k (drop 1 s) ≡ call_by k (drop 1 s) → Asks s (rule b (drop 1 s)) r
+pub by_key : {s : List ℕ} {b : ℕ} (k : ℕ) (rule : ℕ → List ℕ → Parsed Call) {r : Option declared.Call} → b ≡ get_or s 0 0 → b ≡ k → rule k (drop 1 s) ≡ call_by k (drop 1 s) → Asks s (rule b (drop 1 s)) r
     → Asks s (call_by (get_or s 0 0) (drop 1 s)) r
 by_key {s} {b} k rule {r} e f g a = subst (λ (p : Parsed Call). Asks s p r) (ap (λ (n : ℕ). rule n (drop 1 s)) f ∙ g ∙ ap (λ (n : ℕ). call_by n (drop 1 s)) (sym f ∙ e)) a
 
@@ -119,9 +132,10 @@ module _ {l old : List ℕ} where
   unfolding read_in
   unread-long h k = unread (pick-f _ _ _ (ap (λ (t : Bool). t && leb (length l) 4095) (le-leb _ _ h) ∙ lt-leb _ _ k))
 
-  pub stored : {new : List ℕ} {r : declared.Call} → Asks l (call_by (get_or l 0 0) (drop 1 l)) r → 2048 ≤ length old → length l ≤ 4095 → new ≡ sets old 0 (take (size_of r) (carried l)) → ReadsCall l old new r
+  pub stored : {new : List ℕ} {q : Option declared.Call} → Asks l (call_by (get_or l 0 0) (drop 1 l)) q → 2048 ≤ length old → length l ≤ 4095 → new ≡ sets old 0 (take (size_of (call_in q)) (carried l)) → ReadsCall l old new (call_in q)
   unfolding read_in over
-  stored {new} {r} a h k e =
+  stored {new} {q} a h k e =
+      let r = call_in q in
       let b = take (size_of r) (carried l) in
       let size : length b ≡ size_of r = length-take-le (size_of r) (carried l) a.carries in
       let few = (known r).few a.within in

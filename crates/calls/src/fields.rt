@@ -5,9 +5,7 @@ ghost use Rattle.operands.specs.Bytes.{is_hex, hex_value, carried};
 ghost use Rattle.calls.specs.Call.{numbers_field};
 ghost use Rattle.calls.specs.Reading.{Counts};
 
-use crate::Numbers;
 use operands::GREATEST;
-use text::Num;
 
 // The value of a hexadecimal digit: its last four bits, and 9 more for a letter, which is above 63.
 fn hex_value(b: u8) -> u8
@@ -31,36 +29,22 @@ pub(crate) fn store(s: &[u8], n: usize, out: &mut [u8])
     requires room { n ≤ length out.old }
     ensures { out.new ≡ sets out.old 0 (take n (carried s.now)) }
 {
-    let mut k: usize = 0;
-    while k < n {
+    for k in 0..n {
         out[k] = byte_of(s, k);
-        k += 1;
     }
 }
 
-// n numbers, a tab before each.
-pub(crate) fn numbers_at(s: &[u8], at: usize, n: usize) -> Numbers
+// n numbers, a tab before each, and the place after them; those of the row behind them are 0.
+pub(crate) fn numbers_at(s: &[u8], at: usize, n: usize) -> Option<([u32; 19], usize)>
     requires { n ≤ 19 }
     ensures { Counts s.now (numbers_field n (drop at s.now)) result }
 {
     let mut values = [0u32; 19];
-    let mut k: usize = 0;
     let mut p = at;
-    while k < n {
-        let Num::Good(v, next) = text::field_at(s, p, GREATEST) else {
-            return Numbers {
-                good: false,
-                next: 0,
-                values,
-            };
-        };
+    for k in 0..n {
+        let (v, next) = text::field_at(s, p, GREATEST)?;
         values[k] = v;
         p = next;
-        k += 1;
     }
-    Numbers {
-        good: true,
-        next: p,
-        values,
-    }
+    Some((values, p))
 }

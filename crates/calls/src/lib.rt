@@ -13,14 +13,6 @@ use field::{Field, Weight};
 use journal::{Form, Line};
 use settings::Settings;
 
-// n numbers read at a place; the others are 0.
-#[derive(Clone, Copy)]
-struct Numbers {
-    good: bool,
-    next: usize,
-    values: [u32; 19],
-}
-
 // An order to the box; it carries no bytes.
 #[derive(Clone, Copy)]
 pub enum Order {
@@ -83,31 +75,34 @@ pub const BYTES: usize = 2048;
 const LONGEST: usize = 4095;
 
 // The call of a line that is no tick and no line request, by its letter; its bytes are only looked at.
-fn call_of(line: &[u8]) -> Call
+fn call_of(line: &[u8]) -> Option<Call>
     requires line { length line.now ≤ 4095 }
     requires letter { (get_or line.now 0 0 ≡ 84 → ⊥) × (get_or line.now 0 0 ≡ 66 → ⊥) }
     ensures { Asks line.now (call_by (get_or line.now 0 0) (drop 1 line.now)) result }
 {
-    let letter = text::byte_at(line, 0);
-    match letter {
+    match text::byte_at(line, 0) {
         b'L' => asks::link(line),
         b'S' => asks::set(line),
         b'C' => asks::ended(line, 1, Call::Order(Order::Reset)),
         b'Q' => asks::ended(line, 1, Call::Order(Order::Counters)),
         b'N' => asks::restart(line),
-        b'M' => asks::room(line, letter, 64),
+        b'M' => asks::room(line, 64, |n, room| Call::Modbus(n, room)),
         b'Y' => asks::why(line),
-        b'W' => asks::room(line, letter, 600),
-        b'X' => asks::alone(line, letter),
+        b'W' => asks::room(line, 600, |n, room| Call::Bytes(Use::WriteFrame, n, room)),
+        b'X' => asks::alone(line, Use::ReadFrame),
         b'G' => asks::weight(line),
         b'K' => asks::four(line),
         b'D' => asks::dose(line),
         b'H' => asks::on(line),
-        b'l' => asks::alone(line, letter),
-        b'm' => asks::alone(line, letter),
-        b'u' => asks::room(line, letter, operands::GREATEST),
-        b'j' => asks::room(line, letter, 2000),
-        _ => Call::Unknown,
+        b'l' => asks::alone(line, Use::ReadLine(Form::Old)),
+        b'm' => asks::alone(line, Use::ReadLine(Form::New)),
+        b'u' => asks::room(
+            line,
+            operands::GREATEST,
+            |n, hour| Call::Bytes(Use::Hour, n, hour),
+        ),
+        b'j' => asks::room(line, 2000, |n, room| Call::Bytes(Use::Hours, n, room)),
+        _ => None,
     }
 }
 
@@ -135,14 +130,14 @@ pub fn read(line: &[u8], bytes: &mut [u8]) -> Call
     }
     let letter = text::byte_at(line, 0);
     if letter == b'T' {
-        return asks::tick(line);
+        return asks::tick(line).unwrap_or(Call::Unknown);
     }
     if letter == b'B' {
-        let call = asks::room(line, letter, 64);
+        let call = asks::room(line, 64, |n, room| Call::Request(n, room)).unwrap_or(Call::Unknown);
         fields::store(line, size_of(call), bytes);
         return call;
     }
-    let call = call_of(line);
+    let call = call_of(line).unwrap_or(Call::Unknown);
     fields::store(line, size_of(call), bytes);
     call
 }

@@ -6,7 +6,8 @@ use native.Mathlib.Omega.{arith}
 use lib.Dec.{eqb}
 use Rattle.laws.specs.Bools.{or_left, or_right}
 use Rattle.laws.specs.Pick.{pick, pick_all}
-use Rattle.channels.specs.Channels.{worth, expected}
+use Rattle.channels.specs.Channels.{worth, no_runs, expected}
+use Rattle.channels.specs.declared.Runs.{Runs}
 
 -- the expected input is whether level 1 and the output are alike
 alike : (b output : Bool) → pick b output (not output) ≡ beq b output
@@ -20,6 +21,10 @@ alike false false = refl
 pub unlike : (level : ℕ) (output on : Bool) → xor on (expected level output) ≡ not (beq on (beq (eqb level 1) output))
 unfolding xor expected
 unlike level output on = rw (alike (eqb level 1) output)
+
+-- a run of no mismatch on each channel
+pub all-zero : {one two three : ℕ} → one ≡ 0 → two ≡ 0 → three ≡ 0 → ◌≡◌ {A = Runs} (record { one = one; two = two; three = three }) no_runs
+all-zero a b c = rw (a, b, c)
 
 -- where none of three holds, each does not
 pub none-holds : (a b c : Bool) → (a || b || c) ≡ false → (a ≡ false) × (b ≡ false) × (c ≡ false)

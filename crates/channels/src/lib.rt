@@ -11,18 +11,11 @@ use dosing::Gates;
 use settings::Settings;
 
 // The runs of mismatches of channels 1 to 3.
-#[derive(Clone, Copy)]
+#[derive(Clone, Copy, Debug, Default, PartialEq, Eq)]
 pub struct Runs {
     pub one: u32,
     pub two: u32,
     pub three: u32,
-}
-
-// No run has reached its limit, or F14 with the lowest channel whose run has.
-#[derive(Clone, Copy)]
-pub enum Watch {
-    Clear,
-    F14(u8),
 }
 
 impl Runs {
@@ -30,7 +23,8 @@ impl Runs {
     pub const MISMATCHES: u32 = 64;
 }
 
-// Whether the bit of this worth is on. This and `bit_of` are those of `field`: no crate with code lies below both.
+// Whether the bit of this worth is on.
+// This and `bit_of` are those of `field` too: no crate with code lies below both, and one made for two lines would be no plainer.
 fn has_bit(byte: u8, worth: u8) -> bool
     requires { 0 < worth }
     ensures { result ≡ eqb (byte / worth % 2) 1 }
@@ -74,14 +68,12 @@ fn mismatch(level: u32, output: bool, on: bool) -> bool
 fn run_after(wrong: bool, run: u32) -> u32
     ensures { result ≡ pick wrong (pick (ltb run 64) (run + 1) 64) 0 }
 {
-    if wrong {
-        if run < Runs::MISMATCHES {
-            run + 1
-        } else {
-            Runs::MISMATCHES
-        }
-    } else {
+    if !wrong {
         0
+    } else if run < Runs::MISMATCHES {
+        run + 1
+    } else {
+        Runs::MISMATCHES
     }
 }
 
@@ -96,11 +88,7 @@ pub fn runs_after(set: Settings, g: Gates, inputs: u8, runs: Runs) -> Runs
     let two = mismatch(set.in2, g.two, has_bit(inputs, 2));
     let three = mismatch(set.in3, g.three, has_bit(inputs, 4));
     if !(one | two | three) {
-        return Runs {
-            one: 0,
-            two: 0,
-            three: 0,
-        };
+        return Runs::default();
     }
     Runs {
         one: run_after(one, runs.one),
@@ -109,18 +97,18 @@ pub fn runs_after(set: Settings, g: Gates, inputs: u8, runs: Runs) -> Runs
     }
 }
 
-// The lowest channel whose run has reached its limit is F14.
-pub fn reached(runs: Runs) -> Watch
+// The lowest channel whose run has reached its limit, which is F14; none if no run has.
+pub fn reached(runs: Runs) -> Option<u8>
     ensures { Watches runs result }
 {
     if Runs::MISMATCHES <= runs.one {
-        return Watch::F14(1);
+        return Some(1);
     }
     if Runs::MISMATCHES <= runs.two {
-        return Watch::F14(2);
+        return Some(2);
     }
     if Runs::MISMATCHES <= runs.three {
-        return Watch::F14(3);
+        return Some(3);
     }
-    Watch::Clear
+    None
 }

@@ -2,6 +2,7 @@
 use mathlib.Core.Path.{◌≡◌, refl, sym, ap, ◌∙◌, subst}
 use mathlib.Core.List.{List, [], ◌∷◌}
 use Prim.Native.Nat.{ℕ}
+use Rattle.std.specs.Prelude.{Option}
 use lib.ListN.{length, get_or, take}
 use Rattle.paper.specs.Answer.{Answer, done, refused, fault, told}
 use Rattle.paper.specs.Numbers.{R2}
@@ -20,7 +21,6 @@ use Rattle.chosen.specs.Choice.{no_product, printed, chosen_report}
 use Rattle.chosen.specs.ChoiceLaws.{chosen_none, chosen-refused, chosen-seen}
 use Rattle.chosen.specs.Says.{says_choice}
 use Rattle.chosen.specs.Promises.{ReportsChosen}
-use Rattle.chosen.specs.declared.Choice.{Choice}
 
 -- the journal is accepted: R2 with 0
 pub accepted-none : (s : List ℕ) (m : Summary) → done m ≡ told summary_of (journal_of s) → refusal_text R2 0 ≡ chosen_report no_product s
@@ -44,7 +44,7 @@ refused_none s r e = go (journal_of s) refl e
     go (fault n vs) q h = refusal-fault r h
 
 -- 65,537 bytes were asked for, so it is the report of the journal that was read
-pub reports : (choice : Choice) (bytes : List ℕ) (n : ℕ) (r : Printout) → length bytes ≡ 65537 → Holds (chosen_report (says_choice choice) (take n bytes)) r → ReportsChosen choice bytes n r
+pub reports : (choice : Option ℕ) (bytes : List ℕ) (n : ℕ) (r : Printout 33480) → length bytes ≡ 65537 → Holds (chosen_report (says_choice choice) (take n bytes)) r → ReportsChosen choice bytes n r
 reports choice bytes n r size h =
     record {
       holds = h;

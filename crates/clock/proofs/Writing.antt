@@ -14,8 +14,7 @@ use Rattle.laws.specs.Pick.{pick, pick-t, pick-f, pick-map}
 use Rattle.laws.specs.Over.{over, sets-append, sets_over}
 use Rattle.laws.specs.Decimal.{number_at, decimal, digits_of, glyph}
 use Rattle.laws.specs.DecimalLaws.{decimal-small}
-use Rattle.text.specs.Scan.{leads, Scans}
-use Rattle.text.specs.declared.Num.{Num}
+use Rattle.text.specs.Scan.{Num, leads, Scans}
 use Rattle.paper.specs.Answer.{Answer, done, told, in_room, leaves, Fills}
 use Rattle.paper.specs.AnswerLaws.{refused-done}
 use Rattle.journal.specs.Line.{version_text, text_of, in_range, write_of, write_version_of}
@@ -23,9 +22,9 @@ use Rattle.journal.specs.LineLaws.{text-most, write-fits}
 use Rattle.journal.specs.Journal.{lines_text}
 use Rattle.journal.specs.declared.Form.TheVariants.{New}
 use Rattle.journal.specs.declared.Line.{Line}
-use Rattle.entry.specs.Says.{says_wrote}
-use Rattle.entry.specs.declared.Wrote.{Wrote}
-use Rattle.entry.specs.declared.Wrote.TheVariants as W
+use Rattle.entry.specs.Says.{Wrote, says_wrote}
+use Rattle.entry.specs.declared.WriteError.TheVariants as E
+use Rattle.std.specs.Prelude.{Ok, Err}
 use Rattle.clock.specs.Clock.{ticks_an_hour, greatest_hour, Note, note, with_stage, refusal_text, refuse, first_of, closing, next_hour, one_more, counts, heard_by, passed_by, Runs}
 use Rattle.clock.specs.Marking.{size_of, Prints, Adds, Writes, prints-writes, writes_as, writes-none, roomed, fits_line, Writable, Does, Opens, Marks, Passes}
 use Rattle.clock.specs.Keeps.{heard-runs, first_runs, fitted-is, passed-runs, roomed-is, Uncounted, restarted, lost, other}
@@ -45,9 +44,9 @@ unfolding size_of told leaves
 wrote {text} {old} w e f = (size w (f.says ∙ ap (told length) e), f.left ∙ ap (λ (a : Answer (List ℕ)). leaves a old) e)
   where
     size : (w : Wrote) → says_wrote w ≡ done (length text) → size_of w ≡ length text
-    size (W.Line n) q = cc
-    size W.R10 q = refused-done q
-    size W.R8 q = refused-done q
+    size (Ok n) q = cc
+    size (Err E.R10) q = refused-done q
+    size (Err E.R8) q = refused-done q
 
 -- a line in the part of a buffer from a place on
 pub line-put : {r : ℕ} (old sub : List ℕ) (at : ℕ) (l : Line) (w : Wrote) → in_range New l ≡ true → at + 31 ≤ length old → r ≡ size_of w

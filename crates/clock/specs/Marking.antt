@@ -1,5 +1,5 @@
 -- What the calls of a clock and their parts promise. Assumes nothing.
-use Rattle.std.specs.Prelude.{◌≡◌, refl, Bool, true, List, [], ℕ, ◌+◌, ◌≤◌, leb, length}
+use Rattle.std.specs.Prelude.{Ok, Err, ◌≡◌, refl, Bool, true, List, [], ℕ, ◌+◌, ◌≤◌, leb, length}
 use Rattle.std.proofs.Common.{sym, ap₂, ◌∙◌, subst, zero-add, arith}
 use Rattle.std.proofs.lemmas.List.Edits.{sets}
 use Rattle.laws.specs.Pick.{pick}
@@ -8,8 +8,7 @@ use Rattle.laws.specs.Decimal.{number_at}
 use Rattle.paper.specs.Answer.{same}
 use Rattle.journal.specs.declared.Form.TheVariants.{New}
 use Rattle.journal.specs.Line.{in_range}
-use Rattle.entry.specs.declared.Wrote.{Wrote}
-use Rattle.entry.specs.declared.Wrote.TheVariants as W
+use Rattle.entry.specs.Says.{Wrote}
 use Rattle.clock.specs.Clock.{greatest_hour, start_of, Note, note, first_of, dose_in, heard_by, passed_by, Runs}
 use Rattle.clock.specs.declared.Heard.{Heard}
 use Rattle.clock.specs.declared.Heard.TheVariants.{Ticked, Dosed, Restarted, Lost, Other}
@@ -30,9 +29,8 @@ start-determined p q = same p.is q.is
 
 -- how many bytes a writer wrote: none where it refused
 unfoldable pub size_of : Wrote → ℕ
-size_of (W.Line n) = n
-size_of W.R10 = 0
-size_of W.R8 = 0
+size_of (Ok n) = n
+size_of (Err e) = 0
 
 -- the text stands at `at`, everything else is as it was, and the place after it is answered; it has at most so many bytes
 pub record Prints (most : ℕ) (old : List ℕ) (at : ℕ) (text new : List ℕ) (r : ℕ) : Type 0 where

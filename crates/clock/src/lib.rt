@@ -8,9 +8,8 @@ ghost use Rattle.clock.specs.Clock.{greatest_hour, refuse, dose_in, one_more, co
 ghost use Rattle.clock.specs.Marking.{Starts, size_of, Prints, Adds, fits_line, Writable, Writes, Opens, Marks, Passes};
 
 use counters::Record;
-use entry::Wrote;
+use entry::WriteError;
 use journal::{Form, Line};
-use text::Num;
 
 // Before the first line, recording, or over after a refusal.
 #[derive(Clone, Copy)]
@@ -78,14 +77,10 @@ fn refuse(k: Clock, line: u8, out: &mut [u8]) -> Marked
 }
 
 // How many bytes a writer wrote.
-fn size_of(wrote: Wrote) -> usize
+fn size_of(wrote: Result<usize, WriteError>) -> usize
     ensures { result ≡ size_of wrote }
 {
-    match wrote {
-        Wrote::Line(len) => len,
-        Wrote::R10 => 0,
-        Wrote::R8 => 0,
-    }
+    wrote.unwrap_or(0)
 }
 
 // A line of the journal at a place that has room for it.
@@ -206,7 +201,7 @@ impl Clock {
         if out.len() < ENOUGH {
             return Marked { next: self, len: 0 };
         }
-        let Num::Good(hour, end) = text::number_at(line, 0, GREATEST_HOUR) else {
+        let Some((hour, end)) = text::number_at(line, 0, GREATEST_HOUR) else {
             return refuse(self, 1, out);
         };
         if end < line.len() {

@@ -1,11 +1,9 @@
 -- Over any blocks of an input nothing of what `record` writes is lost, made up or written twice. Assumes nothing.
-use Rattle.std.specs.Prelude.{◌≡◌, refl, List, ◌++◌, ℕ, zero, suc, ◌-◌, leb, length}
+use Rattle.std.specs.Prelude.{◌≡◌, refl, Option, Some, None, List, ◌++◌, ℕ, zero, suc, ◌-◌, leb, length}
 use Rattle.std.proofs.Common.{sym, ap, ◌∙◌, append_assoc}
 use Rattle.laws.specs.Pick.{pick_all}
 use Rattle.lines.specs.declared.Intake.{Intake}
 use Rattle.lines.specs.declared.Taken.{Taken}
-use Rattle.lines.specs.declared.Next.{Next}
-use Rattle.lines.specs.declared.Next.TheVariants.{Line, More}
 use Rattle.lines.specs.Places.{part_of}
 use Rattle.lines.specs.Intake.{comes, handed, Steps, next-steps, comes-start}
 use Rattle.lines.specs.Intake as lines
@@ -18,16 +16,16 @@ abbrev Right : Recorder → Intake → List ℕ → Gave → Type 0
 Right r i input g = (future : List ℕ) → notes_of r (comes i input future) ≡ g.text ++ notes_of g.next (comes g.intake input future)
 
 next-right : (others : ℕ → Recorder → Gave) (room : ℕ) (r : Recorder) (i : Intake) (input : List ℕ) (t : Taken) → Steps i input t
-    → ((left : ℕ) (next : Recorder) → Right next t.intake input (others left next)) → (n : Next) → t.next ≡ n → Right r i input (on_next others room r input t.intake n)
+    → ((left : ℕ) (next : Recorder) → Right next t.intake input (others left next)) → (n : Option (ℕ × ℕ)) → t.next ≡ n → Right r i input (on_next others room r input t.intake n)
 unfolding on_next ahead handed notes_of
-next-right others room r i input t s h (Line from to) e future =
+next-right others room r i input t s h (Some (from, to)) e future =
     let l = part_of from to input in
     let n = (note_of r l).text in
     let g = others (room - length n) (next_of r l) in
-    ap (notes_of r) (s.comes future ∙ ap (λ (x : Next). handed input x ++ comes t.intake input future) e)
+    ap (notes_of r) (s.comes future ∙ ap (λ (x : Option (ℕ × ℕ)). handed input x ++ comes t.intake input future) e)
     ∙ ap (λ (more : List ℕ). n ++ more) (h (room - length n) (next_of r l) future)
     ∙ sym (append_assoc n g.text (notes_of g.next (comes g.intake input future)))
-next-right others room r i input t s h More e future = ap (notes_of r) (s.comes future ∙ ap (λ (x : Next). handed input x ++ comes t.intake input future) e)
+next-right others room r i input t s h None e future = ap (notes_of r) (s.comes future ∙ ap (λ (x : Option (ℕ × ℕ)). handed input x ++ comes t.intake input future) e)
 
 from-right : (n room : ℕ) (r : Recorder) (i : Intake) (input : List ℕ) → Right r i input (feed_from n room r i input)
 unfolding feed_from

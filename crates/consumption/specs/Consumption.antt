@@ -1,5 +1,5 @@
 -- The hours of a recording, for the products that are asked for: an hour that lies in no hole of the dose numbers is measured exactly if it was seen in full and a dose of them completed in it, and then by those doses; one that lies in a hole is missing. Assumes nothing.
-use Rattle.std.specs.Prelude.{◌≡◌, Bool, false, not, ◌&&◌, ◌||◌, ℕ, zero, suc, ◌+◌, ◌≤◌, ◌<◌, eqb, ltb, ℤ, length, drop}
+use Rattle.std.specs.Prelude.{◌≡◌, Bool, false, not, ◌&&◌, ◌||◌, ℕ, zero, suc, ◌+◌, ◌≤◌, ◌<◌, eqb, ltb, ℤ, length, drop, Option, Some, None}
 use Rattle.std.proofs.Math.Path.{refl, ap, ap₂, subst}
 use Rattle.std.proofs.Common.{sym, ◌∙◌, arith, eq-eqb, ne_eqb, eqb-true, ltb-false}
 use Rattle.std.proofs.Math.Bool.{true}
@@ -24,7 +24,6 @@ use Rattle.hourly.specs.declared.Products.{Products}
 use Rattle.hourly.specs.declared.Products.TheVariants.{One}
 use Rattle.hourly.specs.Hours.{HourAnswer, measured, idle, missing, asks_for, dose_at, amounts_at, is_on, has_on, sum_of, largest_of, mean_of, measured_or_idle, hour_of}
 use Rattle.dosing.specs.declared.Dose as dosing
-use Rattle.dosing.specs.declared.Dose.TheVariants.{Nothing, Complete}
 use Rattle.controller.specs.declared.Controller.{Controller}
 use Rattle.controller.specs.declared.Fault.{Fault}
 use Rattle.controller.specs.declared.Fault.TheVariants as F
@@ -148,10 +147,10 @@ events_of [] = []
 events_of (l ∷ ls) = events_in (call_of l) ++ events_of ls
 
 -- a tick tells of one dose or of none
-one-dose : (product : ℕ) (after : Counters) (d : dosing.Dose) → doses_in (heard_doses (records_of product after d) ∷ []) ≡ records_of product after d
+one-dose : (product : ℕ) (after : Counters) (d : Option dosing.Dose) → doses_in (heard_doses (records_of product after d) ∷ []) ≡ records_of product after d
 unfolding doses_in heard_doses records_of
-one-dose product after Nothing = refl
-one-dose product after (Complete amount settled) = refl
+one-dose product after None = refl
+one-dose product after (Some d) = refl
 
 fault-none : (why : Fault) → doses_in (heard_tick (says_fault why) ∷ []) ≡ records_in (says_fault why)
 unfolding doses_in heard_tick says_fault records_in

@@ -8,25 +8,29 @@ use lib.Dec.{leb, eqb}
 use lib.ListN.{length}
 use Rattle.laws.specs.Pick.{pick, pick-t, pick-f, pick-map}
 use Rattle.paper.specs.Answer.{Answer, done, refused, told, on_done, in_room, leaves, Fills}
-use Rattle.paper.specs.AnswerLaws.{refused-done, done_refused, passed}
+use Rattle.paper.specs.AnswerLaws.{done_refused, passed}
 use Rattle.paper.specs.Numbers.{R3, R4, R5, R7, R8}
 use Rattle.settings.specs.Good.{good-ranges}
 use Rattle.window.specs.declared.Window.{Window}
 use Rattle.dosing.specs.declared.Units.{Units}
 use Rattle.scale.specs.Scale.{as_window}
 use Rattle.scale.specs.Laws.{lent-window}
-use Rattle.asking.specs.declared.Sent.{Sent}
-use Rattle.asking.specs.declared.Sent.TheVariants as W
+use Rattle.std.specs.Prelude.{Ok, Err}
+use Rattle.std.specs.Prelude as P
+use Rattle.asking.specs.declared.SendError.{SendError}
+use Rattle.asking.specs.declared.RequestError.{RequestError}
+use Rattle.asking.specs.declared.RequestError.TheVariants as E
 use Rattle.message.specs.declared.Form.{Form}
 use Rattle.message.specs.declared.Parts.{Parts}
 use Rattle.asking.specs.Asking.{Asked, asked_by, heard_of, ours, address_of, known, bare, code_of, time_of, zero_of, ask_of, reply_bytes}
 use Rattle.asking.specs.Laws.{reply-framed}
-use Rattle.asking.specs.Says.{Sends, says_sent, sent-one}
+use Rattle.asking.specs.Says.{Sends, says_error, says_stage, says_sent, stage-one, sent-one}
 use Rattle.asking.specs.declared.Reply.{Reply}
 use Rattle.readout.specs.Readout.{may_zero, zero_to, reply_for}
 use Rattle.readout.specs.Says.{Zeroed}
-use Rattle.readout.specs.declared.Zero.{Zero}
-use Rattle.readout.specs.Laws.{reply-bytes}
+use Rattle.readout.specs.Laws.{reply-bytes, zeroing-may, zeroing-to}
+use Rattle.std.specs.Prelude.{Option, Some}
+use Rattle.std.specs.Option.{is_some, unwrap_or}
 use Rattle.controller.specs.State.{with_z}
 use Rattle.controller.specs.Tick.{Result, still}
 use Rattle.controller.specs.Ready.{is_ready}
@@ -40,16 +44,28 @@ use Rattle.controller.specs.declared.Requested.{Requested}
 
 -- ---- the stages
 
--- a test that refuses gives its own refusal
-refusal : (b : Bool) (n : ℕ) (vs us : List ℕ) → ◌≡◌ {A = Answer (Unit {0})} (refused n us) (pick b (done tt) (refused n vs)) → ◌≡◌ {A = Answer (Unit {0})} (pick b (done tt) (refused n vs)) (refused n vs)
+-- a refusal is the answer, whatever comes next
+on-error : {A B : Type 0} (e : RequestError) (k : A → Answer B) → on_done (says_error e) k ≡ says_error e
+unfolding on_done
+on-error (E.R9 place) k = refl
+on-error (E.R6 place) k = refl
+on-error (E.R5 place) k = refl
+on-error (E.R7 place) k = refl
+on-error (E.R3 place) k = refl
+on-error (E.R4 place) k = refl
+on-error (E.R8 place) k = refl
+
+-- a stage that does not pass gives its own refusal
+refusal : (b : Bool) (n : ℕ) (vs : List ℕ) (r : P.Result (Unit {0}) RequestError) → ((u : Unit {0}) → r ≢ Ok u) → says_stage r ≡ pick b (done tt) (refused n vs)
+    → ◌≡◌ {A = Answer (Unit {0})} (pick b (done tt) (refused n vs)) (refused n vs)
 unfolding pick
-refusal true n vs us e = refused-done e
-refusal false n vs us e = refl
+refusal true n vs r never e = absurd (never tt (stage-one r (Ok tt) e))
+refusal false n vs r never e = refl
 
 -- R9, R6
-pub not-heard : (c : Controller) (s : List ℕ) {n : ℕ} {vs : List ℕ} → refused n vs ≡ heard_of s → asked_of c s ≡ refused n vs
-unfolding asked_of ask_of on_done
-not-heard c s e = rw (← e)
+pub not-heard : (c : Controller) (s : List ℕ) (e : RequestError) → says_error e ≡ heard_of s → asked_of c s ≡ says_error e
+unfolding asked_of ask_of
+not-heard c s e h = rw (← h) (simp on-error)
 
 module _ (c : Controller) (s : List ℕ) {place : ℕ} {p : Parts} (heard : done (place, p) ≡ heard_of s) where
   by-stages : asked_of c s
@@ -57,30 +73,41 @@ module _ (c : Controller) (s : List ℕ) {place : ℕ} {p : Parts} (heard : done
   unfolding asked_of ask_of on_done
   by-stages = rw (← heard)
 
-  pub not_ours : {us : List ℕ} → refused R5 us ≡ address_of place p.form c.set.address c.set.serial → asked_of c s ≡ refused R5 (place ∷ [])
+  pub not_ours : (r : P.Result (Unit {0}) RequestError) → ((u : Unit {0}) → r ≢ Ok u) → says_stage r ≡ address_of place p.form c.set.address c.set.serial → asked_of c s ≡ refused R5 (place ∷ [])
   unfolding address_of on_done
-  not_ours e = by-stages ∙ rw (refusal (ours p.form c.set.address c.set.serial) R5 (place ∷ []) _ e)
+  not_ours r never e = by-stages ∙ rw (refusal (ours p.form c.set.address c.set.serial) R5 (place ∷ []) r never e)
 
   module _ (us : done tt ≡ address_of place p.form c.set.address c.set.serial) where
-    pub not_known : {vs : List ℕ} → refused R7 vs ≡ code_of place p → asked_of c s ≡ refused R7 (place ∷ [])
+    by-code : asked_of c s ≡ on_done (on_done (code_of place p) (λ v. done (asked_by place p))) (λ a. allowed c a)
+    unfolding on_done
+    by-code = by-stages ∙ rw (← us)
+
+    pub not_known : (r : P.Result (Unit {0}) RequestError) → ((u : Unit {0}) → r ≢ Ok u) → says_stage r ≡ code_of place p → asked_of c s ≡ refused R7 (place ∷ [])
     unfolding code_of on_done
-    not_known e = by-stages ∙ rw (← us, refusal (known p.operation && bare p) R7 (place ∷ []) _ e)
+    not_known r never e = by-code ∙ rw (refusal (known p.operation && bare p) R7 (place ∷ []) r never e)
 
     module _ (good : done tt ≡ code_of place p) where
-      pub not-timed : {vs : List ℕ} → refused R3 vs ≡ time_of place (timely p.operation (is_ready c)) → asked_of c s ≡ refused R3 (place ∷ [])
-      unfolding time_of allowed on_done
-      not-timed e = by-stages ∙ rw (← us, ← good, refusal (timely p.operation (is_ready c)) R3 (place ∷ []) _ e)
+      by-time : asked_of c s ≡ on_done (time_of place (timely p.operation (is_ready c))) (λ u. on_done (zero_of place (may_zero p.operation c.set c.window)) (λ v. done (asked_by place p)))
+      unfolding on_done allowed
+      by-time = by-code ∙ rw (← good)
+
+      pub not-timed : (r : P.Result (Unit {0}) RequestError) → ((u : Unit {0}) → r ≢ Ok u) → says_stage r ≡ time_of place (timely p.operation (is_ready c)) → asked_of c s ≡ refused R3 (place ∷ [])
+      unfolding time_of on_done
+      not-timed r never e = by-time ∙ rw (refusal (timely p.operation (is_ready c)) R3 (place ∷ []) r never e)
 
       module _ (timed : done tt ≡ time_of place (timely p.operation (is_ready c))) where
-        pub not-zeroable : {vs : List ℕ} → refused R4 vs ≡ zero_of place (may_zero p.operation c.set c.window) → asked_of c s ≡ refused R4 (place ∷ [])
-        unfolding zero_of allowed on_done
-        not-zeroable e =
-            by-stages ∙ rw (← us, ← good, ← timed, refusal (may_zero p.operation c.set c.window) R4 (place ∷ []) _ e)
+        by-zero : asked_of c s ≡ on_done (zero_of place (may_zero p.operation c.set c.window)) (λ v. done (asked_by place p))
+        unfolding on_done
+        by-zero = by-time ∙ rw (← timed)
+
+        pub not-zeroable : (r : P.Result (Unit {0}) RequestError) → ((u : Unit {0}) → r ≢ Ok u) → says_stage r ≡ zero_of place (may_zero p.operation c.set c.window) → asked_of c s ≡ refused R4 (place ∷ [])
+        unfolding zero_of on_done
+        not-zeroable r never e = by-zero ∙ rw (refusal (may_zero p.operation c.set c.window) R4 (place ∷ []) r never e)
 
         -- no stage refuses
         pub is-asked : done tt ≡ zero_of place (may_zero p.operation c.set c.window) → asked_of c s ≡ done (asked_by place p)
-        unfolding allowed on_done
-        is-asked zeroed = by-stages ∙ rw (← us, ← good, ← timed, ← zeroed)
+        unfolding on_done
+        is-asked zeroed = by-zero ∙ rw (← zeroed)
 
 -- ---- what the samples lent give
 
@@ -91,13 +118,17 @@ module _ (c : Controller) (s : Sound c) where
   own : lent ≡ c.window
   own = lent-window c.window s.places
 
-  pub may-zero : {op : ℕ} {r : Zero} → Zeroed op c.set lent c.z r → r.may ≡ may_zero op c.set c.window
-  may-zero e = rw own at e.may
+  -- Z is given where the samples allow the request
+  pub may-zero : (op : ℕ) {r : Option Units} → Zeroed op c.set lent c.z r → is_some r ≡ may_zero op c.set c.window
+  may-zero op e = ap is_some (rw own at e) ∙ zeroing-may op c.set c.window c.z
 
   -- Z after a request that is answered
-  pub zeroed-so : {op : ℕ} {r : Zero} → Zeroed op c.set lent c.z r → with_z r.z c ≡ zeroed_by c op
-  unfolding zero_to zeroed_by
-  zeroed-so {op} e = ap (λ (z : Units). with_z z c) (rw own at e.z) ∙ pick-map (λ (z : Units). with_z z c) (eqb op 0xC0) _ c.z
+  pub zeroed-so : (op place : ℕ) {r : Option Units} {z : Units} → done tt ≡ zero_of place (may_zero op c.set c.window) → Zeroed op c.set lent c.z r → z ≡ unwrap_or r c.z → with_z z c ≡ zeroed_by c op
+  unfolding zero_of zero_to zeroed_by
+  zeroed-so op place {r} m e g =
+      let may = (passed (may_zero op c.set c.window) (done tt) R4 (place ∷ []) tt (sym m)).0 in
+      let given : r ≡ Some (zero_to op c.set c.window c.z) = (rw own at e) ∙ zeroing-to op c.set c.window c.z may in
+      ap (λ (z : Units). with_z z c) (rw given at g) ∙ pick-map (λ (z : Units). with_z z c) (eqb op 0xC0) _ c.z
 
   -- the data of a sound controller's reply
   reply-data : (op : ℕ) {holds : Reply} → holds ≡ reply_for op c.set lent c.z c.s c.inputs c.gates c.alarm → reply_bytes holds ≡ reply_data c op
@@ -106,7 +137,7 @@ module _ (c : Controller) (s : Sound c) where
       rw (e, own) (reply-bytes c.set c.window c.z c.s c.inputs c.gates c.alarm (weight-writable c c.set.p8 s) (weight-writable c c.set.p7 s) op)
 
   -- a reply to what is ours can always be framed
-  pub framed : (form : Form) (op place : ℕ) (holds : Reply) (w : Sent) {old new : List ℕ}
+  pub framed : (form : Form) (op place : ℕ) (holds : Reply) (w : P.Result ℕ SendError) {old new : List ℕ}
       → done tt ≡ address_of place form c.set.address c.set.serial → holds ≡ reply_for op c.set lent c.z c.s c.inputs c.gates c.alarm → Sends form op holds old new w
       → Fills (says_sent w) (in_room [] (length old) (reply_frame c (record { place = place; form = form; operation = op }))) old new
   unfolding address_of reply_frame
@@ -134,27 +165,36 @@ module _ (c : Controller) (s old : List ℕ) (sound : Sound c) where
   unfolding request_of replies_to
   refused-so e = rw e
 
-  pub refuses : {r : Requested} {n : ℕ} {vs : List ℕ} → asked_of c s ≡ refused n vs
+  refuses-as : {r : Requested} {n : ℕ} {vs : List ℕ} → asked_of c s ≡ refused n vs
       → r.next ≡ c → says_reply r.answer ≡ refused n vs → Replies c s old old r
   unfolding told leaves
-  refuses e n a = replies (still c (refused _ _)) (refused-so e) n a refl
+  refuses-as e n a = replies (still c (refused _ _)) (refused-so e) n a refl
+
+  pub refuses : (e : RequestError) → asked_of c s ≡ says_error e → Replies c s old old (record { next = c; answer = Err e })
+  refuses (E.R9 place) h = refuses-as h refl refl
+  refuses (E.R6 place) h = refuses-as h refl refl
+  refuses (E.R5 place) h = refuses-as h refl refl
+  refuses (E.R7 place) h = refuses-as h refl refl
+  refuses (E.R3 place) h = refuses-as h refl refl
+  refuses (E.R4 place) h = refuses-as h refl refl
+  refuses (E.R8 place) h = refuses-as h refl refl
 
   -- what the writer gives
-  module _ {a : Asked} (w : Sent) {new : List ℕ} (e : asked_of c s ≡ done a) (fills : Fills (says_sent w) (in_room [] (length old) (reply_frame c a)) old new) where
+  module _ {a : Asked} (w : P.Result ℕ SendError) {new : List ℕ} (e : asked_of c s ≡ done a) (fills : Fills (says_sent w) (in_room [] (length old) (reply_frame c a)) old new) where
     asked-so : request_of c s (length old) ≡ replied c a (length old)
     unfolding request_of replies_to
     asked-so = rw e
 
-    pub no_room : {r : Requested} → ((n : ℕ) → w ≢ W.Frame n) → r.next ≡ c → says_reply r.answer ≡ refused R8 (a.place ∷ []) → Replies c s old new r
+    pub no_room : {r : Requested} → ((n : ℕ) → w ≢ Ok n) → r.next ≡ c → says_reply r.answer ≡ refused R8 (a.place ∷ []) → Replies c s old new r
     unfolding replied in_room told leaves
     no_room {r} k n h = go (leb (length (reply_frame c a)) (length old)) refl
       where
         go : (t : Bool) → leb (length (reply_frame c a)) (length old) ≡ t → Replies c s old new r
         go true l =
-            absurd (k _ (sent-one w (W.Frame (length (reply_frame c a))) (fills.says ∙ rw (pick-t _ _ _ l))))
+            absurd (k _ (sent-one w (Ok (length (reply_frame c a))) (fills.says ∙ rw (pick-t _ _ _ l))))
         go false l = replies (still c (refused R8 (a.place ∷ []))) (asked-so ∙ pick-f _ _ _ l) n h (fills.left ∙ rw (pick-f _ _ _ l))
 
-    pub sends : {r : Requested} {n : ℕ} → w ≡ W.Frame n → r.next ≡ zeroed_by c a.operation → says_reply r.answer ≡ done (a.place, n) → Replies c s old new r
+    pub sends : {r : Requested} {n : ℕ} → w ≡ Ok n → r.next ≡ zeroed_by c a.operation → says_reply r.answer ≡ done (a.place, n) → Replies c s old new r
     unfolding replied in_room told leaves
     sends {r} {n} k m h = go (leb (length (reply_frame c a)) (length old)) refl
       where

@@ -1,12 +1,14 @@
 -- The steps of a tick, put together from what their parts give. Assumes nothing.
 use mathlib.Core.Path.{◌≡◌, refl, sym, ap, ap₂, subst, ◌∙◌}
 use mathlib.Core.Bool.{Bool, true, false}
-use mathlib.Core.List.{[]}
+use mathlib.Core.List.{[], ◌∷◌}
 use Prim.Native.Nat.{ℕ, ◌≤◌, ◌<◌}
 use lib.Dec.{eqb}
 use lib.IntN.{ℤ}
 use lib.ListN.{length}
 use borrow.Author.Tests.{lt-ltb, le-ltb}
+use Rattle.std.specs.Prelude.{Option, Some, None, Ok, IsSomeAnd}
+use Rattle.std.specs.Option.{MatchOption}
 use Rattle.laws.specs.Pick.{pick-t, pick-f}
 use Rattle.paper.specs.Answer.{done, refused}
 use Rattle.paper.specs.Numbers.{R1}
@@ -17,10 +19,11 @@ use Rattle.dosing.specs.declared.Units.{Units}
 use Rattle.channels.specs.Channels.{start_of, runs_after, watch_of}
 use Rattle.channels.specs.Says.{says_watch}
 use Rattle.channels.specs.declared.Runs.{Runs}
-use Rattle.channels.specs.declared.Watch.{Watch}
-use Rattle.channels.specs.declared.Watch.TheVariants as W
 use Rattle.scale.specs.Scale.{outside, filtered, filter_of, none}
-use Rattle.counters.specs.Counters.{records_of}
+use Rattle.counters.specs.Counters.{record_of, records_of}
+use Rattle.counters.specs.declared.Counters.{Counters}
+use Rattle.counters.specs.declared.Record.{Record}
+use Rattle.dosing.specs.declared.Dose.{Dose}
 use Rattle.scale.specs.Laws.{inside-within, filtered-within, lent-filtered, none-held, seen-weight}
 use Rattle.stepping.specs.Stepping.{sampled_by, sample_of, unstarted_of, stepped_by, stepped_of}
 use Rattle.stepping.specs.declared.Sampled.{Sampled}
@@ -30,13 +33,12 @@ use Rattle.controller.specs.Tick.{Result, Told, still, says_fault, faulted, step
 use Rattle.controller.specs.Sound.{Sound}
 use Rattle.controller.specs.Bounds.{push-within}
 use Rattle.controller.specs.Keeps.{tick-sound}
-use Rattle.controller.specs.Says.{Ticks, says_tick}
+use Rattle.controller.specs.Says.{Ticks, records_in_dose, told_by}
 use Rattle.controller.specs.Parts.{Gives, Small}
 use Rattle.controller.specs.declared.Controller.{Controller}
 use Rattle.controller.specs.declared.Fault.{Fault}
 use Rattle.controller.specs.declared.Fault.TheVariants as F
-use Rattle.controller.specs.declared.Condition.TheVariants.{Clear, Faulted}
-use Rattle.controller.specs.declared.TickAnswer.{TickAnswer}
+use Rattle.controller.specs.declared.Outputs.{Outputs}
 use Rattle.controller.specs.declared.Ticked.{Ticked}
 
 -- a rule by another name
@@ -53,12 +55,22 @@ stepped-so : (c : Controller) (start : Bool) → Small c.f c.z
 unfolding stepped_of seen_of w_of
 stepped-so c start h = rw (seen-weight c.set c.f c.z c.s start h.mean h.zero)
 
-pub steps-7-8 : (c : Controller) (start : Bool) {to : Stepped} {answer : TickAnswer} → Small c.f c.z
+pub steps-7-8 : (c : Controller) (start : Bool) {to : Stepped} {told : Outputs} → Small c.f c.z
     → to ≡ stepped_of c.set c.phase c.f c.z c.s c.gates c.counters start
-    → says_tick answer ≡ done (record { outputs = to.outputs; doses = records_of c.set.product to.counters to.dose })
-    → Gives (step7 c start) (record { next = with_unstarted to.unstarted (with_counters to.counters (with_alarm to.alarm (with_gates to.gates (with_s to.s (with_z to.z (with_phase to.phase c)))))); answer = answer })
+    → told_by told ≡ record { outputs = to.outputs; doses = records_of c.set.product to.counters to.dose }
+    → Gives (step7 c start) (record { next = with_unstarted to.unstarted (with_counters to.counters (with_alarm to.alarm (with_gates to.gates (with_s to.s (with_z to.z (with_phase to.phase c)))))); answer = Ok told })
 unfolding step7 step8 stepped_by
-steps-7-8 c start h e a = let so = e ∙ stepped-so c start h in record { next = rw so; says = a ∙ rw so }
+steps-7-8 c start h e a = let so = e ∙ stepped-so c start h in record { next = rw so; says = ap (λ (t : Told). done t) a ∙ rw so }
+
+-- the dose record is told of where a dose completed
+pub tells-so : (product : ℕ) (after : Counters) (d : Option Dose) (r : Option Record) {P : Dose → Record → Type 0}
+    → ((x : Dose) (y : Record) → P x y → y ≡ record_of product after x.amount x.settled)
+    → MatchOption d (r ≡ None) (λ x. IsSomeAnd r (P x))
+    → records_in_dose r ≡ records_of product after d
+unfolding records_of
+tells-so product after None r k h = rw h
+tells-so product after (Some x) None k h = absurd h
+tells-so product after (Some x) (Some y) k h = ap (λ (z : Record). z ∷ []) (k x y h)
 
 -- ---- from step 3 on
 
@@ -91,7 +103,7 @@ module _ (c : Controller) (x : ℤ) (inputs : ℕ) where
   unfolding step3
   step3-outside h g = gives (sym (pick-t _ _ _ h)) g
 
-  module _ {kept : Controller} {window : Window} {to : Sampled} {start : Bool} {runs : Runs} (watch : Watch) (inside : outside x ≡ false)
+  module _ {kept : Controller} {window : Window} {to : Sampled} {start : Bool} {runs : Runs} (watch : Option ℕ) (inside : outside x ≡ false)
       (i : kept ≡ with_unstarted false (with_inputs inputs c))
       (k : Kept kept x window to)
       (o : start ≡ start_of kept.set kept.link inputs)
@@ -105,13 +117,13 @@ module _ (c : Controller) (x : ℤ) (inputs : ℕ) where
     unfolding step3 steps4and5 steps6to8 sampled_by
     sixth = rw (says, e, o, k.read, k.pushed, i) (sym (pick-f _ _ _ inside))
 
-    pub reached : {channel : ℕ} {r : Ticked} → watch ≡ W.F14 channel → Gives (faulted (F.F14 channel) moved) r → Gives (step3 c x inputs) r
+    pub reached : {channel : ℕ} {r : Ticked} → watch ≡ Some channel → Gives (faulted (F.F14 channel) moved) r → Gives (step3 c x inputs) r
     unfolding mismatched
-    reached h g = gives (sym (ap (λ (w : Watch). mismatched (says_watch w) moved (step7 moved start)) h) ∙ sixth) g
+    reached h g = gives (sym (ap (λ (w : Option ℕ). mismatched (says_watch w) moved (step7 moved start)) h) ∙ sixth) g
 
-    pub not-reached : {r : Ticked} → watch ≡ W.Clear → Gives (step7 moved start) r → Gives (step3 c x inputs) r
+    pub not-reached : {r : Ticked} → watch ≡ None → Gives (step7 moved start) r → Gives (step3 c x inputs) r
     unfolding mismatched
-    not-reached h g = gives (sym (ap (λ (w : Watch). mismatched (says_watch w) moved (step7 moved start)) h) ∙ sixth) g
+    not-reached h g = gives (sym (ap (λ (w : Option ℕ). mismatched (says_watch w) moved (step7 moved start)) h) ∙ sixth) g
 
 -- ---- steps 1 and 2
 
@@ -123,10 +135,10 @@ module _ (c : Controller) (x : ℤ) (inputs : ℕ) {r : Ticked} where
   unfolding tick_of
   tick-refused s h g = ticks s (gives (sym (pick-t _ _ _ (lt-ltb 15 inputs h))) g)
 
-  pub tick-clear : Sound c → inputs ≤ 15 → c.condition ≡ Clear → Gives (step3 c x inputs) r → Ticks c x inputs r
+  pub tick-clear : Sound c → inputs ≤ 15 → c.condition ≡ None → Gives (step3 c x inputs) r → Ticks c x inputs r
   unfolding tick_of step2
   tick-clear s h e g = ticks s (gives (sym (pick-f _ _ _ (le-ltb 15 inputs h) ∙ rw e refl)) g)
 
-  pub tick-fault : (why : Fault) → Sound c → inputs ≤ 15 → c.condition ≡ Faulted why → Gives (still c (says_fault why)) r → Ticks c x inputs r
+  pub tick-fault : (why : Fault) → Sound c → inputs ≤ 15 → c.condition ≡ Some why → Gives (still c (says_fault why)) r → Ticks c x inputs r
   unfolding tick_of step2
   tick-fault why s h e g = ticks s (gives (sym (pick-f _ _ _ (le-ltb 15 inputs h) ∙ rw e refl)) g)

@@ -1,5 +1,5 @@
 -- The samples and F of a sound controller, and what a Ready controller is. Assumes nothing.
-use Rattle.std.specs.Prelude.{◌≡◌, refl, true, ℕ, ◌≤◌, ℤ, nat_abs}
+use Rattle.std.specs.Prelude.{◌≡◌, refl, true, ℕ, ◌≤◌, ℤ, nat_abs, Option, Some, None}
 use Rattle.std.proofs.Common.{arith}
 use Rattle.laws.specs.Whole.{false-true}
 use Rattle.window.specs.Window.{samples_of, push_of}
@@ -12,8 +12,6 @@ use Rattle.controller.specs.Ready.{ready_in, is_ready}
 use Rattle.controller.specs.Sound.{Sound}
 use Rattle.controller.specs.declared.Controller.{Controller}
 use Rattle.controller.specs.declared.Fault.{Fault}
-use Rattle.controller.specs.declared.Condition.{Condition}
-use Rattle.controller.specs.declared.Condition.TheVariants.{Clear, Faulted}
 
 module _ (c : Controller) (s : Sound c) where
   pub samples-within : Within 900000 (samples_of c.window)
@@ -24,7 +22,7 @@ module _ (c : Controller) (s : Sound c) where
 
 -- ---- Ready
 
-pub clear-faulted : {Q : Type 0} {why : Fault} → Clear ≡ Faulted why → Q
+pub clear-faulted : {Q : Type 0} {why : Fault} → None ≡ Some why → Q
 clear-faulted e = let z : ◌≡◌ {A = ℕ} 0 1 = cc in let n : ⊥ = omega arith in absurd n
 
 -- the phase is Ready
@@ -42,12 +40,12 @@ at_ready_lem (DoseCoarse w_h) h = false-true h
 at_ready_lem (DoseFine w_h) h = false-true h
 at_ready_lem (DoseSettle w_h n) h = false-true h
 
-ready-in : (k : Condition) (p : Phase) → ready_in k p ≡ true → (k ≡ Clear) × (p ≡ Ready)
+ready-in : (k : Option Fault) (p : Phase) → ready_in k p ≡ true → (k ≡ None) × (p ≡ Ready)
 unfolding ready_in
-ready-in Clear p h = (refl, at_ready_lem p h)
-ready-in (Faulted why) p h = false-true h
+ready-in None p h = (refl, at_ready_lem p h)
+ready-in (Some why) p h = false-true h
 
 -- a Ready controller is in no fault, and its phase is Ready
-pub ready-is : (c : Controller) → is_ready c ≡ true → (c.condition ≡ Clear) × (c.phase ≡ Ready)
+pub ready-is : (c : Controller) → is_ready c ≡ true → (c.condition ≡ None) × (c.phase ≡ Ready)
 unfolding is_ready
 ready-is c h = ready-in c.condition c.phase h

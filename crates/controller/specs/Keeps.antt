@@ -1,5 +1,5 @@
 -- Every call keeps `Sound`, and only a set that was taken makes a sound controller. Assumes nothing.
-use Rattle.std.specs.Prelude.{◌≡◌, refl, Bool, true, false, not, ◌&&◌, ◌||◌, List, [], ℕ, ◌≤◌, leb, ltb, eqb, ℤ, nat_abs, ◌-ℤ◌}
+use Rattle.std.specs.Prelude.{◌≡◌, refl, Bool, true, false, not, ◌&&◌, ◌||◌, List, [], ℕ, ◌≤◌, leb, ltb, eqb, ℤ, nat_abs, ◌-ℤ◌, Option, Some, None}
 use Rattle.std.proofs.Common.{sym, subst, ◌∙◌, ap, rules, ltb-false, arith}
 use Rattle.laws.specs.Pick.{pick, pick_all, pick-if}
 use Rattle.laws.specs.Whole.{false-true}
@@ -30,8 +30,7 @@ use Rattle.controller.specs.Ways.{tick-ways}
 use Rattle.controller.specs.Waiting.{step-waited, low-waited}
 use Rattle.controller.specs.Bounds.{clear-faulted, ready-is}
 use Rattle.controller.specs.declared.Controller.{Controller}
-use Rattle.controller.specs.declared.Condition.{Condition}
-use Rattle.controller.specs.declared.Condition.TheVariants.{Clear, Faulted}
+use Rattle.controller.specs.declared.Fault.{Fault}
 use Rattle.settings.specs.declared.Settings.{Settings}
 use Rattle.settings.specs.Table.{first_bad, first_from, table, in_range, default_set, default-good}
 use Rattle.window.specs.Laws.{empty-length}
@@ -50,11 +49,11 @@ pub record Follows (c : Controller) (m : Moved) : Type 0 where
   pub gates : m.gates ≡ gates_of c.set m.phase
   pub unstarted : Waited c.unstarted c.condition m.phase c.set (c.f.v -ℤ m.z.v)
 
-abandoned-clear : (k : Condition) (p : Phase) (four : Bool) → k ≡ Clear → Abandoned k p four
-abandoned-clear Clear p four e = tt
-abandoned-clear (Faulted why) p four e = clear-faulted (sym e)
+abandoned-clear : (k : Option Fault) (p : Phase) (four : Bool) → k ≡ None → Abandoned k p four
+abandoned-clear None p four e = tt
+abandoned-clear (Some why) p four e = clear-faulted (sym e)
 
-pub step8-sound : (c : Controller) (m : Moved) → Sound c → c.condition ≡ Clear → Follows c m → Sound (step8 c m).next
+pub step8-sound : (c : Controller) (m : Moved) → Sound c → c.condition ≡ None → Follows c m → Sound (step8 c m).next
 unfolding step8
 step8-sound c m s e f =
     let n = after-storable c.counters m.dose (record { count = s.count; total = s.total }) in
@@ -78,7 +77,7 @@ step_follows c start s b w =
       unstarted = w;
     }
 
-pub step7-sound : (c : Controller) (start : Bool) → Sound c → c.condition ≡ Clear → Sound (step7 c start).next
+pub step7-sound : (c : Controller) (start : Bool) → Sound c → c.condition ≡ None → Sound (step7 c start).next
 unfolding step7 seen_of w_of
 step7-sound c start s e =
     let m = step_of c.set c.phase (seen_of c start) in

@@ -1,6 +1,6 @@
 -- Doses as they are seen from outside: from the outputs, the names of the phases and w at the named ticks.
 -- The weights that a phase keeps, the dose field, the tick's answer and the counters play no part. Assumes nothing.
-use Rattle.std.specs.Prelude.{◌≡◌, Bool, true, false, not, ◌&&◌, List, [], ◌∷◌, ℕ, leb, eqb, ℤ, ◌-ℤ◌, take}
+use Rattle.std.specs.Prelude.{◌≡◌, Bool, true, false, not, ◌&&◌, List, [], ◌∷◌, ℕ, leb, eqb, ℤ, ◌-ℤ◌, take, Option, Some, None}
 use Rattle.laws.specs.Pick.{pick}
 use Rattle.window.specs.Mean.{mean_of}
 use Rattle.window.specs.Window.{samples_of}
@@ -11,16 +11,15 @@ use Rattle.dosing.specs.declared.Phase.TheVariants.{Ready, Coarse, Fine, Hold, S
 use Rattle.scale.specs.Scale.{filter_of}
 use Rattle.stepping.specs.Stepping.{at_ready}
 use Rattle.controller.specs.declared.Controller.{Controller}
-use Rattle.controller.specs.declared.Condition.{Condition}
-use Rattle.controller.specs.declared.Condition.TheVariants.{Clear, Faulted}
+use Rattle.controller.specs.declared.Fault.{Fault}
 
 -- w at a tick from c to c': F-Z with the n of step 4 and the Z after the tick, worked out from the samples
 unfoldable pub w_at : Controller → ℤ → Controller → ℤ
 w_at c x c' = mean_of (take (filter_of c.set c.gates) (take 128 (x ∷ samples_of c.window))) -ℤ c'.z.v
 
-unfoldable pub clear : Condition → Bool
-clear Clear = true
-clear (Faulted why) = false
+unfoldable pub clear : Option Fault → Bool
+clear None = true
+clear (Some why) = false
 
 -- the Settle of a dose
 unfoldable pub in_dose_settle : Phase → Bool

@@ -1,5 +1,5 @@
 -- One tick seen from outside: what the phases keep is what was noted, and the doses that are counted and told of are the doses seen. Assumes nothing.
-use Rattle.std.specs.Prelude.{◌≡◌, Bool, true, false, not, ◌&&◌, ℕ, ◌+◌, ◌≤◌, leb, ltb, eqb, ℤ, ◌-ℤ◌, take}
+use Rattle.std.specs.Prelude.{◌≡◌, Bool, true, false, not, ◌&&◌, ℕ, ◌+◌, ◌≤◌, leb, ltb, eqb, ℤ, ◌-ℤ◌, take, Option, Some, None}
 use Rattle.std.proofs.Math.Path.{refl, sym, ap, subst}
 use Rattle.std.proofs.Common.{◌∙◌, arith}
 use Rattle.std.proofs.Math.Bool.{and-false, and-not_self, not-and_self}
@@ -34,8 +34,6 @@ use Rattle.controller.specs.Outside.{w_at, clear, in_dose_settle, shuts3, leaves
 use Rattle.controller.specs.declared.Controller.{Controller}
 use Rattle.controller.specs.declared.Fault.{Fault}
 use Rattle.controller.specs.declared.Fault.TheVariants as F
-use Rattle.controller.specs.declared.Condition.{Condition}
-use Rattle.controller.specs.declared.Condition.TheVariants.{Clear, Faulted}
 
 -- ---- what is said of a tick
 
@@ -185,7 +183,7 @@ step-matches set (DoseSettle w_h n) m t e b a =
 
 -- ---- a tick
 
-tells-of : (product : ℕ) (n k : Counters) (d : Dose) (amounts : List ℕ) → k ≡ n → amounts ≡ amounts_in d → Tells n amounts (records_of product (counters_after k d) d)
+tells-of : (product : ℕ) (n k : Counters) (d : Option Dose) (amounts : List ℕ) → k ≡ n → amounts ≡ amounts_in d → Tells n amounts (records_of product (counters_after k d) d)
 tells-of product n k d amounts e h = rw (e, h) (tells-one product n d)
 
 -- F of the tick, worked out from the samples
@@ -247,11 +245,11 @@ module _ (c : Controller) (x : ℤ) (i : ℕ) (m : Noted) where
       }
 
   -- the phase rule and step 8
-  step8-seen : (d : Controller) (to : Moved) → c.gates ≡ gates_of c.set c.phase → d.condition ≡ Clear → d.f.v ≡ mean c x → Matches c.set c.phase d.f.v m to → doses_seen c x (step8 d to).next m ≡ amounts_in to.dose
+  step8-seen : (d : Controller) (to : Moved) → c.gates ≡ gates_of c.set c.phase → d.condition ≡ None → d.f.v ≡ mean c x → Matches c.set c.phase d.f.v m to → doses_seen c x (step8 d to).next m ≡ amounts_in to.dose
   unfolding doses_seen completes leaves_settle shuts3 w_at step8 clear
   step8-seen d to g k f h = rw (← f, g, k) (sym h.doses)
 
-  step8-shown : (d : Controller) (to : Moved) → c.gates ≡ gates_of c.set c.phase → d.set ≡ c.set → d.counters ≡ c.counters → d.condition ≡ Clear → d.f.v ≡ mean c x → Matches c.set c.phase d.f.v m to → Shown c x i m (step8 d to)
+  step8-shown : (d : Controller) (to : Moved) → c.gates ≡ gates_of c.set c.phase → d.set ≡ c.set → d.counters ≡ c.counters → d.condition ≡ None → d.f.v ≡ mean c x → Matches c.set c.phase d.f.v m to → Shown c x i m (step8 d to)
   unfolding noted begins opens3 w_at step8 Answers
   step8-shown d to g set n k f h =
       let e = step8-seen d to g k f h in
@@ -274,16 +272,16 @@ module _ (c : Controller) (x : ℤ) (i : ℕ) (m : Noted) (s : Sound c) (a : Agr
   unfolding filtered
   kept-mean f e = e ∙ ap (λ (l : List ℤ). mean_of (take (filter_of c.set c.gates) l)) (samples-push c.window x s.places)
 
-  steps4to8-shown : c.condition ≡ Clear → Shown c x i m (steps4and5 (with_unstarted false (with_inputs i c)) x)
+  steps4to8-shown : c.condition ≡ None → Shown c x i m (steps4and5 (with_unstarted false (with_inputs i c)) x)
   unfolding steps4and5 steps6to8 step7 seen_of w_of
   steps4to8-shown k =
       mismatched-shown c x i m _ _ _ refl refl
       (step8-shown c x i m _ _ s.gates refl refl k (kept-mean _ refl) (step-matches c.set c.phase m _ refl s.phase a))
 
-  step2-shown : (k : Condition) → c.condition ≡ k → Shown c x i m (step2 k c x i)
+  step2-shown : (k : Option Fault) → c.condition ≡ k → Shown c x i m (step2 k c x i)
   unfolding step2 step3 clear
-  step2-shown Clear k = pick_all (Shown c x i m) (outside x) (faulted-shown c x i m F.F21 _ refl refl) (steps4to8-shown k)
-  step2-shown (Faulted why) k = still-shown c x i m (says_fault why) a (says_none c x i m why) (λ h t. false-true (rw k at t))
+  step2-shown None k = pick_all (Shown c x i m) (outside x) (faulted-shown c x i m F.F21 _ refl refl) (steps4to8-shown k)
+  step2-shown (Some why) k = still-shown c x i m (says_fault why) a (says_none c x i m why) (λ h t. false-true (rw k at t))
 
   tick-shown : Shown c x i m (tick_of c x i)
   unfolding tick_of Answers

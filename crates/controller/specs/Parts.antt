@@ -1,12 +1,11 @@
 -- What the functions of a tick ask and give. Assumes nothing.
-use Rattle.std.specs.Prelude.{◌≡◌, false, ◌≤◌, nat_abs}
+use Rattle.std.specs.Prelude.{◌≡◌, false, ◌≤◌, nat_abs, None}
 use Rattle.dosing.specs.declared.Units.{Units}
 use Rattle.scale.specs.Scale.{outside}
 use Rattle.controller.specs.Tick.{Result, Told}
 use Rattle.controller.specs.Sound.{Sound}
 use Rattle.controller.specs.Says.{says_tick}
 use Rattle.controller.specs.declared.Controller.{Controller}
-use Rattle.controller.specs.declared.Condition.TheVariants.{Clear}
 use Rattle.controller.specs.declared.Ticked.{Ticked}
 
 -- the next controller and the answer are the rule's
@@ -22,5 +21,5 @@ pub record Small (f z : Units) : Type 0 where
 -- the controller is sound and in no fault, and the sample is not outside
 pub record Takes (c : Controller) (x : Units) : Type 0 where
   pub sound : Sound c
-  pub clear : c.condition ≡ Clear
+  pub clear : c.condition ≡ None
   pub inside : outside x.v ≡ false

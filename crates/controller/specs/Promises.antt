@@ -1,5 +1,5 @@
 -- What every sound controller promises beside the calls: doses and weights that can always be written, shut gates, and refusals and requests that change nothing else. Assumes nothing.
-use Rattle.std.specs.Prelude.{◌≡◌, refl, Bool, true, false, ◌&&◌, List, [], ℕ, ◌≤◌, ◌<◌, leb, ltb, eqb, ℤ, ◌-ℤ◌, length}
+use Rattle.std.specs.Prelude.{◌≡◌, refl, Bool, true, false, ◌&&◌, List, [], ℕ, ◌≤◌, ◌<◌, leb, ltb, eqb, ℤ, ◌-ℤ◌, length, Option, Some, None}
 use Rattle.std.proofs.Common.{sym, ap, subst, ◌∙◌, arith}
 use Rattle.laws.specs.Pick.{pick, pick_all, pick-if}
 use Rattle.laws.specs.Whole.{true-false}
@@ -28,8 +28,6 @@ use Rattle.controller.specs.Ways.{tick-ways}
 use Rattle.controller.specs.declared.Controller.{Controller}
 use Rattle.controller.specs.declared.Fault.{Fault}
 use Rattle.controller.specs.declared.Fault.TheVariants as F
-use Rattle.controller.specs.declared.Condition.{Condition}
-use Rattle.controller.specs.declared.Condition.TheVariants.{Clear, Faulted}
 use Rattle.paper.specs.Numbers.{R15}
 use Rattle.settings.specs.Table.{first_bad, default_set, default-good}
 use Rattle.controller.specs.Restart.{stored_bad, restart_of}
@@ -112,9 +110,9 @@ module _ (c : Controller) (s : Sound c) where
   ready-gates e = phase-shut (ready-is c e).1
 
   -- and in a fault, where output 4 is on
-  pub fault-gates : (why : Fault) → c.condition ≡ Faulted why → (c.gates ≡ shut) × (c.alarm ≡ true)
+  pub fault-gates : (why : Fault) → c.condition ≡ Some why → (c.gates ≡ shut) × (c.alarm ≡ true)
   fault-gates why e =
-      let a : Abandoned (Faulted why) c.phase c.alarm = rw e at s.abandoned in
+      let a : Abandoned (Some why) c.phase c.alarm = rw e at s.abandoned in
       (phase-shut a.0, a.1)
 
   -- filling and emptying gates are never open together
@@ -122,7 +120,7 @@ module _ (c : Controller) (s : Sound c) where
   never-together = rw s.gates (never_both c.set c.phase s.phase)
 
 -- in a fault no filling gate is open
-pub fault-unfilled : (c : Controller) (why : Fault) → Sound c → c.condition ≡ Faulted why → filling_open c.set c.gates ≡ false
+pub fault-unfilled : (c : Controller) (why : Fault) → Sound c → c.condition ≡ Some why → filling_open c.set c.gates ≡ false
 fault-unfilled c why s e = rw (fault-gates c s why e).0 (shut-fills c.set)
 
 abbrev pub OverUnfilled : Controller → Type 0
@@ -161,13 +159,13 @@ tick-refused c x i n vs s =
     (λ why k e. fault-unrefused why n vs e)
     (λ d start r e. done_refused e)
 
-again-still : (k : Condition) (c : Controller) (x : ℤ) (i : ℕ) (why : Fault) → k ≡ Faulted why → (step2 k c x i).next ≡ c
+again-still : (k : Option Fault) (c : Controller) (x : ℤ) (i : ℕ) (why : Fault) → k ≡ Some why → (step2 k c x i).next ≡ c
 unfolding step2
-again-still Clear c x i why e = clear-faulted e
-again-still (Faulted other) c x i why e = refl
+again-still None c x i why e = clear-faulted e
+again-still (Some other) c x i why e = refl
 
 -- nor does a tick in a fault change anything
-pub tick-faulted : (c : Controller) (x : ℤ) (i : ℕ) (why : Fault) → c.condition ≡ Faulted why → (tick_of c x i).next ≡ c
+pub tick-faulted : (c : Controller) (x : ℤ) (i : ℕ) (why : Fault) → c.condition ≡ Some why → (tick_of c x i).next ≡ c
 unfolding tick_of
 tick-faulted c x i why e = pick_all (λ (r : Result Told). r.next ≡ c) (ltb 15 i) refl (again-still c.condition c x i why e)
 

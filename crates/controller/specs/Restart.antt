@@ -17,7 +17,7 @@ unfoldable pub restart_of : Settings → ℕ → ℕ → Answer Controller
 restart_of set count total =
     on_done (first_bad set) (λ good. pick (stored_bad count total) (refused R15 []) (done (restarted set count total)))
 
--- a refused restart makes no controller: what stands in its place is of a set that is not good
+-- what stands in the place of a controller where a restart is refused: one of a set that is not good
 unfoldable pub no_set : Settings
 no_set =
     record {

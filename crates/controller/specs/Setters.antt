@@ -1,5 +1,5 @@
 -- What changing a field of a sound controller keeps. Assumes nothing.
-use Rattle.std.specs.Prelude.{◌≡◌, Bool, false, ℕ, ◌≤◌, nat_abs, ◌-ℤ◌, length}
+use Rattle.std.specs.Prelude.{◌≡◌, Bool, false, ℕ, ◌≤◌, nat_abs, ◌-ℤ◌, length, Some}
 use borrow.Author.Rules.{rules}
 use Rattle.window.specs.declared.Window.{Window}
 use Rattle.window.specs.Window.{samples_of}
@@ -16,7 +16,6 @@ use Rattle.controller.specs.Tick.{faulted}
 use Rattle.controller.specs.Sound.{Sound, Watched, Named, Waited}
 use Rattle.controller.specs.declared.Controller.{Controller}
 use Rattle.controller.specs.declared.Fault.{Fault}
-use Rattle.controller.specs.declared.Condition.TheVariants.{Faulted}
 
 module _ (c : Controller) (s : Sound c) where
   pub inputs-sound : (x : ℕ) → x ≤ 15 → Sound (with_inputs x c)
@@ -45,8 +44,8 @@ module _ (c : Controller) (s : Sound c) where
       search rules
 
   -- a fault with runs of at most 64
-  pub faulted-sound : (why : Fault) (r : Runs) → Watched (Faulted why) r → Named (Faulted why) → c.unstarted ≡ false → Sound (faulted why (with_runs r c)).next
+  pub faulted-sound : (why : Fault) (r : Runs) → Watched (Some why) r → Named (Some why) → c.unstarted ≡ false → Sound (faulted why (with_runs r c)).next
   unfolding faulted gates_of belongs
   faulted-sound why r h n u =
-      let ended : Waited c.unstarted (Faulted why) Ready c.set (c.f.v -ℤ c.z.v) = rw u tt in
+      let ended : Waited c.unstarted (Some why) Ready c.set (c.f.v -ℤ c.z.v) = rw u tt in
       search rules

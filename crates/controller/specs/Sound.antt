@@ -1,5 +1,5 @@
 -- What every controller from an accepted restart or an earlier call satisfies. Assumes nothing.
-use Rattle.std.specs.Prelude.{◌≡◌, Bool, true, false, ℕ, ◌≤◌, ℤ, pos, nat_abs, ◌-ℤ◌, length, get_or}
+use Rattle.std.specs.Prelude.{◌≡◌, Bool, true, false, ℕ, ◌≤◌, ℤ, pos, nat_abs, ◌-ℤ◌, length, get_or, Option, Some, None}
 use Rattle.std.specs.Int.Signed.{lt_z}
 use Rattle.paper.specs.Answer.{done}
 use Rattle.settings.specs.Table.{first_bad}
@@ -11,29 +11,28 @@ use Rattle.dosing.specs.declared.Phase.TheVariants.{Ready}
 use Rattle.channels.specs.declared.Runs.{Runs}
 use Rattle.channels.specs.Laws.{NoLonger}
 use Rattle.controller.specs.declared.Controller.{Controller}
+use Rattle.controller.specs.declared.Fault.{Fault}
 use Rattle.controller.specs.declared.Fault.TheVariants as F
-use Rattle.controller.specs.declared.Condition.{Condition}
-use Rattle.controller.specs.declared.Condition.TheVariants.{Clear, Faulted}
 
 -- a fault has abandoned its cycle and turned output 4 on
-abbrev pub Abandoned : Condition → Phase → Bool → Type 0
-Abandoned Clear p four = Unit {0}
-Abandoned (Faulted why) p four = (p ≡ Ready) × (four ≡ true)
+abbrev pub Abandoned : Option Fault → Phase → Bool → Type 0
+Abandoned None p four = Unit {0}
+Abandoned (Some why) p four = (p ≡ Ready) × (four ≡ true)
 
 -- a run of 64 is a fault
-abbrev pub Watched : Condition → Runs → Type 0
-Watched Clear r = NoLonger 63 r
-Watched (Faulted why) r = NoLonger 64 r
+abbrev pub Watched : Option Fault → Runs → Type 0
+Watched None r = NoLonger 63 r
+Watched (Some why) r = NoLonger 64 r
 
 -- F14 names one of the channels 1 to 3
-abbrev pub Named : Condition → Type 0
-Named Clear = Unit {0}
-Named (Faulted (F.F14 channel)) = (1 ≤ channel) × (channel ≤ 3)
-Named (Faulted F.F21) = Unit {0}
+abbrev pub Named : Option Fault → Type 0
+Named None = Unit {0}
+Named (Some (F.F14 channel)) = (1 ≤ channel) × (channel ≤ 3)
+Named (Some F.F21) = Unit {0}
 
 -- after a tick that began and ended in Ready with start off it is in no fault, in Ready, and in AL2 w is at least D
-abbrev pub Waited : Bool → Condition → Phase → Settings → ℤ → Type 0
-Waited true k p set w = (k ≡ Clear) × (p ≡ Ready) × (set.algorithm ≡ 2 → lt_z w (pos set.dose) ≡ false)
+abbrev pub Waited : Bool → Option Fault → Phase → Settings → ℤ → Type 0
+Waited true k p set w = (k ≡ None) × (p ≡ Ready) × (set.algorithm ≡ 2 → lt_z w (pos set.dose) ≡ false)
 Waited false k p set w = Unit {0}
 
 pub record Sound (c : Controller) : Type 0 where

@@ -1,5 +1,5 @@
 -- The controller's state: one setter a field, and the state of a restart. Assumes nothing.
-use Rattle.std.specs.Prelude.{Bool, false, ℕ, pos}
+use Rattle.std.specs.Prelude.{Bool, false, ℕ, pos, Option, None}
 use Rattle.settings.specs.declared.Settings.{Settings}
 use Rattle.settings.specs.Table.{default_set}
 use Rattle.window.specs.declared.Window.{Window}
@@ -14,8 +14,7 @@ use Rattle.channels.specs.Channels.{no_runs}
 use Rattle.counters.specs.declared.Counters.{Counters}
 use Rattle.counters.specs.Counters.{counters}
 use Rattle.controller.specs.declared.Controller.{Controller}
-use Rattle.controller.specs.declared.Condition.{Condition}
-use Rattle.controller.specs.declared.Condition.TheVariants.{Clear}
+use Rattle.controller.specs.declared.Fault.{Fault}
 
 -- A restart takes a set and the stored count and total; it empties the filter and puts Z to 0, clears link start and fault, closes all outputs, and is in Ready
 unfoldable pub restarted : Settings → ℕ → ℕ → Controller
@@ -32,7 +31,7 @@ restarted set count total =
       alarm = false;
       link = false;
       inputs = 0;
-      condition = Clear;
+      condition = None;
       counters = counters count total;
       unstarted = false;
     }
@@ -252,7 +251,7 @@ with_inputs x c =
       unstarted = c.unstarted;
     }
 
-abbrev pub with_condition : Condition → Controller → Controller
+abbrev pub with_condition : Option Fault → Controller → Controller
 with_condition x c =
     record {
       set = c.set;

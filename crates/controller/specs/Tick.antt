@@ -1,5 +1,5 @@
 -- One tick (document 01, "One tick"), step by step. Assumes nothing.
-use Rattle.std.specs.Prelude.{Bool, true, false, List, [], ◌∷◌, ℕ, ltb, ℤ, ◌-ℤ◌, get_or}
+use Rattle.std.specs.Prelude.{Bool, true, false, List, [], ◌∷◌, ℕ, ltb, ℤ, ◌-ℤ◌, get_or, Option, Some, None}
 use Rattle.laws.specs.Pick.{pick}
 use Rattle.paper.specs.Answer.{Answer, done, refused, fault}
 use Rattle.paper.specs.Numbers.{R1, F14, F21}
@@ -17,8 +17,6 @@ use Rattle.controller.specs.State.{with_window, with_z, with_f, with_s, with_run
 use Rattle.controller.specs.declared.Controller.{Controller}
 use Rattle.controller.specs.declared.Fault.{Fault}
 use Rattle.controller.specs.declared.Fault.TheVariants as F
-use Rattle.controller.specs.declared.Condition.{Condition}
-use Rattle.controller.specs.declared.Condition.TheVariants.{Clear, Faulted}
 
 -- ---- what a call makes of a controller: the next one, and its answer
 
@@ -45,7 +43,7 @@ says_fault F.F21 = fault F21 []
 -- A fault ends the tick, closes outputs 1 to 3, turns output 4 on, abandons the cycle without counting it, and lasts until restart
 unfoldable pub faulted : Fault → Controller → Result Told
 faulted why c =
-    record { next = with_condition (Faulted why) (with_alarm true (with_gates shut (with_phase Ready c))); answer = says_fault why }
+    record { next = with_condition (Some why) (with_alarm true (with_gates shut (with_phase Ready c))); answer = says_fault why }
 
 -- ---- step 8
 
@@ -103,9 +101,9 @@ unfoldable pub step3 : Controller → ℤ → ℕ → Result Told
 step3 c x inputs = let kept = with_unstarted false (with_inputs inputs c) in pick (outside x) (faulted F.F21 kept) (steps4and5 kept x)
 
 -- In a fault: the same fault again; nothing changes
-unfoldable pub step2 : Condition → Controller → ℤ → ℕ → Result Told
-step2 Clear c x inputs = step3 c x inputs
-step2 (Faulted why) c x inputs = still c (says_fault why)
+unfoldable pub step2 : Option Fault → Controller → ℤ → ℕ → Result Told
+step2 None c x inputs = step3 c x inputs
+step2 (Some why) c x inputs = still c (says_fault why)
 
 -- Inputs above 15: R1
 unfoldable pub tick_of : Controller → ℤ → ℕ → Result Told

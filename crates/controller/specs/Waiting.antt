@@ -1,5 +1,5 @@
 -- What a tick that began and ended in Ready with start off tells, and that start on does not leave it there. Assumes nothing.
-use Rattle.std.specs.Prelude.{◌≡◌, refl, Bool, ◌&&◌, ℕ, leb, ℤ, pos, ◌-ℤ◌}
+use Rattle.std.specs.Prelude.{◌≡◌, refl, Bool, ◌&&◌, ℕ, leb, ℤ, pos, ◌-ℤ◌, Option, None}
 use Rattle.std.proofs.Common.{sym, ◌∙◌, arith, leb-true}
 use Rattle.std.proofs.Math.Bool.{true, false, not}
 use Rattle.std.specs.Int.Signed.{lt_z}
@@ -15,8 +15,7 @@ use Rattle.dosing.specs.declared.Moved.{Moved}
 use Rattle.stepping.specs.Stepping.{at_ready, unstarted_of}
 use Rattle.controller.specs.Sound.{Waited}
 use Rattle.controller.specs.Bounds.{at_ready_lem}
-use Rattle.controller.specs.declared.Condition.{Condition}
-use Rattle.controller.specs.declared.Condition.TheVariants.{Clear}
+use Rattle.controller.specs.declared.Fault.{Fault}
 
 -- a set of AL0 or AL1 is no set of AL2; nor is one of AL3
 low-two : {Q : Type 0} (al : ℕ) → leb al 1 ≡ true → al ≡ 2 → Q
@@ -49,7 +48,7 @@ off-start : (b : Bool) → not b ≡ true → b ≡ false
 off-start true h = sym h
 off-start false h = refl
 
-module _ (set : Settings) (p : Phase) (t : Seen) (k : Condition) (clear : k ≡ Clear) (net : t.w.v ≡ t.f.v -ℤ t.z.v) where
+module _ (set : Settings) (p : Phase) (t : Seen) (k : Option Fault) (clear : k ≡ None) (net : t.w.v ≡ t.f.v -ℤ t.z.v) where
   abbrev m : Moved
   m = step_of set p t
 
@@ -65,6 +64,6 @@ module _ (set : Settings) (p : Phase) (t : Seen) (k : Condition) (clear : k ≡ 
   step-waited false h = (tt, tt)
 
 -- nothing that a zero in AL0 or AL1 could alter
-pub low-waited : (b : Bool) (k : Condition) (p : Phase) (set : Settings) (w w' : ℤ) → leb set.algorithm 1 ≡ true → Waited b k p set w → Waited b k p set w'
+pub low-waited : (b : Bool) (k : Option Fault) (p : Phase) (set : Settings) (w w' : ℤ) → leb set.algorithm 1 ≡ true → Waited b k p set w → Waited b k p set w'
 low-waited true k p set w w' low h = (h.0, h.1, low-two set.algorithm low)
 low-waited false k p set w w' low h = tt

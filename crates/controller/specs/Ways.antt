@@ -1,5 +1,5 @@
 -- The ways a tick of a sound controller can go. Assumes nothing.
-use Rattle.std.specs.Prelude.{◌≡◌, Bool, [], ℕ, ◌≤◌, ◌<◌, ltb, ℤ, nat_abs}
+use Rattle.std.specs.Prelude.{◌≡◌, Bool, [], ℕ, ◌≤◌, ◌<◌, ltb, ℤ, nat_abs, Option, Some, None}
 use Rattle.std.proofs.Math.Path.{refl}
 use Rattle.std.proofs.Common.{sym, subst, arith}
 use Rattle.std.proofs.Math.Bool.{false}
@@ -23,22 +23,20 @@ use Rattle.controller.specs.Bounds.{push-within}
 use Rattle.controller.specs.declared.Controller.{Controller}
 use Rattle.controller.specs.declared.Fault.{Fault}
 use Rattle.controller.specs.declared.Fault.TheVariants as F
-use Rattle.controller.specs.declared.Condition.{Condition}
-use Rattle.controller.specs.declared.Condition.TheVariants.{Clear, Faulted}
 
-watched-most : (k : Condition) (r : Runs) → Watched k r → NoLonger 64 r
-watched-most Clear r h = omega arith
-watched-most (Faulted why) r h = h
+watched-most : (k : Option Fault) (r : Runs) → Watched k r → NoLonger 64 r
+watched-most None r h = omega arith
+watched-most (Some why) r h = h
 
-pub clear-watched : (k : Condition) (r : Runs) → k ≡ Clear → Watched Clear r → Watched k r
-clear-watched k r e h = subst (λ (x : Condition). Watched x r) (sym e) h
+pub clear-watched : (k : Option Fault) (r : Runs) → k ≡ None → Watched None r → Watched k r
+clear-watched k r e h = subst (λ (x : Option Fault). Watched x r) (sym e) h
 
 -- ---- the ways
 
 -- what steps 7 and 8 find of the controller c that a tick began with
 pub record Reaches (c d : Controller) : Type 0 where
   pub sound : Sound d
-  pub clear : d.condition ≡ Clear
+  pub clear : d.condition ≡ None
   pub set : d.set ≡ c.set
   pub z : d.z ≡ c.z
   pub phase : d.phase ≡ c.phase
@@ -49,7 +47,7 @@ pub record Reaches (c d : Controller) : Type 0 where
 abbrev Unmoved : Controller → Controller → Type 0
 Unmoved c d =
     Sound d
-    × (d.condition ≡ Clear)
+    × (d.condition ≡ None)
     × (d.set ≡ c.set)
     × (d.z ≡ c.z)
     × (d.phase ≡ c.phase)
@@ -57,13 +55,13 @@ Unmoved c d =
     × (d.counters ≡ c.counters)
 
 module _ (Q : Result Told → Type 0) (faults : (why : Fault) (d : Controller) → Sound (faulted why d).next → Q (faulted why d)) where
-  mismatched-ways : (c : Controller) → Sound c → c.unstarted ≡ false → (r : Runs) (next : Result Told) → NoLonger 64 r → (Watched Clear r → Q next) → Q (mismatched (watch_of r) (with_runs r c) next)
+  mismatched-ways : (c : Controller) → Sound c → c.unstarted ≡ false → (r : Runs) (next : Result Told) → NoLonger 64 r → (Watched None r → Q next) → Q (mismatched (watch_of r) (with_runs r c) next)
   unfolding mismatched
   mismatched-ways c s u r next h go =
       watch-ways (λ (a : Answer (Unit {0})). Q (mismatched a (with_runs r c) next)) r
       (λ channel a b. faults (F.F14 channel) (with_runs r c) (faulted-sound c s (F.F14 channel) r h (a, b) u)) go
 
-  steps6to8-ways : (c : Controller) (start : Bool) (n : ℕ) → Sound c → c.condition ≡ Clear → c.unstarted ≡ false → n ≤ 4032
+  steps6to8-ways : (c : Controller) (start : Bool) (n : ℕ) → Sound c → c.condition ≡ None → c.unstarted ≡ false → n ≤ 4032
       → ((d : Controller) → Unmoved c d → Q (step7 d start)) → Q (steps6to8 c start n)
   unfolding steps6to8
   steps6to8-ways c start n s e u h go =
@@ -73,7 +71,7 @@ module _ (Q : Result Told → Type 0) (faults : (why : Fault) (d : Controller) �
       mismatched-ways (with_s n c) t u r (step7 d start) (runs-most c.set c.gates c.inputs c.runs (watched-most c.condition c.runs s.runs))
       (λ w. go d (runs-sound (with_s n c) t r (clear-watched c.condition r e w), e, refl, refl, refl, refl, refl))
 
-  steps4and5-ways : (c : Controller) (x : ℤ) → Sound c → c.condition ≡ Clear → c.unstarted ≡ false → nat_abs x ≤ 900000
+  steps4and5-ways : (c : Controller) (x : ℤ) → Sound c → c.condition ≡ None → c.unstarted ≡ false → nat_abs x ≤ 900000
       → ((d : Controller) (start : Bool) → Unmoved c d → Q (step7 d start)) → Q (steps4and5 c x)
   unfolding steps4and5
   steps4and5-ways c x s e u h go =
@@ -84,7 +82,7 @@ module _ (Q : Result Told → Type 0) (faults : (why : Fault) (d : Controller) �
       steps6to8-ways (with_f (units f) (with_window held c)) _ _ t e u (calm-by-mean-most (none (samples_of c.window)) f c.f.v c.s)
       (λ d a. go d _ a)
 
-  step3-ways : (c : Controller) (x : ℤ) (i : ℕ) → Sound c → c.condition ≡ Clear → i ≤ 15
+  step3-ways : (c : Controller) (x : ℤ) (i : ℕ) → Sound c → c.condition ≡ None → i ≤ 15
       → ((d : Controller) (start : Bool) → Unmoved c d → Q (step7 d start)) → Q (step3 c x i)
   unfolding step3
   step3-ways c x i s e h go =
@@ -94,17 +92,17 @@ module _ (Q : Result Told → Type 0) (faults : (why : Fault) (d : Controller) �
       (λ a. faults F.F21 d (faulted-sound d t F.F21 c.runs (watched-most c.condition c.runs s.runs) tt refl))
       (λ a. steps4and5-ways d x t e refl (inside-within x a) go)
 
-  step2-ways : (k : Condition) (c : Controller) (x : ℤ) (i : ℕ) → Sound c → c.condition ≡ k → i ≤ 15
-      → ((why : Fault) → c.condition ≡ Faulted why → Q (still c (says_fault why)))
+  step2-ways : (k : Option Fault) (c : Controller) (x : ℤ) (i : ℕ) → Sound c → c.condition ≡ k → i ≤ 15
+      → ((why : Fault) → c.condition ≡ Some why → Q (still c (says_fault why)))
       → ((d : Controller) (start : Bool) → Unmoved c d → Q (step7 d start)) → Q (step2 k c x i)
   unfolding step2
-  step2-ways Clear c x i s e h again go = step3-ways c x i s e h go
-  step2-ways (Faulted why) c x i s e h again go = again why e
+  step2-ways None c x i s e h again go = step3-ways c x i s e h go
+  step2-ways (Some why) c x i s e h again go = again why e
 
   -- R1, the same fault again, a fault, or the phase rule
   pub tick-ways : (c : Controller) (x : ℤ) (i : ℕ) → Sound c
       → (15 < i → Q (still c (refused R1 [])))
-      → ((why : Fault) → c.condition ≡ Faulted why → Q (still c (says_fault why)))
+      → ((why : Fault) → c.condition ≡ Some why → Q (still c (says_fault why)))
       → ((d : Controller) (start : Bool) → Reaches c d → Q (step7 d start))
       → Q (tick_of c x i)
   unfolding tick_of

@@ -5,26 +5,22 @@ mod line;
 mod restart;
 mod tick;
 
+ghost use Rattle.std.specs.Prelude.{◌≡◌};
 ghost use Rattle.controller.specs.Ready.{TellsReady};
+ghost use Rattle.controller.specs.Says.{restart_error};
 
+use asking::RequestError;
 use channels::Runs;
 use counters::{Counters, Record};
 use dosing::{Gates, Phase, Units};
-use settings::Settings;
+use settings::{SettingError, Settings};
 use window::Window;
 
 // F14 names its channel.
-#[derive(Clone, Copy)]
+#[derive(Clone, Copy, Debug, PartialEq, Eq)]
 pub enum Fault {
     F14(u8),
     F21,
-}
-
-// No fault, or the fault that lasts until restart.
-#[derive(Clone, Copy)]
-pub enum Condition {
-    Clear,
-    Faulted(Fault),
 }
 
 // The box between two calls.
@@ -49,17 +45,23 @@ pub struct Controller {
     pub link: bool,
     // The inputs last kept.
     pub inputs: u8,
-    pub condition: Condition,
+    // The fault that lasts until restart, if there is one.
+    pub condition: Option<Fault>,
     pub counters: Counters,
     // The last tick began and ended in Ready with start off, and no set or restart came since.
     pub unstarted: bool,
 }
 
-// What a tick answers: the outputs, with the dose record if one completed; or the fault; or R1.
-#[derive(Clone, Copy)]
-pub enum TickAnswer {
-    Outputs(u8),
-    Dose { outputs: u8, record: Record },
+// What a tick answers: the outputs, with the dose record if one completed.
+#[derive(Clone, Copy, Debug, PartialEq, Eq)]
+pub struct Outputs {
+    pub outputs: u8,
+    pub dose: Option<Record>,
+}
+
+// A tick that answers no outputs: the fault, or R1.
+#[derive(Clone, Copy, Debug, PartialEq, Eq)]
+pub enum TickError {
     Fault(Fault),
     R1,
 }
@@ -68,50 +70,43 @@ pub enum TickAnswer {
 #[derive(Clone, Copy)]
 pub struct Ticked {
     pub next: Controller,
-    pub answer: TickAnswer,
+    pub answer: Result<Outputs, TickError>,
 }
 
-// What a restart answers; R2 names the row.
-#[derive(Clone, Copy)]
-pub enum RestartAnswer {
-    Done,
+// Why a restart is refused; R2 names the row.
+#[derive(Clone, Copy, Debug, PartialEq, Eq)]
+pub enum RestartError {
     R2(u32),
     R15,
 }
 
-// A refused restart makes no controller: what stands in `next` is then no sound controller.
-#[derive(Clone, Copy)]
-pub struct Restarted {
-    pub next: Controller,
-    pub answer: RestartAnswer,
+impl From<SettingError> for RestartError {
+    ghost from_gives = { λ error e. e ≡ restart_error error };
+
+    fn from(error: SettingError) -> RestartError {
+        match error {
+            SettingError::R2(row) => RestartError::R2(row),
+        }
+    }
 }
 
-// What a line request answers: the place of the second closing FF and the reply's length, or a refusal with its place.
-#[derive(Clone, Copy)]
-pub enum RequestAnswer {
-    Sent { place: usize, len: usize },
-    R9(usize),
-    R6(usize),
-    R5(usize),
-    R7(usize),
-    R3(usize),
-    R4(usize),
-    R8(usize),
+// A reply sent: the place of the second closing FF and the reply's length.
+#[derive(Clone, Copy, Debug, PartialEq, Eq)]
+pub struct Sent {
+    pub place: usize,
+    pub len: usize,
 }
 
 // The controller after a line request, and the answer.
 #[derive(Clone, Copy)]
 pub struct Requested {
     pub next: Controller,
-    pub answer: RequestAnswer,
+    pub answer: Result<Sent, RequestError>,
 }
 
 // The phase is Ready, and there is no fault.
-pub fn is_ready(condition: Condition, phase: Phase) -> bool
+pub fn is_ready(condition: Option<Fault>, phase: Phase) -> bool
     ensures { TellsReady condition phase result }
 {
-    let Condition::Clear = condition else {
-        return false;
-    };
-    stepping::at_ready(phase)
+    condition.is_none() & stepping::at_ready(phase)
 }

@@ -1,15 +1,13 @@
 // One tick, steps 1 to 8.
 ghost use Rattle.std.specs.Prelude.{◌≡◌, false};
-ghost use Rattle.paper.specs.Answer.{done};
 ghost use Rattle.counters.specs.Counters.{records_of};
 ghost use Rattle.controller.specs.State.{with_inputs, with_unstarted};
 ghost use Rattle.controller.specs.Tick.{faulted, step7, step3};
 ghost use Rattle.controller.specs.Sound.{Sound};
-ghost use Rattle.controller.specs.Says.{Ticks, says_tick};
+ghost use Rattle.controller.specs.Says.{Ticks, told_by};
 ghost use Rattle.controller.specs.Parts.{Gives, Small, Takes};
 
-use crate::{Condition, Controller, Fault, TickAnswer, Ticked};
-use channels::Watch;
+use crate::{Controller, Fault, Outputs, TickError, Ticked};
 use counters::Counters;
 use dosing::{Dose, Gates, Phase, Units};
 
@@ -25,14 +23,13 @@ impl Controller {
         if Controller::INPUTS_MOST < inputs {
             return Ticked {
                 next: self,
-                answer: TickAnswer::R1,
+                answer: Err(TickError::R1),
             };
         }
-        let condition = self.condition;
-        if let Condition::Faulted(why) = condition {
+        if let Some(why) = self.condition {
             return Ticked {
                 next: self,
-                answer: TickAnswer::Fault(why),
+                answer: Err(TickError::Fault(why)),
             };
         }
         let x = Units { v: sample };
@@ -48,21 +45,16 @@ impl Controller {
 fn faulted(why: Fault, c: Controller) -> Ticked
     ensures { Gives (faulted why c) result }
 {
-    let gates = Gates {
-        one: false,
-        two: false,
-        three: false,
-    };
-    let stopped = Controller {
+    let next = Controller {
         phase: Phase::Ready,
-        gates,
+        gates: Gates::default(),
         alarm: true,
-        condition: Condition::Faulted(why),
+        condition: Some(why),
         ..c
     };
     Ticked {
-        next: stopped,
-        answer: TickAnswer::Fault(why),
+        next,
+        answer: Err(TickError::Fault(why)),
     }
 }
 
@@ -76,16 +68,11 @@ fn kept(mut c: Controller, inputs: u8) -> Controller
 }
 
 // The outputs, with the dose record if one completed.
-fn answer_of(outputs: u8, product: u32, after: Counters, dose: Dose) -> TickAnswer
-    ensures { says_tick result ≡ done (record { outputs = outputs; doses = records_of product after dose }) }
+fn answer_of(outputs: u8, product: u32, after: Counters, dose: Option<Dose>) -> Outputs
+    ensures { told_by result ≡ record { outputs = outputs; doses = records_of product after dose } }
 {
-    match dose {
-        Dose::Nothing => TickAnswer::Outputs(outputs),
-        Dose::Complete { amount, settled } => {
-            let record = counters::record_of(product, after, amount, settled);
-            TickAnswer::Dose { outputs, record }
-        }
-    }
+    let dose = dose.map(|dose| counters::record_of(product, after, dose.amount, dose.settled));
+    Outputs { outputs, dose }
 }
 
 // Step 7, the phase rule, and step 8: output 4 and S, the counters, and the answer.
@@ -93,21 +80,15 @@ fn steps7and8(c: Controller, start: bool) -> Ticked
     requires { Small c.f c.z }
     ensures { Gives (step7 c start) result }
 {
-    let began = c.phase;
-    let to = stepping::step(c.set, began, c.f, c.z, c.s, c.gates, c.counters, start);
-    let phase = to.phase;
-    let z = to.z;
-    let gates = to.gates;
-    let dose = to.dose;
-    let counters = to.counters;
-    let answer = answer_of(to.outputs, c.set.product, counters, dose);
+    let to = stepping::step(c.set, c.phase, c.f, c.z, c.s, c.gates, c.counters, start);
+    let answer = Ok(answer_of(to.outputs, c.set.product, to.counters, to.dose));
     let next = Controller {
-        phase,
-        z,
+        phase: to.phase,
+        z: to.z,
         s: to.s,
-        gates,
+        gates: to.gates,
         alarm: to.alarm,
-        counters,
+        counters: to.counters,
         unstarted: to.unstarted,
         ..c
     };
@@ -134,13 +115,12 @@ fn steps4to8(c: Controller, x: Units, inputs: u8) -> Ticked
     );
     let start = channels::start_of(c.set, c.link, inputs);
     let runs = channels::runs_after(c.set, c.gates, inputs, c.runs);
-    let f = to.f;
     c.window = window;
-    c.f = f;
+    c.f = to.f;
     c.s = to.s;
     c.runs = runs;
     match channels::reached(runs) {
-        Watch::F14(channel) => faulted(Fault::F14(channel), c),
-        Watch::Clear => steps7and8(c, start),
+        Some(channel) => faulted(Fault::F14(channel), c),
+        None => steps7and8(c, start),
     }
 }

@@ -305,6 +305,10 @@ pub line-most : (n b : ℕ) → line_after n b ≤ n + 1
 unfolding line_after
 line-most n b = pick_all (λ (u : ℕ). u ≤ n + 1) (eqb b LF) (omega arith) (omega arith)
 
+pub line-least : (n b : ℕ) → n ≤ line_after n b
+unfolding line_after
+line-least n b = pick_all (λ (u : ℕ). n ≤ u) (eqb b LF) (omega arith) (omega arith)
+
 pub piece-most : (f : Form) (t b : ℕ) → length (piece_of f t b) ≤ 3
 unfolding piece_of old_piece new_piece
 piece-most Old t b = pick_all (λ (l : List ℕ). length l ≤ 3) (leb (tabs_after t b) 4) (omega arith) (omega arith)

@@ -15,7 +15,7 @@ use Rattle.paper.specs.Numbers.{R8, R13, R18}
 use Rattle.text.specs.Put.{Puts}
 use Rattle.text.specs.PutLaws.{room-is, puts-fit}
 use Rattle.journal.specs.Journal.{form_of, head_text, lines_text, journal_text}
-use Rattle.journal.specs.JournalLaws.{head_bytes, text-body, each_map}
+use Rattle.journal.specs.JournalLaws.{head_bytes, head-inside, text-body, each_map}
 use Rattle.journal.specs.Says.{says_refusal}
 use Rattle.journal.specs.declared.Form.{Form}
 use Rattle.journal.specs.declared.Form.TheVariants.{Old, New}
@@ -23,9 +23,6 @@ use Rattle.journal.specs.declared.Line.{Line}
 use Rattle.journal.specs.declared.Refusal.{Refusal}
 use Rattle.journal.specs.declared.Refusal.TheVariants as R
 use Rattle.hourly.specs.Tally.{summary_of}
-use Rattle.hourly.specs.Says.{says_judged}
-use Rattle.hourly.specs.declared.Judged.{Judged}
-use Rattle.hourly.specs.declared.Judged.TheVariants as J
 use Rattle.hourly.specs.declared.Summary.{Summary}
 use Rattle.conversion.specs.Conversion.{read_as, goes_back, handed, renewed_of, restored_of}
 use Rattle.conversion.specs.Forms.{Holding, read-holding, holding-read, holding-text, holding-range, old-zero, handed-short, handed-long}
@@ -107,6 +104,11 @@ bytes-old s ls h =
     ap (λ (t : List ℕ). head_text Old ++ bytes_to Old 0 t) (holding-body h)
     ∙ ap (λ (t : List ℕ). head_text Old ++ t) (lines-old ls)
 
+-- a journal of the new form has its V line
+pub new-headed : {s : List ℕ} {ls : List Line} → Holding New s ls → 4 ≤ length s
+unfolding head_bytes
+new-headed {s} h = subst (λ (f : Form). head_bytes f ≤ length s) h.form (head-inside s)
+
 -- what the judging pass answered
 pub found : (f : Form) (s : List ℕ) (m : Summary) → done m ≡ told summary_of (read_as f s) → (ls : List Line) × Holding f s ls
 unfolding told
@@ -141,10 +143,10 @@ refused-fills a next (R.R11 n) old e = fills-refused (ap (λ (x : Answer (List L
 refused-fills a next (R.R12 n) old e = fills-refused (ap (λ (x : Answer (List Line)). on_done x next) (told-refused summary_of a _ _ (sym e))) old
 refused-fills a next R.R13 old e = fills-refused (ap (λ (x : Answer (List Line)). on_done x next) (told-refused summary_of a _ _ (sym e))) old
 
-pub renew-refused : (s old : List ℕ) {j : Judged} {r : Refusal} → j ≡ J.Refused r → says_judged j ≡ told summary_of (read_as Old s) → Fills (says_refusal r) (renewed_of s (length old)) old old
+pub renew-refused : (s old : List ℕ) (r : Refusal) → says_refusal r ≡ told summary_of (read_as Old s) → Fills (says_refusal r) (renewed_of s (length old)) old old
 unfolding renewed_of
-renew-refused s old {j} {r} q e = refused-fills (read_as Old s) (λ ls. handed (length old) (journal_text New ls)) r old (sym (ap says_judged q) ∙ e)
+renew-refused s old r e = refused-fills (read_as Old s) (λ ls. handed (length old) (journal_text New ls)) r old e
 
-pub restore-refused : (s old : List ℕ) {j : Judged} {r : Refusal} → j ≡ J.Refused r → says_judged j ≡ told summary_of (read_as New s) → Fills (says_refusal r) (restored_of s (length old)) old old
+pub restore-refused : (s old : List ℕ) (r : Refusal) → says_refusal r ≡ told summary_of (read_as New s) → Fills (says_refusal r) (restored_of s (length old)) old old
 unfolding restored_of
-restore-refused s old {j} {r} q e = refused-fills (read_as New s) (λ ls. goes_back 2 ls (handed (length old) (journal_text Old ls))) r old (sym (ap says_judged q) ∙ e)
+restore-refused s old r e = refused-fills (read_as New s) (λ ls. goes_back 2 ls (handed (length old) (journal_text Old ls))) r old e

@@ -6,7 +6,6 @@ use Prim.Native.Nat.{ℕ, ◌+◌, ◌≤◌, ◌<◌}
 use native.Mathlib.Omega.{arith}
 use lib.Dec.{eqb, leb}
 use lib.ListN.{length}
-use lib.Seq.{sets}
 use borrow.Author.Tests.{le-leb, lt-leb}
 use Rattle.laws.specs.Pick.{pick-t, pick-f}
 use Rattle.text.specs.Scan.{LF, TAB}
@@ -49,5 +48,4 @@ room_as at size e h = omega (arith, ap length e)
 
 -- nothing put
 pub puts-nothing : (old : List ℕ) (at : ℕ) → at + length {A = ℕ} [] ≤ length old → Puts old at [] old at
-unfolding sets
 puts-nothing old at h = fit-puts (room-is old at [] h) refl (omega arith)

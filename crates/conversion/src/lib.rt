@@ -1,7 +1,7 @@
 // Old journals to new and back: the same lines in the other form, written into a lent buffer.
 #![tactic(auto)]
 
-ghost use Rattle.std.specs.Prelude.{◌≡◌, ◌&&◌, ◌+◌, ◌≤◌, eqb, length, drop};
+ghost use Rattle.std.specs.Prelude.{◌≡◌, ◌&&◌, ◌+◌, ◌≤◌, eqb, length, IfSome};
 ghost use Rattle.std.proofs.lemmas.List.Edits.{sets};
 ghost use Rattle.paper.specs.Answer.{told, Fills};
 ghost use Rattle.text.specs.Put.{Puts};
@@ -9,22 +9,37 @@ ghost use Rattle.journal.specs.Line.{version_text};
 ghost use Rattle.journal.specs.Journal.{head_text};
 ghost use Rattle.hourly.specs.Tally.{summary_of};
 ghost use Rattle.hourly.specs.Says.{says_judged};
-ghost use Rattle.conversion.specs.Conversion.{is_form, read_as, handed};
-ghost use Rattle.conversion.specs.Bytes.{tabs_after, new_piece, old_piece, piece_of, bytes_to, bytes_of, is_other, line_after, other_from, back_from};
-ghost use Rattle.conversion.specs.Says.{says_converted};
+ghost use Rattle.conversion.specs.Conversion.{read_as, handed};
+ghost use Rattle.conversion.specs.Bytes.{tabs_after, piece_of, bytes_to, bytes_of, is_other, line_after, other_from, back_from};
+ghost use Rattle.conversion.specs.Says.{says_converted, says_piece, says_other};
+ghost use Rattle.conversion.specs.declared.ConvertError.TheVariants.{Refused};
 ghost use Rattle.conversion.specs.Promises.{Renews, Restores};
 
-use entry::Wrote;
-use hourly::{Judged, Products};
+use hourly::{Products, Summary};
 use journal::{Form, Refusal};
 
-// What a conversion answers: the length of the journal in the other form, a refusal of a journal, the line of a dose whose product has no place in the old form, or that the buffer is too short.
-#[derive(Clone, Copy)]
-pub enum Converted {
-    Journal(usize),
+// Why a journal is not converted: it is refused, it has a dose whose product has no place in the old form (with its line), or the buffer is too short.
+#[derive(Clone, Copy, Debug, PartialEq, Eq)]
+pub enum ConvertError {
     Refused(Refusal),
     R18(usize),
     R8,
+}
+
+impl From<Refusal> for ConvertError {
+    ghost from_gives = { λ refusal e. e ≡ Refused refusal };
+
+    fn from(refusal: Refusal) -> ConvertError {
+        ConvertError::Refused(refusal)
+    }
+}
+
+// What becomes of a byte in the other form: it is left out, it stays, or the field 0 comes before it, which ends a dose.
+#[derive(Clone, Copy)]
+enum Piece {
+    Gone,
+    Kept,
+    Ended,
 }
 
 const ZERO: u8 = 48;
@@ -50,31 +65,28 @@ fn tabs_after(tabs: usize, b: u8) -> usize
 fn ends_dose(tabs: usize, b: u8) -> bool
     ensures { result ≡ (eqb b 10 && eqb tabs 4) }
 {
-    if b == text::LF {
-        return tabs == OLD_FIELDS;
-    }
-    false
+    b == text::LF && tabs == OLD_FIELDS
 }
 
-// How many bytes a byte becomes in the new form.
-fn new_len(tabs: usize, b: u8) -> usize
-    ensures { result ≡ length (new_piece tabs b) }
-{
-    if ends_dose(tabs, b) {
-        return 3;
-    }
-    1
-}
-
-// How many bytes a byte becomes in the old form.
-fn old_len(tabs: usize, b: u8) -> usize
+// What becomes of a byte in a form.
+fn piece_of(to: Form, tabs: usize, b: u8) -> Piece
     requires { tabs ≤ 65536 }
-    ensures { result ≡ length (old_piece tabs b) }
+    ensures { says_piece result b ≡ piece_of to tabs b }
 {
-    if tabs_after(tabs, b) <= OLD_FIELDS {
-        return 1;
+    match to {
+        Form::Old => {
+            if tabs_after(tabs, b) <= OLD_FIELDS {
+                return Piece::Kept;
+            }
+            Piece::Gone
+        }
+        Form::New => {
+            if ends_dose(tabs, b) {
+                return Piece::Ended;
+            }
+            Piece::Kept
+        }
     }
-    0
 }
 
 // How many bytes a byte becomes in a form.
@@ -82,52 +94,25 @@ fn piece_len(to: Form, tabs: usize, b: u8) -> usize
     requires { tabs ≤ 65536 }
     ensures { result ≡ length (piece_of to tabs b) }
 {
-    match to {
-        Form::Old => old_len(tabs, b),
-        Form::New => new_len(tabs, b),
+    match piece_of(to, tabs, b) {
+        Piece::Gone => 0,
+        Piece::Kept => 1,
+        Piece::Ended => 3,
     }
 }
 
-// How many bytes the lines from a place on become in a form.
-fn lines_len(to: Form, bytes: &[u8], from: usize) -> usize
-    requires { length bytes.now ≤ 65536 }
-    ensures { result ≡ length (bytes_to to 0 (drop from bytes.now)) }
+// How many bytes some lines become in a form.
+fn lines_len(to: Form, lines: &[u8]) -> usize
+    requires { length lines.now ≤ 65536 }
+    ensures { result ≡ length (bytes_to to 0 lines.now) }
 {
-    let mut n: usize = 0;
-    let mut tabs: usize = 0;
-    let mut i = from;
-    while i < bytes.len() {
-        let b = bytes[i];
+    let mut n = 0;
+    let mut tabs = 0;
+    for &b in lines {
         n += piece_len(to, tabs, b);
         tabs = tabs_after(tabs, b);
-        i += 1;
     }
     n
-}
-
-// What a byte becomes in the new form, put at a place that has room for it.
-fn put_new(out: &mut [u8], at: usize, tabs: usize, b: u8) -> usize
-    requires { at + length (new_piece tabs b) ≤ length out.old }
-    ensures { Puts out.old at (new_piece tabs b) out.new result }
-{
-    if ends_dose(tabs, b) {
-        let after_tab = text::put_byte(out, at, text::TAB);
-        let after_zero = text::put_byte(out, after_tab, ZERO);
-        return text::put_byte(out, after_zero, text::LF);
-    }
-    text::put_byte(out, at, b)
-}
-
-// What a byte becomes in the old form, put at a place that has room for it.
-fn put_old(out: &mut [u8], at: usize, tabs: usize, b: u8) -> usize
-    requires few { tabs ≤ 65536 }
-    requires room { at + length (old_piece tabs b) ≤ length out.old }
-    ensures { Puts out.old at (old_piece tabs b) out.new result }
-{
-    if tabs_after(tabs, b) <= OLD_FIELDS {
-        return text::put_byte(out, at, b);
-    }
-    at
 }
 
 // What a byte becomes in a form, put at a place that has room for it.
@@ -136,26 +121,28 @@ fn put_piece(out: &mut [u8], at: usize, to: Form, tabs: usize, b: u8) -> usize
     requires room { at + length (piece_of to tabs b) ≤ length out.old }
     ensures { Puts out.old at (piece_of to tabs b) out.new result }
 {
-    match to {
-        Form::Old => put_old(out, at, tabs, b),
-        Form::New => put_new(out, at, tabs, b),
+    match piece_of(to, tabs, b) {
+        Piece::Gone => at,
+        Piece::Kept => text::put_byte(out, at, b),
+        Piece::Ended => {
+            let after_tab = text::put_byte(out, at, text::TAB);
+            let after_zero = text::put_byte(out, after_tab, ZERO);
+            text::put_byte(out, after_zero, text::LF)
+        }
     }
 }
 
-// The lines from a place on stored in a form, at a place that has room for them.
-fn put_lines(to: Form, bytes: &[u8], from: usize, out: &mut [u8], at: usize)
-    requires short { length bytes.now ≤ 65536 }
-    requires room { at + length (bytes_to to 0 (drop from bytes.now)) ≤ length out.old }
-    ensures { out.new ≡ sets out.old at (bytes_to to 0 (drop from bytes.now)) }
+// Some lines stored in a form, at a place that has room for them.
+fn put_lines(to: Form, lines: &[u8], out: &mut [u8], at: usize)
+    requires short { length lines.now ≤ 65536 }
+    requires room { at + length (bytes_to to 0 lines.now) ≤ length out.old }
+    ensures { out.new ≡ sets out.old at (bytes_to to 0 lines.now) }
 {
-    let mut tabs: usize = 0;
-    let mut i = from;
+    let mut tabs = 0;
     let mut p = at;
-    while i < bytes.len() {
-        let b = bytes[i];
+    for &b in lines {
         p = put_piece(out, p, to, tabs, b);
         tabs = tabs_after(tabs, b);
-        i += 1;
     }
 }
 
@@ -165,9 +152,8 @@ fn put_version(out: &mut [u8]) -> usize
     ensures { Puts out.old 0 version_text out.new result }
 {
     match entry::write_version(out) {
-        Wrote::Line(len) => len,
-        Wrote::R10 => 0,
-        Wrote::R8 => 0,
+        Ok(len) => len,
+        Err(_) => 0,
     }
 }
 
@@ -193,67 +179,44 @@ fn head_len(to: Form) -> usize
 }
 
 // A journal in a form from the buffer's start: R13 where it would be too long, then R8.
-fn hand_over(to: Form, bytes: &[u8], out: &mut [u8]) -> Converted
+fn hand_over(to: Form, bytes: &[u8], out: &mut [u8]) -> Result<usize, ConvertError>
     requires { length bytes.now ≤ 65536 }
     ensures { Fills (says_converted result) (handed (length out.old) (bytes_of to bytes.now)) out.old out.new }
 {
     let head = journal::head_of(bytes);
-    let from = head.bytes;
-    let size = head_len(to) + lines_len(to, bytes, from);
+    let lines = &bytes[head.bytes..];
+    let size = head_len(to) + lines_len(to, lines);
     if journal::ROOM < size {
-        return Converted::Refused(Refusal::R13);
+        return Err(ConvertError::Refused(Refusal::R13));
     }
     if out.len() < size {
-        return Converted::R8;
+        return Err(ConvertError::R8);
     }
     let at = put_head(to, out);
-    put_lines(to, bytes, from, out, at);
-    Converted::Journal(size)
-}
-
-// Whether a form is another.
-fn is_form(form: Form, other: Form) -> bool
-    ensures { result ≡ is_form form other }
-{
-    match form {
-        Form::Old => match other {
-            Form::Old => true,
-            Form::New => false,
-        },
-        Form::New => match other {
-            Form::Old => false,
-            Form::New => true,
-        },
-    }
+    put_lines(to, lines, out, at);
+    Ok(size)
 }
 
 // A journal that has to be of this form: R13, then R10 at line 1 where it is of the other, then line by line R10, R11, R12.
-fn judged_as(form: Form, bytes: &[u8]) -> Judged
+fn judged_as(form: Form, bytes: &[u8]) -> Result<Summary, Refusal>
     ensures { says_judged result ≡ told summary_of (read_as form bytes.now) }
 {
     if bytes.len() > journal::ROOM {
-        return Judged::Refused(Refusal::R13);
+        return Err(Refusal::R13);
     }
     let head = journal::head_of(bytes);
-    let found = head.form;
-    if !is_form(form, found) {
-        return Judged::Refused(Refusal::R10(1));
+    if head.form != form {
+        return Err(Refusal::R10(1));
     }
-    let counted = hourly::tallies(bytes, Products::All);
-    counted.judged
+    let counted = hourly::tallies(bytes, Products::All)?;
+    Ok(counted.found)
 }
 
 // Whether a byte is a digit of a product other than 0.
 fn is_other(tabs: usize, b: u8) -> bool
     ensures { result ≡ is_other tabs b }
 {
-    if tabs == OLD_FIELDS + 1 {
-        if b == text::LF {
-            return false;
-        }
-        return b != ZERO;
-    }
-    false
+    tabs == OLD_FIELDS + 1 && b != text::LF && b != ZERO
 }
 
 // The number of a line after one byte more.
@@ -267,56 +230,48 @@ fn line_after(line: usize, b: u8) -> usize
     line
 }
 
-// The number of the first line with a product other than 0, or 0; the first line with an hour is line 2.
-fn first_other(bytes: &[u8]) -> usize
-    requires { length bytes.now ≤ 65536 }
-    ensures { result ≡ other_from 2 0 (drop 4 bytes.now) }
+// The number of the first line with a product other than 0; the first of these lines is line 2.
+fn first_other(lines: &[u8]) -> Option<usize>
+    requires { length lines.now ≤ 65536 }
+    ensures line { says_other result ≡ other_from 2 0 lines.now }
+    ensures some { IfSome result (λ n. 2 ≤ n) }
 {
-    let mut line: usize = 2;
-    let mut tabs: usize = 0;
-    let mut i = journal::VERSION_LEN;
-    while i < bytes.len() {
-        let b = bytes[i];
+    let mut line = 2;
+    let mut tabs = 0;
+    for &b in lines {
         if is_other(tabs, b) {
-            return line;
+            return Some(line);
         }
         line = line_after(line, b);
         tabs = tabs_after(tabs, b);
-        i += 1;
     }
-    0
+    None
 }
 
 // A sound journal of the new form in the old one: R18, then R13, then R8.
-fn hand_back(bytes: &[u8], out: &mut [u8]) -> Converted
-    requires { length bytes.now ≤ 65536 }
+fn hand_back(bytes: &[u8], out: &mut [u8]) -> Result<usize, ConvertError>
+    requires short { length bytes.now ≤ 65536 }
+    requires headed { 4 ≤ length bytes.now }
     ensures { Fills (says_converted result) (back_from bytes.now (length out.old)) out.old out.new }
 {
-    let other = first_other(bytes);
-    if other != 0 {
-        return Converted::R18(other);
+    if let Some(line) = first_other(&bytes[journal::VERSION_LEN..]) {
+        return Err(ConvertError::R18(line));
     }
     hand_over(Form::Old, bytes, out)
 }
 
 // An old journal in the new form, with product 0, from the buffer's start, or a refusal that leaves the buffer as it was.
-pub fn renew(bytes: &[u8], out: &mut [u8]) -> Converted
+pub fn renew(bytes: &[u8], out: &mut [u8]) -> Result<usize, ConvertError>
     ensures { Renews bytes.now result out.old out.new }
 {
-    let judged = judged_as(Form::Old, bytes);
-    match judged {
-        Judged::Lines(_) => hand_over(Form::New, bytes, out),
-        Judged::Refused(refusal) => Converted::Refused(refusal),
-    }
+    judged_as(Form::Old, bytes)?;
+    hand_over(Form::New, bytes, out)
 }
 
 // A new journal in the old form from the buffer's start, or a refusal that leaves the buffer as it was.
-pub fn restore(bytes: &[u8], out: &mut [u8]) -> Converted
+pub fn restore(bytes: &[u8], out: &mut [u8]) -> Result<usize, ConvertError>
     ensures { Restores bytes.now result out.old out.new }
 {
-    let judged = judged_as(Form::New, bytes);
-    match judged {
-        Judged::Lines(_) => hand_back(bytes, out),
-        Judged::Refused(refusal) => Converted::Refused(refusal),
-    }
+    judged_as(Form::New, bytes)?;
+    hand_back(bytes, out)
 }

@@ -1,8 +1,7 @@
 -- The counters and the dose record (document 01, "One tick"; document 02, W4). Assumes nothing.
-use Rattle.std.specs.Prelude.{Bool, List, [], ◌∷◌, ℕ, ◌+◌, ◌%◌}
+use Rattle.std.specs.Prelude.{Bool, List, [], ◌∷◌, ℕ, ◌+◌, ◌%◌, Option, Some, None}
 use Rattle.laws.specs.Pick.{pick}
 use Rattle.dosing.specs.declared.Dose.{Dose}
-use Rattle.dosing.specs.declared.Dose.TheVariants.{Nothing, Complete}
 use Rattle.counters.specs.declared.Counters.{Counters}
 use Rattle.counters.specs.declared.Record.{Record}
 
@@ -13,15 +12,15 @@ counters count total = record { count = count; total = total }
 unfoldable pub counted_of : Counters → ℕ → Counters
 counted_of n amount = counters ((n.count + 1) % 1000000) ((n.total + amount) % 1000000000)
 
-unfoldable pub counters_after : Counters → Dose → Counters
-counters_after n Nothing = n
-counters_after n (Complete amount settled) = counted_of n amount
+unfoldable pub counters_after : Counters → Option Dose → Counters
+counters_after n None = n
+counters_after n (Some d) = counted_of n d.amount
 
 -- the dose record (count after it, amount, 1 if Settle ended stable else 0), and the product code as its last field
 unfoldable pub record_of : ℕ → Counters → ℕ → Bool → Record
 record_of product after amount settled = record { count = after.count; amount = amount; settled = pick settled 1 0; product = product }
 
 -- the dose record if one completed
-unfoldable pub records_of : ℕ → Counters → Dose → List Record
-records_of product after Nothing = []
-records_of product after (Complete amount settled) = record_of product after amount settled ∷ []
+unfoldable pub records_of : ℕ → Counters → Option Dose → List Record
+records_of product after None = []
+records_of product after (Some d) = record_of product after d.amount d.settled ∷ []

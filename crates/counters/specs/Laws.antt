@@ -1,9 +1,9 @@
 -- The counters stay within their greatest values, and a dose record can always be written as a line. Assumes nothing.
-use Rattle.std.specs.Prelude.{◌≡◌, refl, Bool, List, [], ◌∷◌, ℕ, ◌≤◌}
+use Rattle.std.specs.Prelude.{◌≡◌, refl, Bool, List, [], ◌∷◌, ℕ, ◌≤◌, Option, Some, None}
 use Rattle.std.proofs.Common.{arith}
 use Rattle.laws.specs.Pick.{pick_all}
+use Rattle.dosing.specs.Rules.{dosed}
 use Rattle.dosing.specs.declared.Dose.{Dose}
-use Rattle.dosing.specs.declared.Dose.TheVariants.{Nothing, Complete}
 use Rattle.counters.specs.Counters.{counted_of, counters_after, record_of, records_of}
 use Rattle.counters.specs.declared.Counters.{Counters}
 use Rattle.counters.specs.declared.Record.{Record}
@@ -17,10 +17,10 @@ counted-storable : (n : Counters) (amount : ℕ) → Storable (counted_of n amou
 unfolding counted_of
 counted-storable n amount = record { count = omega arith; total = omega arith }
 
-pub after-storable : (n : Counters) (d : Dose) → Storable n → Storable (counters_after n d)
+pub after-storable : (n : Counters) (d : Option Dose) → Storable n → Storable (counters_after n d)
 unfolding counters_after
-after-storable n Nothing s = s
-after-storable n (Complete amount settled) s = counted-storable n amount
+after-storable n None s = s
+after-storable n (Some d) s = counted-storable n d.amount
 
 -- count 0..999,999, amount 0..1,800,000, settled 0 or 1, product 0..255: the ranges of a D line
 pub record Recordable (r : Record) : Type 0 where
@@ -38,10 +38,10 @@ unfolding record_of
 record-recordable product n amount settled code h most =
     record { count = h; amount = most; settled = pick_all (λ (k : ℕ). k ≤ 1) settled (omega arith) (omega arith); product = code }
 
-pub records-recordable : (product : ℕ) (n : Counters) (d : Dose) → product ≤ 255 → n.count ≤ 999999 → ((a : ℕ) (settled : Bool) → d ≡ Complete a settled → a ≤ 1800000) → AllRecordable (records_of product n d)
+pub records-recordable : (product : ℕ) (n : Counters) (d : Option Dose) → product ≤ 255 → n.count ≤ 999999 → ((a : ℕ) (settled : Bool) → d ≡ dosed a settled → a ≤ 1800000) → AllRecordable (records_of product n d)
 unfolding records_of
-records-recordable product n Nothing code h most = tt
-records-recordable product n (Complete a settled) code h most = (record-recordable product n a settled code h (most a settled refl), tt)
+records-recordable product n None code h most = tt
+records-recordable product n (Some d) code h most = (record-recordable product n d.amount d.settled code h (most d.amount d.settled refl), tt)
 
 -- ---- doses counted in and told of
 
@@ -58,21 +58,21 @@ Tells n (amount ∷ more) [] = ⊥
 Tells n (amount ∷ more) (r ∷ rs) = (r.amount ≡ amount) × (r.count ≡ (counted_of n amount).count) × Tells (counted_of n amount) more rs
 
 -- the amounts of the doses that a step hands on: one or none
-unfoldable pub amounts_in : Dose → List ℕ
-amounts_in Nothing = []
-amounts_in (Complete amount settled) = amount ∷ []
+unfoldable pub amounts_in : Option Dose → List ℕ
+amounts_in None = []
+amounts_in (Some d) = d.amount ∷ []
 
 -- a completed dose is counted in on top of those before it
-pub counts-in : (n : Counters) (d : Dose) → counters_after n d ≡ counted_in n (amounts_in d)
+pub counts-in : (n : Counters) (d : Option Dose) → counters_after n d ≡ counted_in n (amounts_in d)
 unfolding counters_after counted_in amounts_in
-counts-in n Nothing = refl
-counts-in n (Complete amount settled) = refl
+counts-in n None = refl
+counts-in n (Some d) = refl
 
 -- and its record tells of it
-pub tells-one : (product : ℕ) (n : Counters) (d : Dose) → Tells n (amounts_in d) (records_of product (counters_after n d) d)
+pub tells-one : (product : ℕ) (n : Counters) (d : Option Dose) → Tells n (amounts_in d) (records_of product (counters_after n d) d)
 unfolding counters_after records_of record_of amounts_in Tells
-tells-one product n Nothing = tt
-tells-one product n (Complete amount settled) = (refl, refl, tt)
+tells-one product n None = tt
+tells-one product n (Some d) = (refl, refl, tt)
 
 -- all records are of a product
 unfoldable pub AllOf : ℕ → List Record → Type 0
@@ -80,7 +80,7 @@ AllOf product [] = Unit {0}
 AllOf product (r ∷ rs) = (r.product ≡ product) × AllOf product rs
 
 -- what a dose is told of as is of the product that it was completed for
-pub of-product : (product : ℕ) (n : Counters) (d : Dose) → AllOf product (records_of product n d)
+pub of-product : (product : ℕ) (n : Counters) (d : Option Dose) → AllOf product (records_of product n d)
 unfolding records_of record_of AllOf
-of-product product n Nothing = tt
-of-product product n (Complete amount settled) = (refl, tt)
+of-product product n None = tt
+of-product product n (Some d) = (refl, tt)

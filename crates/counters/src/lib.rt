@@ -7,14 +7,14 @@ ghost use Rattle.counters.specs.Says.{Counts, Records};
 use dosing::Dose;
 
 // The number of doses, and the sum of their amounts.
-#[derive(Clone, Copy)]
+#[derive(Clone, Copy, Debug, Default, PartialEq, Eq)]
 pub struct Counters {
     pub count: u32,
     pub total: u32,
 }
 
 // The record of a completed dose: the count after it, the amount, 1 if Settle ended stable else 0, and the product.
-#[derive(Clone, Copy)]
+#[derive(Clone, Copy, Debug, PartialEq, Eq)]
 pub struct Record {
     pub count: u32,
     pub amount: u32,
@@ -33,22 +33,20 @@ impl Counters {
 fn wrapped(n: u32, more: u32, most: u32) -> u32
     ensures { result ≡ (n + more) % (most + 1) }
 {
-    let sum = n as u64 + more as u64;
-    let wrap = most as u64 + 1;
-    (sum % wrap) as u32
+    let sum = u64::from(n) + u64::from(more);
+    (sum % (u64::from(most) + 1)) as u32
 }
 
 // A completed dose adds 1 to the count and its amount to the total.
-pub fn counters_after(n: Counters, dose: Dose) -> Counters
+pub fn counters_after(n: Counters, dose: Option<Dose>) -> Counters
     ensures { Counts n dose result }
 {
     match dose {
-        Dose::Nothing => n,
-        Dose::Complete { amount, settled: _ } => {
-            let count = wrapped(n.count, 1, Counters::COUNT_MOST);
-            let total = wrapped(n.total, amount, Counters::TOTAL_MOST);
-            Counters { count, total }
-        }
+        None => n,
+        Some(dose) => Counters {
+            count: wrapped(n.count, 1, Counters::COUNT_MOST),
+            total: wrapped(n.total, dose.amount, Counters::TOTAL_MOST),
+        },
     }
 }
 
@@ -56,19 +54,10 @@ pub fn counters_after(n: Counters, dose: Dose) -> Counters
 pub fn record_of(product: u32, after: Counters, amount: u32, settled: bool) -> Record
     ensures { Records product after amount settled result }
 {
-    let count = after.count;
-    if settled {
-        return Record {
-            count,
-            amount,
-            settled: 1,
-            product,
-        };
-    }
     Record {
-        count,
+        count: after.count,
         amount,
-        settled: 0,
+        settled: u32::from(settled),
         product,
     }
 }

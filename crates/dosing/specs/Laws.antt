@@ -1,11 +1,12 @@
 -- What every step keeps, which the controller and the series rest on: the gates follow the phase, the phase is one of the algorithm's, no filling gate is open with an emptying one or above the capacity, and every weight kept is one of the scale's. Assumes nothing.
-use Rattle.std.specs.Prelude.{◌≡◌, Bool, true, ◌&&◌, ◌||◌, ℕ, zero, suc, ◌+◌, ◌*◌, ◌≤◌, ◌<◌, leb, ltb, eqb, ℤ, pos, negsuc, neg_ℤ, nat_abs, ◌+ℤ◌, ◌-ℤ◌}
+use Rattle.std.specs.Prelude.{◌≡◌, Bool, true, ◌&&◌, ◌||◌, ℕ, zero, suc, ◌+◌, ◌*◌, ◌≤◌, ◌<◌, leb, ltb, eqb, ℤ, pos, negsuc, neg_ℤ, nat_abs, ◌+ℤ◌, ◌-ℤ◌, None}
 use Rattle.std.proofs.Math.Path.{refl, ap}
 use Rattle.std.proofs.Common.{sym, ◌∙◌, arith, leb-true, leb-false, ltb-true, eqb-true, le-leb, eq-eqb}
 use Rattle.std.proofs.Math.Bool.{false, and-false}
 use Rattle.std.proofs.Math.IntN.{+ℤ_idl, +ℤ_invr, +ℤ_assoc, +ℤ_comm, neg_ℤ-+ℤ, -ℤ-+ℤ_cancel}
 use Rattle.std.specs.Int.Signed.{lt_z, le_z}
 use Rattle.std.proofs.lemmas.Bool.{eqb-false, lt-leb}
+use Rattle.std.proofs.lemmas.Option.{same_Some}
 use Rattle.laws.specs.Pick.{pick, pick-t, pick-f, pick_all, pick-if, pick_same}
 use Rattle.laws.specs.Bools.{and_left, and_right, or_right}
 use Rattle.laws.specs.Whole.{abs-sub, false-true}
@@ -13,7 +14,7 @@ use Rattle.settings.specs.declared.Settings.{Settings}
 use Rattle.settings.specs.Table.{wf, most_level}
 use Rattle.settings.specs.Ranges.{Ranges}
 use Rattle.settings.specs.Good.{filling-level}
-use Rattle.dosing.specs.Rules.{shut, complete, reached_wf, not_below_zero, near_zero, zeroed, coarse_stage, dose_coarse, settle_ends, discharge_opens, amount_of, step_of}
+use Rattle.dosing.specs.Rules.{shut, dosed, complete, reached_wf, not_below_zero, near_zero, zeroed, coarse_stage, dose_coarse, settle_ends, discharge_opens, amount_of, step_of}
 use Rattle.dosing.specs.Gates.{filling_open, emptying_open, gates_of, belongs, Scaled, Kept}
 use Rattle.dosing.specs.Ways.{on, coarse-ways, fine-ways, fill-ways, hold-ways, settle-ways, discharge-ways, load-ways, calm-ways, dose-coarse-ways, dose-fine-ways, dose-settle-ways, ready-ways}
 use Rattle.dosing.specs.declared.Units.{Units}
@@ -21,14 +22,14 @@ use Rattle.dosing.specs.declared.Gates.{Gates}
 use Rattle.dosing.specs.declared.Phase.{Phase}
 use Rattle.dosing.specs.declared.Phase.TheVariants.{Ready, Coarse, Fine, Hold, Settle, Discharge, Load, Calm, DoseCoarse, DoseFine, DoseSettle}
 use Rattle.dosing.specs.declared.Seen.{Seen}
-use Rattle.dosing.specs.declared.Dose.TheVariants.{Nothing, Complete}
+use Rattle.dosing.specs.declared.Dose.{Dose}
 use Rattle.dosing.specs.declared.Moved.{Moved}
 
 -- the phase determines the outputs, and a dose completes only into Ready
 
 record Tells (set : Settings) (m : Moved) : Type 0 where
   gates : m.gates ≡ gates_of set m.phase
-  dose : (a : ℕ) (settled : Bool) → m.dose ≡ Complete a settled → m.phase ≡ Ready
+  dose : (a : ℕ) (settled : Bool) → m.dose ≡ dosed a settled → m.phase ≡ Ready
 
 module _ (set : Settings) (t : Seen) where
   on-tells : (p : Phase) → Tells set (on set p t)
@@ -74,7 +75,7 @@ pub step-gates : (set : Settings) (p : Phase) (t : Seen) → (step_of set p t).g
 step-gates set p t = (step-tells set p t).gates
 
 -- a step that completes a dose ends in Ready
-pub dose-ready : (set : Settings) (p : Phase) (t : Seen) (a : ℕ) (settled : Bool) → (step_of set p t).dose ≡ Complete a settled → (step_of set p t).phase ≡ Ready
+pub dose-ready : (set : Settings) (p : Phase) (t : Seen) (a : ℕ) (settled : Bool) → (step_of set p t).dose ≡ dosed a settled → (step_of set p t).phase ≡ Ready
 dose-ready set p t = (step-tells set p t).dose
 
 -- outputs 1 to 3 are shut in Ready
@@ -152,7 +153,7 @@ low-one al h e = eq-eqb al 1 (below al (leb-true al 1 h) (eqb-false al 0 e))
 
 record Stays (set : Settings) (m : Moved) : Type 0 where
   phase : belongs set.algorithm m.phase ≡ true
-  dose : set.algorithm ≡ 0 → m.dose ≡ Nothing
+  dose : set.algorithm ≡ 0 → m.dose ≡ None
 
 module _ (set : Settings) (t : Seen) where
   on-stays : (p : Phase) → belongs set.algorithm p ≡ true → Stays set (on set p t)
@@ -209,7 +210,7 @@ pub step-belongs : (set : Settings) (p : Phase) (t : Seen) → belongs set.algor
 step-belongs set p t h = (step_stays set p t h).phase
 
 -- AL0 counts nothing
-pub no-dose : (set : Settings) (p : Phase) (t : Seen) → set.algorithm ≡ 0 → belongs set.algorithm p ≡ true → (step_of set p t).dose ≡ Nothing
+pub no-dose : (set : Settings) (p : Phase) (t : Seen) → set.algorithm ≡ 0 → belongs set.algorithm p ≡ true → (step_of set p t).dose ≡ None
 no-dose set p t e h = (step_stays set p t h).dose e
 
 -- filling and emptying
@@ -383,13 +384,13 @@ scaled-amount z a b h k =
 
 record Holds (m : Moved) : Type 0 where
   phase : Kept m.z.v m.phase
-  dose : (a : ℕ) (settled : Bool) → m.dose ≡ Complete a settled → a ≤ 1800000
+  dose : (a : ℕ) (settled : Bool) → m.dose ≡ dosed a settled → a ≤ 1800000
 
-nothing-holds : (a : ℕ) (settled : Bool) → Nothing ≡ Complete a settled → a ≤ 1800000
+nothing-holds : (a : ℕ) (settled : Bool) → None ≡ dosed a settled → a ≤ 1800000
 nothing-holds a settled h = let z : ◌≡◌ {A = ℕ} 0 1 = cc in omega arith
 
-complete-same : (n a : ℕ) (b settled : Bool) → n ≤ 1800000 → Complete n b ≡ Complete a settled → a ≤ 1800000
-complete-same n a b settled h e = let same : n ≡ a = cc in omega arith
+complete-same : (n a : ℕ) (b settled : Bool) → n ≤ 1800000 → dosed n b ≡ dosed a settled → a ≤ 1800000
+complete-same n a b settled h e = let same : n ≡ a = ap (λ (d : Dose). d.amount) (same_Some _ _ e) in omega arith
 
 module _ (set : Settings) (t : Seen) (r : Ranges set) where
   on-holds : (p : Phase) → Kept t.z.v p → Holds (on set p t)
@@ -457,5 +458,5 @@ pub step_kept : (set : Settings) (p : Phase) (t : Seen) → Ranges set → nat_a
 step_kept set p t r s net k = (step-holds set p t r s net k).phase
 
 -- an amount is at most 1,800,000
-pub step-amount : (set : Settings) (p : Phase) (t : Seen) → Ranges set → nat_abs t.f.v ≤ 900000 → t.w.v ≡ t.f.v -ℤ t.z.v → Kept t.z.v p → (a : ℕ) (settled : Bool) → (step_of set p t).dose ≡ Complete a settled → a ≤ 1800000
+pub step-amount : (set : Settings) (p : Phase) (t : Seen) → Ranges set → nat_abs t.f.v ≤ 900000 → t.w.v ≡ t.f.v -ℤ t.z.v → Kept t.z.v p → (a : ℕ) (settled : Bool) → (step_of set p t).dose ≡ dosed a settled → a ≤ 1800000
 step-amount set p t r s net k = (step-holds set p t r s net k).dose

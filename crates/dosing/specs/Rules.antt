@@ -1,5 +1,5 @@
 -- The phase rules (document 01, "One tick", step 7: AL1, AL0, AL2, AL3). Assumes nothing.
-use Rattle.std.specs.Prelude.{Bool, true, false, not, ◌&&◌, ◌||◌, ℕ, ◌+◌, ◌*◌, leb, eqb, ℤ, pos, negsuc, neg_ℤ, ◌-ℤ◌}
+use Rattle.std.specs.Prelude.{Bool, true, false, not, ◌&&◌, ◌||◌, ℕ, ◌+◌, ◌*◌, leb, eqb, ℤ, pos, negsuc, neg_ℤ, ◌-ℤ◌, Option, Some, None}
 use Rattle.std.specs.Int.Signed.{lt_z, le_z}
 use Rattle.laws.specs.Pick.{pick}
 use Rattle.settings.specs.declared.Settings.{Settings}
@@ -9,7 +9,7 @@ use Rattle.dosing.specs.declared.Gates.{Gates}
 use Rattle.dosing.specs.declared.Phase.{Phase}
 use Rattle.dosing.specs.declared.Phase.TheVariants.{Ready, Coarse, Fine, Hold, Settle, Discharge, Load, Calm, DoseCoarse, DoseFine, DoseSettle}
 use Rattle.dosing.specs.declared.Seen.{Seen}
-use Rattle.dosing.specs.declared.Dose.TheVariants.{Nothing, Complete}
+use Rattle.dosing.specs.declared.Dose.{Dose}
 use Rattle.dosing.specs.declared.Moved.{Moved}
 
 abbrev pub units : ℤ → Units
@@ -22,13 +22,17 @@ gates one two three = record { one = one; two = two; three = three }
 abbrev pub shut : Gates
 shut = gates false false false
 
+-- a completed dose: its amount, and whether its Settle ended stable
+abbrev pub dosed : ℕ → Bool → Option Dose
+dosed amount settled = Some (record { amount = amount; settled = settled })
+
 -- the phase goes on or changes, and no dose completes
 abbrev pub to : Phase → Gates → Seen → Moved
-to p g t = record { phase = p; z = t.z; gates = g; dose = Nothing }
+to p g t = record { phase = p; z = t.z; gates = g; dose = None }
 
 -- the dose is complete, Ready
 abbrev pub complete : ℕ → Bool → Seen → Moved
-complete amount settled t = record { phase = Ready; z = t.z; gates = shut; dose = Complete amount settled }
+complete amount settled t = record { phase = Ready; z = t.z; gates = shut; dose = dosed amount settled }
 
 -- ---- what the stages compare: x is w in AL0 and AL1, wH-w in AL2 and AL3
 

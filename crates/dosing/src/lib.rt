@@ -1,7 +1,7 @@
 // The phase rules of AL0 to AL3 as one step: no samples, no counters.
 #![tactic(auto)]
 
-ghost use Rattle.std.specs.Prelude.{◌≡◌, not, ◌&&◌, ◌+◌, ◌-◌, eqb, pos, neg_ℤ, ◌-ℤ◌};
+ghost use Rattle.std.specs.Prelude.{◌≡◌, not, ◌&&◌, ◌+◌, eqb, pos, neg_ℤ, ◌-ℤ◌};
 ghost use Rattle.std.specs.Int.Signed.{lt_z, le_z};
 ghost use Rattle.dosing.specs.Rules.{gates, shut, to, complete, reached_wf, reached_wc, not_below_zero, zeroed, full, coarse_stage, fine_stage, ready_to_fill, fill, hold, settle_ends, discharge_opens, settle, amount_of, discharge, load, calm, dose_coarse, dose_fine, dose_settle, ready_to_dose, ready};
 ghost use Rattle.dosing.specs.Calls.{TellsNear, Steps};
@@ -12,13 +12,13 @@ use settings::Settings;
 pub const SETTLE_TICKS: u64 = 256;
 
 // A weight in display units.
-#[derive(Clone, Copy)]
+#[derive(Clone, Copy, Debug, PartialEq, Eq)]
 pub struct Units {
     pub v: i32,
 }
 
 // Outputs 1 to 3.
-#[derive(Clone, Copy)]
+#[derive(Clone, Copy, Debug, Default, PartialEq, Eq)]
 pub struct Gates {
     pub one: bool,
     pub two: bool,
@@ -26,7 +26,7 @@ pub struct Gates {
 }
 
 // The phases of the paper, with the weights and the number of the tick that they keep.
-#[derive(Clone, Copy)]
+#[derive(Clone, Copy, Debug, PartialEq, Eq)]
 pub enum Phase {
     Ready,
     // Fill, coarse stage and fine stage (AL0, AL1).
@@ -46,7 +46,7 @@ pub enum Phase {
 }
 
 // What the phase rule sees of a tick: F, Z, w, whether start is on, whether it is stable.
-#[derive(Clone, Copy)]
+#[derive(Clone, Copy, Debug, PartialEq, Eq)]
 pub struct Seen {
     pub f: Units,
     pub z: Units,
@@ -55,70 +55,55 @@ pub struct Seen {
     pub stable: bool,
 }
 
-// A completed dose, if one completed.
-#[derive(Clone, Copy)]
-pub enum Dose {
-    Nothing,
-    Complete { amount: u32, settled: bool },
+// A completed dose: its amount, and whether its Settle ended stable.
+#[derive(Clone, Copy, Debug, PartialEq, Eq)]
+pub struct Dose {
+    pub amount: u32,
+    pub settled: bool,
 }
 
-// What the phase rule makes of a tick: the phase after it, Z, outputs 1 to 3, and the dose.
-#[derive(Clone, Copy)]
+// What the phase rule makes of a tick: the phase after it, Z, outputs 1 to 3, and the dose if one completed.
+#[derive(Clone, Copy, Debug, PartialEq, Eq)]
 pub struct Moved {
     pub phase: Phase,
     pub z: Units,
     pub gates: Gates,
-    pub dose: Dose,
+    pub dose: Option<Dose>,
 }
 
-// A weight, or a difference of two, which an i32 need not hold.
-#[derive(Clone, Copy)]
-struct Wide {
-    v: i64,
-}
-
-// A weight, made wide.
-fn widened(a: Units) -> Wide
-    ensures { result.v ≡ a.v }
+// A weight, made an i64.
+fn widened(a: Units) -> i64
+    ensures { result ≡ a.v }
 {
-    let x = a.v as i64;
-    Wide { v: x }
+    i64::from(a.v)
 }
 
-// The difference a-b.
-fn difference(a: Units, b: Units) -> Wide
-    ensures { result.v ≡ a.v -ℤ b.v }
+// The difference a-b, which an i32 need not hold.
+fn difference(a: Units, b: Units) -> i64
+    ensures { result ≡ a.v -ℤ b.v }
 {
-    let x = a.v as i64;
-    let y = b.v as i64;
-    Wide { v: x - y }
+    i64::from(a.v) - i64::from(b.v)
 }
 
 // x < n
-fn below(x: Wide, n: u32) -> bool
-    ensures { result ≡ lt_z x.v (pos n) }
+fn below(x: i64, n: u32) -> bool
+    ensures { result ≡ lt_z x (pos n) }
 {
-    let v = x.v;
-    let limit = n as i64;
-    v < limit
+    x < i64::from(n)
 }
 
 // -n < x
-fn above_minus(x: Wide, n: u32) -> bool
-    ensures { result ≡ lt_z (neg_ℤ (pos n)) x.v }
+fn above_minus(x: i64, n: u32) -> bool
+    ensures { result ≡ lt_z (neg_ℤ (pos n)) x }
 {
-    let v = x.v;
-    let limit = n as i64;
-    0 - limit < v
+    -i64::from(n) < x
 }
 
 // x >= n
-fn at_least(x: Wide, n: u32) -> bool
-    ensures { result ≡ le_z (pos n) x.v }
+fn at_least(x: i64, n: u32) -> bool
+    ensures { result ≡ le_z (pos n) x }
 {
-    let v = x.v;
-    let limit = n as i64;
-    limit <= v
+    i64::from(n) <= x
 }
 
 // a-b; below 0 it is 0.
@@ -126,31 +111,21 @@ fn not_below_zero(a: Units, b: Units) -> u32
     ensures { result ≡ not_below_zero (a.v -ℤ b.v) }
 {
     let d = difference(a, b);
-    let v = d.v;
-    if v < 0 { 0 } else { v as u32 }
+    if d < 0 { 0 } else { d as u32 }
 }
 
-// D less a lead: the weight at which that lead shuts its gate; 0 where the lead is the greater.
-fn shuts_at(dose: u32, lead: u32) -> u32
-    ensures { result ≡ dose - lead }
+// x >= Wf; Wf is 0 where its lead is greater than D.
+fn reached_wf(set: Settings, x: i64) -> bool
+    ensures { result ≡ reached_wf set x }
 {
-    if lead <= dose { dose - lead } else { 0 }
+    at_least(x, set.dose.saturating_sub(set.pf))
 }
 
-// x >= Wf
-fn reached_wf(set: Settings, x: Wide) -> bool
-    ensures { result ≡ reached_wf set x.v }
+// x >= Wc; Wc is 0 where its lead is greater than D.
+fn reached_wc(set: Settings, x: i64) -> bool
+    ensures { result ≡ reached_wc set x }
 {
-    let wf = shuts_at(set.dose, set.pf);
-    at_least(x, wf)
-}
-
-// x >= Wc
-fn reached_wc(set: Settings, x: Wide) -> bool
-    ensures { result ≡ reached_wc set x.v }
-{
-    let wc = shuts_at(set.dose, set.pc);
-    at_least(x, wc)
+    at_least(x, set.dose.saturating_sub(set.pc))
 }
 
 // -M < F < M
@@ -161,27 +136,15 @@ pub fn near_zero(set: Settings, f: Units) -> bool
     above_minus(x, set.level) & below(x, set.level)
 }
 
-// Outputs 1, 2 and 3: open or shut.
-fn outputs(one: bool, two: bool, three: bool) -> Gates
-    ensures { result ≡ gates one two three }
-{
-    Gates {
-        one: one,
-        two: two,
-        three: three,
-    }
-}
-
 // A phase, the outputs and a dose; Z is as it was.
-fn outcome(phase: Phase, g: Gates, d: Dose, t: Seen) -> Moved
-    ensures { result ≡ record { phase = phase; z = t.z; gates = g; dose = d } }
+fn outcome(phase: Phase, gates: Gates, dose: Option<Dose>, t: Seen) -> Moved
+    ensures { result ≡ record { phase = phase; z = t.z; gates = gates; dose = dose } }
 {
-    let z = t.z;
     Moved {
-        phase: phase,
-        z: z,
-        gates: g,
-        dose: d,
+        phase,
+        z: t.z,
+        gates,
+        dose,
     }
 }
 
@@ -189,39 +152,34 @@ fn outcome(phase: Phase, g: Gates, d: Dose, t: Seen) -> Moved
 fn opens(phase: Phase, one: bool, two: bool, three: bool, t: Seen) -> Moved
     ensures { result ≡ to phase (gates one two three) t }
 {
-    let g = outputs(one, two, three);
-    outcome(phase, g, Dose::Nothing, t)
+    outcome(phase, Gates { one, two, three }, None, t)
 }
 
 // The same with all gates shut.
 fn rests(phase: Phase, t: Seen) -> Moved
     ensures { result ≡ to phase shut t }
 {
-    opens(phase, false, false, false, t)
+    outcome(phase, Gates::default(), None, t)
 }
 
 // The dose is complete, Ready.
 fn completes(amount: u32, settled: bool, t: Seen) -> Moved
     ensures { result ≡ complete amount settled t }
 {
-    let g = outputs(false, false, false);
-    let d = Dose::Complete {
-        amount: amount,
-        settled: settled,
-    };
-    outcome(Phase::Ready, g, d, t)
+    let dose = Some(Dose { amount, settled });
+    outcome(Phase::Ready, Gates::default(), dose, t)
 }
 
 // If -M < F < M then Z becomes F and w is 0.
-fn zeroed(set: Settings, mut t: Seen) -> Seen
+fn zeroed(set: Settings, t: Seen) -> Seen
     ensures { result ≡ zeroed set t }
 {
     if near_zero(set, t.f) {
-        let f = t.f;
-        let zero = Units { v: 0 };
-        t.z = f;
-        t.w = zero;
-        return t;
+        return Seen {
+            z: t.f,
+            w: Units { v: 0 },
+            ..t
+        };
     }
     t
 }
@@ -233,7 +191,7 @@ fn full(set: Settings, w0: Units) -> Phase
     if set.algorithm == 0 {
         return Phase::Hold;
     }
-    Phase::Settle { w0: w0, n: 0 }
+    Phase::Settle { w0, n: 0 }
 }
 
 // Coarse stage of Fill: 1 open, and 2 open exactly if o = 1; at Wc 2 open, fine stage; at Wf both closed.
@@ -245,10 +203,9 @@ fn coarse_stage(set: Settings, w0: Units, t: Seen) -> Moved
         return rests(full(set, w0), t);
     }
     if reached_wc(set, x) {
-        return opens(Phase::Fine { w0: w0 }, false, true, false, t);
+        return opens(Phase::Fine { w0 }, false, true, false, t);
     }
-    let both = set.o == 1;
-    opens(Phase::Coarse { w0: w0 }, true, both, false, t)
+    opens(Phase::Coarse { w0 }, true, set.o == 1, false, t)
 }
 
 // Fine stage of Fill: 2 open; at Wf closed.
@@ -259,7 +216,7 @@ fn fine_stage(set: Settings, w0: Units, t: Seen) -> Moved
     if reached_wf(set, x) {
         return rests(full(set, w0), t);
     }
-    opens(Phase::Fine { w0: w0 }, false, true, false, t)
+    opens(Phase::Fine { w0 }, false, true, false, t)
 }
 
 // AL0 and AL1, Ready: on start the zero, w0 = w; go on at once as Fill, coarse stage.
@@ -314,7 +271,7 @@ fn hold(t: Seen) -> Moved
 fn settle_ends(set: Settings, n: u64, stable: bool) -> bool
     ensures { result ≡ settle_ends set (n + 1) stable }
 {
-    let last = SETTLE_TICKS * (set.p9 as u64);
+    let last = SETTLE_TICKS * u64::from(set.p9);
     if n < last {
         return stable | (last <= n + 1);
     }
@@ -325,14 +282,17 @@ fn settle_ends(set: Settings, n: u64, stable: bool) -> bool
 fn discharge_opens(w0: Units, t: Seen) -> Moved
     ensures { result ≡ discharge_opens w0 t }
 {
-    let w = t.w;
-    let p = Phase::Discharge {
-        w0: w0,
-        ws: w,
+    let begun = Phase::Discharge {
+        w0,
+        ws: t.w,
         settled: t.stable,
     };
-    let g = outputs(false, false, true);
-    outcome(p, g, Dose::Nothing, t)
+    let gates = Gates {
+        one: false,
+        two: false,
+        three: true,
+    };
+    outcome(begun, gates, None, t)
 }
 
 // AL1: Settle, at tick number n before this tick.
@@ -342,7 +302,7 @@ fn settle(set: Settings, w0: Units, n: u64, t: Seen) -> Moved
     if settle_ends(set, n, t.stable) {
         return discharge_opens(w0, t);
     }
-    rests(Phase::Settle { w0: w0, n: n + 1 }, t)
+    rests(Phase::Settle { w0, n: n + 1 }, t)
 }
 
 // wS-wE if p11 = 0, wS-w0 if 1; below 0 it is 0.
@@ -362,12 +322,7 @@ fn discharge(set: Settings, w0: Units, ws: Units, settled: bool, t: Seen) -> Mov
     if below(widened(t.w), set.level) {
         return completes(amount_of(set, w0, ws, t.w), settled, t);
     }
-    let p = Phase::Discharge {
-        w0: w0,
-        ws: ws,
-        settled: settled,
-    };
-    opens(p, false, false, true, t)
+    opens(Phase::Discharge { w0, ws, settled }, false, false, true, t)
 }
 
 // AL2 and AL3, Load: w >= M closes 3, Calm.
@@ -396,12 +351,12 @@ fn dose_coarse(set: Settings, wh: Units, t: Seen) -> Moved
 {
     let x = difference(wh, t.w);
     if reached_wf(set, x) {
-        return rests(Phase::DoseSettle { wh: wh, n: 0 }, t);
+        return rests(Phase::DoseSettle { wh, n: 0 }, t);
     }
     if reached_wc(set, x) {
-        return opens(Phase::DoseFine { wh: wh }, false, true, false, t);
+        return opens(Phase::DoseFine { wh }, false, true, false, t);
     }
-    opens(Phase::DoseCoarse { wh: wh }, true, true, false, t)
+    opens(Phase::DoseCoarse { wh }, true, true, false, t)
 }
 
 // Fine stage of Dose: 2 open; at Wf closed.
@@ -409,9 +364,9 @@ fn dose_fine(set: Settings, wh: Units, t: Seen) -> Moved
     ensures { result ≡ dose_fine set wh t }
 {
     if reached_wf(set, difference(wh, t.w)) {
-        return rests(Phase::DoseSettle { wh: wh, n: 0 }, t);
+        return rests(Phase::DoseSettle { wh, n: 0 }, t);
     }
-    opens(Phase::DoseFine { wh: wh }, false, true, false, t)
+    opens(Phase::DoseFine { wh }, false, true, false, t)
 }
 
 // Settle of Dose: at its end the dose is complete, amount wH-w or 0 if below 0, Ready.
@@ -421,7 +376,7 @@ fn dose_settle(set: Settings, wh: Units, n: u64, t: Seen) -> Moved
     if settle_ends(set, n, t.stable) {
         return completes(not_below_zero(wh, t.w), t.stable, t);
     }
-    rests(Phase::DoseSettle { wh: wh, n: n + 1 }, t)
+    rests(Phase::DoseSettle { wh, n: n + 1 }, t)
 }
 
 // AL2, Ready: w < D opens 3, Load; else on start wH = w, Dose on the same tick.

@@ -1,30 +1,34 @@
 -- What the answer of a line's writer says, in the paper's words. Assumes nothing.
-use Rattle.std.specs.Prelude.{◌≡◌, refl, List, [], ◌∷◌, ℕ, length}
+use Rattle.std.specs.Prelude.{◌≡◌, refl, Result, Ok, Err, List, [], ◌∷◌, ℕ, length}
 use Rattle.paper.specs.Answer.{Answer, done, refused, Fills, fills_one}
 use Rattle.paper.specs.Numbers.{R8, R10}
 use Rattle.journal.specs.Line.{write_of, write_version_of}
 use Rattle.journal.specs.declared.Form.{Form}
 use Rattle.journal.specs.declared.Line.{Line}
-use Rattle.entry.specs.declared.Wrote.{Wrote}
-use Rattle.entry.specs.declared.Wrote.TheVariants as W
+use Rattle.entry.specs.declared.WriteError.{WriteError}
+use Rattle.entry.specs.declared.WriteError.TheVariants as E
+
+-- the length of what was written, or a refusal
+abbrev pub Wrote : Type 0
+Wrote = Result ℕ WriteError
 
 -- a writer's R10 carries line 0
 abbrev pub says_wrote : Wrote → Answer ℕ
-says_wrote (W.Line n) = done n
-says_wrote W.R10 = refused R10 (0 ∷ [])
-says_wrote W.R8 = refused R8 []
+says_wrote (Ok n) = done n
+says_wrote (Err E.R10) = refused R10 (0 ∷ [])
+says_wrote (Err E.R8) = refused R8 []
 
 -- two answers that say the same are equal
 pub wrote_one : (a b : Wrote) → says_wrote a ≡ says_wrote b → a ≡ b
-wrote_one (W.Line n) (W.Line m) e = cc
-wrote_one (W.Line n) W.R10 e = cc
-wrote_one (W.Line n) W.R8 e = cc
-wrote_one W.R10 (W.Line m) e = cc
-wrote_one W.R10 W.R10 e = refl
-wrote_one W.R10 W.R8 e = cc
-wrote_one W.R8 (W.Line m) e = cc
-wrote_one W.R8 W.R10 e = cc
-wrote_one W.R8 W.R8 e = refl
+wrote_one (Ok n) (Ok m) e = cc
+wrote_one (Ok n) (Err E.R10) e = cc
+wrote_one (Ok n) (Err E.R8) e = cc
+wrote_one (Err E.R10) (Ok m) e = cc
+wrote_one (Err E.R10) (Err E.R10) e = refl
+wrote_one (Err E.R10) (Err E.R8) e = cc
+wrote_one (Err E.R8) (Ok m) e = cc
+wrote_one (Err E.R8) (Err E.R10) e = cc
+wrote_one (Err E.R8) (Err E.R8) e = refl
 
 -- write: the line's text in its form from the buffer's start, or R10, or R8
 abbrev pub WritesLine : Form → Line → Wrote → List ℕ → List ℕ → Type 0

@@ -14,10 +14,9 @@ ghost use Rattle.entry.specs.Store.{FieldLength, ProductLength, Stores};
 use journal::{D, Form, H, Line, TWO, V};
 use text::{LF, TAB};
 
-// What the writer of a line answers: its length, or a refusal.
-#[derive(Clone, Copy)]
-pub enum Wrote {
-    Line(usize),
+// Why a line is not written: a value is out of range, or the buffer has no room.
+#[derive(Clone, Copy, Debug, PartialEq, Eq)]
+pub enum WriteError {
     R10,
     R8,
 }
@@ -44,19 +43,11 @@ fn in_range(form: Form, line: Line) -> bool
             settled,
             product,
         } => {
-            if hour > journal::HOUR_MOST {
-                return false;
-            }
-            if count > journal::COUNT_MOST {
-                return false;
-            }
-            if amount > journal::AMOUNT_MOST {
-                return false;
-            }
-            if settled > journal::SETTLED_MOST {
-                return false;
-            }
-            product <= product_most(form)
+            (hour <= journal::HOUR_MOST)
+                & (count <= journal::COUNT_MOST)
+                & (amount <= journal::AMOUNT_MOST)
+                & (settled <= journal::SETTLED_MOST)
+                & (product <= product_most(form))
         }
         Line::On { hour } => hour <= journal::HOUR_MOST,
     }
@@ -178,18 +169,17 @@ fn store_line(out: &mut [u8], form: Form, line: Line) -> usize
     }
 }
 
-// A line of a form written into a lent buffer: R10, then R8.
-pub fn write(form: Form, line: Line, out: &mut [u8]) -> Wrote
+// A line of a form written into a lent buffer: its length, or R10, then R8.
+pub fn write(form: Form, line: Line, out: &mut [u8]) -> Result<usize, WriteError>
     ensures { WritesLine form line result out.old out.new }
 {
     if !in_range(form, line) {
-        return Wrote::R10;
+        return Err(WriteError::R10);
     }
     if out.len() < text_len(form, line) {
-        return Wrote::R8;
+        return Err(WriteError::R8);
     }
-    let written = store_line(out, form, line);
-    Wrote::Line(written)
+    Ok(store_line(out, form, line))
 }
 
 // The V line stored from the start.
@@ -203,13 +193,12 @@ fn store_version(out: &mut [u8]) -> usize
     store_byte(out, after_number, LF)
 }
 
-// The V line written into a lent buffer: R8 where it has no room.
-pub fn write_version(out: &mut [u8]) -> Wrote
+// The V line written into a lent buffer: its length, or R8 where it has no room.
+pub fn write_version(out: &mut [u8]) -> Result<usize, WriteError>
     ensures { WritesVersion result out.old out.new }
 {
     if out.len() < journal::VERSION_LEN {
-        return Wrote::R8;
+        return Err(WriteError::R8);
     }
-    let written = store_version(out);
-    Wrote::Line(written)
+    Ok(store_version(out))
 }

@@ -1,5 +1,5 @@
 -- The rules of the writer, the reader and the echo, by the tests that the code makes.
-use mathlib.Core.Path.{◌≡◌, refl, sym}
+use mathlib.Core.Path.{◌≡◌, refl, sym, ◌∙◌}
 use mathlib.Core.Bool.{Bool, true, false, ◌&&◌}
 use mathlib.Core.List.{[]}
 use Prim.Native.Nat.{ℕ, ◌<◌}
@@ -8,10 +8,14 @@ use lib.Dec.{leb}
 use lib.IntN.{nat_abs}
 use borrow.Author.Tests.{lt-leb}
 use Rattle.laws.specs.Pick.{pick, pick-t, pick-f}
+use Rattle.laws.specs.Whole.{false-true}
 use Rattle.paper.specs.Answer.{done, refused}
 use Rattle.paper.specs.Numbers.{R16}
 use Rattle.field.specs.Field.{is_bcd, field_of, writable, write_of, weight_of, readable, read_of, echo_of}
 use Rattle.field.specs.RoundTrip.{read-written}
+use Rattle.std.specs.Prelude.{Result, Ok, Err, IsErr}
+use Rattle.field.specs.Says.{says_written, says_got, says-err}
+use Rattle.field.specs.declared.FieldError.{FieldError}
 use Rattle.field.specs.declared.Field.{Field}
 use Rattle.field.specs.declared.Weight.{Weight}
 
@@ -69,6 +73,11 @@ refused-way v true e = absurd (let z : ◌≡◌ {A = ℕ} 0 1 = cc in omega ari
 refused-way v false e = refl
 
 -- what the writer refuses is not read back
-pub echo-refused : (v : Weight) → write_of v ≡ refused R16 [] → echo_of v ≡ refused R16 []
+echo-refused : (v : Weight) → write_of v ≡ refused R16 [] → echo_of v ≡ refused R16 []
 unfolding write_of echo_of
 echo-refused v e = refused-way v (writable v) e
+
+-- a refusal of the writer is the echo's
+pub echo-err : (v : Weight) (e : FieldError) (r : Result Weight FieldError) → says_written (Err e) ≡ write_of v → IsErr r → says_got r ≡ echo_of v
+echo-err v e (Err d) h i = says-err d ∙ sym (echo-refused v (sym h ∙ says-err e))
+echo-err v e (Ok x) h i = false-true i

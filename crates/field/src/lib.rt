@@ -2,11 +2,11 @@
 #![tactic(auto)]
 
 ghost use Rattle.std.specs.Prelude.{◌≡◌, true, ◌≤◌, ◌<◌, ◌^◌, nat_abs};
-ghost use Rattle.field.specs.Field.{bcd_of, is_bcd, value_of, bit_of, has_bit, negative, con_of, field_of, writable, signed, weight_of};
+ghost use Rattle.field.specs.Field.{bcd_of, is_bcd, value_of, bit_of, has_bit, con_of, field_of, writable, signed, weight_of};
 ghost use Rattle.field.specs.Says.{Sizes, WritesWeight, ReadsWeight, Echoes};
 
 // What a field stands for.
-#[derive(Clone, Copy)]
+#[derive(Clone, Copy, Debug, PartialEq, Eq)]
 pub struct Weight {
     pub value: i32,
     pub stable: bool,
@@ -15,7 +15,7 @@ pub struct Weight {
 }
 
 // The four bytes of a field, in the order in which they are sent.
-#[derive(Clone, Copy)]
+#[derive(Clone, Copy, Debug, PartialEq, Eq)]
 pub struct Field {
     pub low: u8,
     pub middle: u8,
@@ -23,15 +23,9 @@ pub struct Field {
     pub con: u8,
 }
 
-#[derive(Clone, Copy)]
-pub enum Written {
-    Bytes(Field),
-    R16,
-}
-
-#[derive(Clone, Copy)]
-pub enum Got {
-    Values(Weight),
+// Why a weight is not written, or a field not read.
+#[derive(Clone, Copy, Debug, PartialEq, Eq)]
+pub enum FieldError {
     R16,
 }
 
@@ -39,19 +33,7 @@ pub enum Got {
 pub fn size_of(value: i32) -> u32
     ensures { Sizes value result }
 {
-    let wide = value as i64;
-    if wide < 0 {
-        (0 - wide) as u32
-    } else {
-        wide as u32
-    }
-}
-
-// Only a number below 0 has a sign.
-fn is_negative(value: i32) -> bool
-    ensures { result ≡ negative value }
-{
-    value < 0
+    value.unsigned_abs()
 }
 
 // A size with its sign: minus 0 is 0.
@@ -59,14 +41,11 @@ fn with_sign(minus: bool, size: u32) -> i32
     requires { size < 2 ^ 24 }
     ensures { result ≡ signed minus size }
 {
-    if minus {
-        0 - (size as i32)
-    } else {
-        size as i32
-    }
+    if minus { -(size as i32) } else { size as i32 }
 }
 
 // A bit's worth where its flag is on.
+#[tactic(auto, using(laws::specs::Pick::picks), unfolding(crate::specs::Field::bit_of))]
 fn bit_of(on: bool, worth: u8) -> u8
     ensures { result ≡ bit_of on worth }
 {
@@ -74,6 +53,7 @@ fn bit_of(on: bool, worth: u8) -> u8
 }
 
 // Whether the bit of this worth is on.
+#[tactic(auto, unfolding(crate::specs::Field::has_bit))]
 fn has_bit(con: u8, worth: u8) -> bool
     requires { 0 < worth }
     ensures { result ≡ has_bit con worth }
@@ -82,6 +62,7 @@ fn has_bit(con: u8, worth: u8) -> bool
 }
 
 // Two digits as a byte.
+#[tactic(auto, unfolding(crate::specs::Field::bcd_of))]
 fn bcd_of(digits: u32) -> u8
     requires { digits < 100 }
     ensures { result ≡ bcd_of digits }
@@ -90,17 +71,19 @@ fn bcd_of(digits: u32) -> u8
 }
 
 // Whether both halves of a byte are digits.
+#[tactic(auto, unfolding(crate::specs::Field::is_bcd))]
 fn is_bcd(byte: u8) -> bool
     ensures { result ≡ is_bcd byte }
 {
-    (byte % 16 <= 9) & (byte / 16 <= 9)
+    byte % 16 <= 9 && byte / 16 <= 9
 }
 
 // The number of a byte's two halves.
+#[tactic(auto, unfolding(crate::specs::Field::value_of))]
 fn value_of(byte: u8) -> u32
     ensures { result ≡ value_of byte }
 {
-    ((byte / 16) as u32) * 10 + ((byte % 16) as u32)
+    u32::from(byte / 16 * 10 + byte % 16)
 }
 
 // CON of a weight.
@@ -108,10 +91,7 @@ fn con_of(v: Weight) -> u8
     requires { v.point ≤ 7 }
     ensures { result ≡ con_of v }
 {
-    let sign = bit_of(is_negative(v.value), 128);
-    let stable = bit_of(v.stable, 16);
-    let over = bit_of(v.over, 8);
-    sign + stable + over + v.point
+    bit_of(v.value < 0, 128) + bit_of(v.stable, 16) + bit_of(v.over, 8) + v.point
 }
 
 // The field of a weight that can be written, from its size.
@@ -141,41 +121,30 @@ fn weight_of(f: Field) -> Weight
 }
 
 // The field of a weight, or R16.
-pub fn write(weight: Weight) -> Written
+pub fn write(weight: Weight) -> Result<Field, FieldError>
     ensures { WritesWeight weight result }
 {
     let size = size_of(weight.value);
-    if size > 999999 {
-        return Written::R16;
+    if size > 999999 || weight.point > 7 {
+        return Err(FieldError::R16);
     }
-    if weight.point > 7 {
-        return Written::R16;
-    }
-    Written::Bytes(field_of(weight, size))
+    Ok(field_of(weight, size))
 }
 
 // What a field stands for, or R16.
-pub fn read(field: Field) -> Got
+pub fn read(field: Field) -> Result<Weight, FieldError>
     ensures { ReadsWeight field result }
 {
-    if !is_bcd(field.low) {
-        return Got::R16;
+    if is_bcd(field.low) && is_bcd(field.middle) && is_bcd(field.high) {
+        Ok(weight_of(field))
+    } else {
+        Err(FieldError::R16)
     }
-    if !is_bcd(field.middle) {
-        return Got::R16;
-    }
-    if !is_bcd(field.high) {
-        return Got::R16;
-    }
-    Got::Values(weight_of(field))
 }
 
 // What was written, read back.
-pub fn echo(weight: Weight) -> Got
+pub fn echo(weight: Weight) -> Result<Weight, FieldError>
     ensures { Echoes weight result }
 {
-    match write(weight) {
-        Written::Bytes(field) => read(field),
-        Written::R16 => Got::R16,
-    }
+    read(write(weight)?)
 }

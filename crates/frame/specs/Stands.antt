@@ -1,5 +1,7 @@
 -- What the reader's state and buffer stand for. Assumes nothing.
-use Rattle.std.specs.Prelude.{◌≡◌, List, ℕ, ◌+◌, ◌≤◌, length, take, drop}
+use Rattle.std.specs.Prelude.{◌≡◌, ◌==◌, ◌++◌, List, ℕ, ◌+◌, ◌<◌, ◌≤◌, length, take, drop, get_or}
+use Rattle.std.specs.List.{position}
+use Rattle.std.specs.Option.{unwrap_or}
 use Rattle.frame.specs.Read.{Reading, seek, lead, body, mark, ended, run}
 use Rattle.frame.specs.declared.State.{State}
 use Rattle.frame.specs.declared.State.TheVariants as S
@@ -41,3 +43,18 @@ pub record Takes (s : List ℕ) (i n : ℕ) (old new : List ℕ) (r : ℕ) : Typ
   pub fits : n + r ≤ 255
   pub full : length new ≡ 255
   pub same : (p : ℕ) → run (body p (take (n + r) new)) (i + r) (drop (i + r) s) ≡ run (body p (take n old)) i (drop i s)
+
+-- how many bytes stand before the first FF
+abbrev pub before_mark : List ℕ → ℕ
+before_mark s = unwrap_or (position (λ b. b == 0xFF) s) (length s)
+
+-- s begins with r bytes none of which is FF
+pub record Plain (s : List ℕ) (r : ℕ) : Type 0 where
+  pub inside : r ≤ length s
+  pub none : (j : ℕ) → j < r → get_or s j 0 ≡ 0xFF → ⊥
+
+-- the first r bytes of s, none of them FF, are put at the start of a room
+pub record Copies (s old new : List ℕ) (r : ℕ) : Type 0 where
+  pub plain : Plain s r
+  pub room : r ≤ length old
+  pub left : new ≡ take r s ++ drop r old

@@ -1,42 +1,41 @@
 // Tenso-M frames: the check byte, the frame writer and the frame reader.
 #![tactic(auto)]
 
-ghost use Rattle.std.specs.Prelude.{◌≡◌, ◌++◌, ◌+◌, ◌-◌, ◌≤◌, length, take, replicate};
+ghost use Rattle.std.specs.Prelude.{◌≡◌, ◌==◌, ◌+◌, ◌≤◌, length, take, get_or};
 ghost use Rattle.std.proofs.lemmas.List.Edits.{sets};
-ghost use Rattle.paper.specs.Answer.{Answer, told, bytes_in};
+ghost use Rattle.std.specs.List.{position};
 ghost use Rattle.frame.specs.Check.{check, enter};
 ghost use Rattle.frame.specs.Table.{entries};
-ghost use Rattle.frame.specs.Frame.{sent_byte, sent, frame};
-ghost use Rattle.frame.specs.Read.{grown, step, read_all, too_short, bad_body, Finished, answer_of};
-ghost use Rattle.frame.specs.Says.{says_found, place_and_length, bytes_of, ChecksTo, TellsFramable, Writes, ReadsFrame};
+ghost use Rattle.frame.specs.Frame.{sent_byte, sent, frame, fewest};
+ghost use Rattle.frame.specs.Read.{grown, step, read_all, too_short, bad_body};
+ghost use Rattle.frame.specs.Says.{ChecksTo, TellsFramable, Writes, ReadsFrame};
 ghost use Rattle.frame.specs.Puts.{PutsBytes};
-ghost use Rattle.frame.specs.Stands.{stands, Held, HoldsReading, Skips, Takes};
+ghost use Rattle.frame.specs.Stands.{stands, Held, HoldsReading, before_mark, Copies};
 
 mod table;
 
 use table::TABLE;
 
-// What the writer answers: the length of the frame, or a refusal.
-#[derive(Clone, Copy)]
-pub enum Wrote {
-    Frame(usize),
+// Why a body has no frame in the buffer.
+#[derive(Clone, Copy, Debug, PartialEq, Eq)]
+pub enum WriteError {
     R14,
     R8,
 }
 
-// What the reader answers: the place of the second closing FF and the body's length, R9 with its place, or R6 with the place of the second closing FF.
+// A finished body of len bytes, and the place of the second closing FF; the places past the body are 0.
 #[derive(Clone, Copy)]
-pub enum Found {
-    Body { place: usize, len: usize },
-    R9(usize),
-    R6(usize),
+pub struct Finished {
+    pub place: usize,
+    pub len: usize,
+    pub body: [u8; 255],
 }
 
-// The reader's answer beside the body; the places past the body are 0.
-#[derive(Clone, Copy)]
-pub struct Read {
-    pub found: Found,
-    pub body: [u8; 255],
+// Why no body is read: R9 with its place, or R6 with the place of the second closing FF.
+#[derive(Clone, Copy, Debug, PartialEq, Eq)]
+pub enum ReadError {
+    R9(usize),
+    R6(usize),
 }
 
 // How far reading has come: the places of FF bytes and the length of the body.
@@ -80,45 +79,40 @@ pub fn check_byte(body: &[u8]) -> u8
 {
     let table = made_table();
     let mut c: u8 = 0;
-    let mut i: usize = 0;
-    while i < body.len() {
-        c = enter(&table, c, body[i]);
-        i += 1;
+    for x in body {
+        c = enter(&table, c, *x);
     }
     enter(&table, c, 0)
+}
+
+// The first byte of a body; 0 where there is none.
+fn first(body: &[u8]) -> u8
+    ensures { result ≡ get_or body.now 0 0 }
+{
+    body.first().copied().unwrap_or(0)
+}
+
+// How few bytes a body has before its check.
+fn fewest(body: &[u8]) -> usize
+    ensures { result ≡ fewest body.now }
+{
+    if first(body) == 0 { 5 } else { 2 }
 }
 
 // Whether a body can be framed.
 pub fn framable(body: &[u8]) -> bool
     ensures { TellsFramable body.now result }
 {
-    if body.len() < 2 {
-        return false;
-    }
-    if 254 < body.len() {
-        return false;
-    }
-    let first = body[0];
-    if first == 0xFF {
-        return false;
-    }
-    if first == 0xFE {
-        return false;
-    }
-    if first == 0 {
-        return 5 <= body.len();
-    }
-    true
+    let first = first(body);
+    let len = body.len();
+    (first != 0xFF) & (first != 0xFE) & (fewest(body) <= len) & (len <= 254)
 }
 
 // How many bytes send a body byte.
 fn byte_len(b: u8) -> usize
     ensures { result ≡ length (sent_byte b) }
 {
-    if b == 0xFF {
-        return 2;
-    }
-    1
+    if b == 0xFF { 2 } else { 1 }
 }
 
 // How many bytes send a body.
@@ -127,10 +121,8 @@ fn sent_len(body: &[u8]) -> usize
     ensures { result ≡ length (sent body.now) }
 {
     let mut n: usize = 0;
-    let mut i: usize = 0;
-    while i < body.len() {
-        n += byte_len(body[i]);
-        i += 1;
+    for b in body {
+        n += byte_len(*b);
     }
     n
 }
@@ -162,10 +154,8 @@ fn put_body(out: &mut [u8], at: usize, body: &[u8]) -> usize
     ensures { PutsBytes (sent body.now) out.old out.new at result }
 {
     let mut to = at;
-    let mut i: usize = 0;
-    while i < body.len() {
-        to = put_byte(out, to, body[i]);
-        i += 1;
+    for b in body {
+        to = put_byte(out, to, *b);
     }
     to
 }
@@ -183,19 +173,19 @@ fn put_frame(out: &mut [u8], body: &[u8], c: u8)
 }
 
 // Writes the frame of a body from the buffer's start; a refusal leaves the buffer as it was.
-pub fn write_frame(body: &[u8], out: &mut [u8]) -> Wrote
+pub fn write_frame(body: &[u8], out: &mut [u8]) -> Result<usize, WriteError>
     ensures { Writes body.now out.old out.new result }
 {
     if !framable(body) {
-        return Wrote::R14;
+        return Err(WriteError::R14);
     }
     let c = check_byte(body);
     let n = frame_len(body, c);
     if out.len() < n {
-        return Wrote::R8;
+        return Err(WriteError::R8);
     }
     put_frame(out, body, c);
-    Wrote::Frame(n)
+    Ok(n)
 }
 
 // A body of n bytes grows by one, or is dropped.
@@ -250,42 +240,31 @@ fn step(st: State, buf: &mut [u8], i: usize, b: u8) -> State
             }
             grow(buf, last, 0, b)
         }
-        State::Ended { len: _, place: _ } => st,
+        State::Ended { .. } => st,
     }
 }
 
-// The place of the first FF from place i on, or that after the last byte.
-fn skip(bytes: &[u8], i: usize) -> usize
-    requires { i ≤ length bytes.now }
-    ensures { Skips bytes.now i result }
+// Where the first FF stands.
+fn mark(bytes: &[u8]) -> Option<usize>
+    ensures { result ≡ position (λ b. b == 0xFF) bytes.now }
 {
-    let mut p = i;
-    while p < bytes.len() {
-        if bytes[p] == 0xFF {
-            return p;
-        }
-        p += 1;
-    }
-    p
+    bytes.iter().position(|b| *b == 0xFF)
 }
 
-// Takes the bytes from place i on into a body of n bytes, as long as none is FF and there is room, and answers how many.
-fn fill(bytes: &[u8], i: usize, buf: &mut [u8], n: usize) -> usize
-    requires { (i ≤ length bytes.now) × (length buf.old ≡ 255) × (n ≤ 255) }
-    ensures { Takes bytes.now i n buf.old buf.new result }
+// How many bytes stand before the first FF.
+fn before_mark(bytes: &[u8]) -> usize
+    ensures { result ≡ before_mark bytes.now }
 {
-    let mut k: usize = 0;
-    while i + k < bytes.len() {
-        let b = bytes[i + k];
-        if b == 0xFF {
-            return k;
-        }
-        if 255 <= n + k {
-            return k;
-        }
-        buf[n + k] = b;
-        k += 1;
-    }
+    mark(bytes).unwrap_or(bytes.len())
+}
+
+// Puts the first bytes into the room lent, as long as none is FF, and answers how many.
+fn fill(bytes: &[u8], room: &mut [u8]) -> usize
+    ensures { Copies bytes.now room.old room.new result }
+{
+    let most = usize::min(bytes.len(), room.len());
+    let k = before_mark(&bytes[..most]);
+    room[..k].copy_from_slice(&bytes[..k]);
     k
 }
 
@@ -300,14 +279,10 @@ fn scan(bytes: &[u8], buf: &mut [u8]) -> State
         st = step(st, buf, i, bytes[i]);
         i += 1;
         match st {
-            State::Ended { len: _, place: _ } => {
-                return st;
-            }
-            State::Seek => {
-                i = skip(bytes, i);
-            }
+            State::Ended { .. } => return st,
+            State::Seek => i += before_mark(&bytes[i..]),
             State::Body { before, len } => {
-                let k = fill(bytes, i, buf, len);
+                let k = fill(&bytes[i..], &mut buf[len..]);
                 st = State::Body {
                     before,
                     len: len + k,
@@ -324,77 +299,32 @@ fn scan(bytes: &[u8], buf: &mut [u8]) -> State
 fn too_short(body: &[u8]) -> bool
     ensures { result ≡ too_short body.now }
 {
-    if body.len() < 3 {
-        return true;
-    }
-    if body[0] == 0 {
-        return body.len() < 6;
-    }
-    false
+    body.len() <= fewest(body)
 }
 
 // Whether a finished body is too short or its check is not 0.
 fn bad_body(body: &[u8]) -> bool
     ensures { result ≡ bad_body body.now }
 {
-    if too_short(body) {
-        return true;
-    }
-    check_byte(body) != 0
-}
-
-// Puts 0 at each place from n on.
-fn clear(buf: &mut [u8], n: usize)
-    requires { n ≤ length buf.old }
-    ensures { buf.new ≡ take n buf.old ++ replicate (length buf.old - n) 0 }
-{
-    let mut i = n;
-    while i < buf.len() {
-        buf[i] = 0;
-        i += 1;
-    }
-}
-
-// What is answered of n bytes where reading has come so far: R9 with its place, R6, or the body.
-fn answer_of(st: State, buf: &[u8], n: usize) -> Found
-    requires { Held st buf.now }
-    ensures { says_found result ≡ told place_and_length (answer_of n (stands st buf.now)) }
-{
-    match st {
-        State::Seek => Found::R9(n),
-        State::Lead(before) => Found::R9(before),
-        State::Body { before, len: _ } => Found::R9(before),
-        State::Mark {
-            before,
-            len: _,
-            last: _,
-        } => Found::R9(before),
-        State::Ended { len, place } => {
-            if bad_body(&buf[..len]) {
-                return Found::R6(place);
-            }
-            Found::Body { place, len }
-        }
-    }
-}
-
-// The length of the body that is answered; 0 where none is.
-fn body_len(found: Found) -> usize
-    ensures { (a : Answer Finished) → says_found found ≡ told place_and_length a → result ≡ length (bytes_in (told bytes_of a)) }
-{
-    match found {
-        Found::Body { place: _, len } => len,
-        _ => 0,
-    }
+    too_short(body) || check_byte(body) != 0
 }
 
 // Reads bytes up to the end of the first finished body, and answers that body or why there is none.
-pub fn read_frame(bytes: &[u8]) -> Read
+pub fn read_frame(bytes: &[u8]) -> Result<Finished, ReadError>
     ensures { ReadsFrame bytes.now result }
 {
-    let mut buf = [0u8; 255];
-    let st = scan(bytes, &mut buf);
-    let found = answer_of(st, &buf, bytes.len());
-    clear(&mut buf, body_len(found));
-    Read { found, body: buf }
+    let mut body = [0u8; 255];
+    match scan(bytes, &mut body) {
+        State::Seek => Err(ReadError::R9(bytes.len())),
+        State::Lead(before) | State::Body { before, .. } | State::Mark { before, .. } => {
+            Err(ReadError::R9(before))
+        }
+        State::Ended { len, place } => {
+            if bad_body(&body[..len]) {
+                return Err(ReadError::R6(place));
+            }
+            body[len..].fill(0);
+            Ok(Finished { place, len, body })
+        }
+    }
 }

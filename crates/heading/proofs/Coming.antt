@@ -5,6 +5,7 @@ use mathlib.Core.List.{List, [], ◌∷◌, ◌++◌, append_assoc, append-nil}
 use mathlib.Core.Logic.{◌⊎◌, inl, inr}
 use Prim.Native.Nat.{ℕ, suc, ◌+◌, ◌-◌, ◌≤◌, ◌<◌}
 use native.Mathlib.Omega.{arith}
+use Rattle.std.specs.Prelude.{Option, Some, None}
 use lib.Dec.{ltb}
 use lib.ListN.{length, take, drop, length-drop, length-append, length-replicate, drop_of_length-le}
 use lib.Seq.{drop-drop, take_at, take-add, length-take-le}
@@ -16,10 +17,7 @@ use Rattle.lines.specs.Places.{plain_length, end_of, part_of, plain-taken, plain
 use Rattle.lines.specs.Intake.{start_of, pending, comes, overlong, line_to, begun_to, next_of, handed, HandsOver, NextStands, Behind, next-steps, carry-pending}
 use Rattle.lines.specs.declared.Intake.{Intake}
 use Rattle.lines.specs.declared.Taken.{Taken}
-use Rattle.lines.specs.declared.Next.{Next}
-use Rattle.lines.specs.declared.Next.TheVariants.{Line, More}
-use Rattle.refill.specs.Refills.{Refills}
-use Rattle.refill.specs.declared.Refilled.{Refilled}
+use Rattle.refill.specs.Refills.{Refills, held-is, none-came}
 use Rattle.heading.specs.Heading.{Begun, Cut, Heads, Turns, ReadsHeading, Continues}
 use Rattle.heading.specs.declared.Found.{Found}
 use Rattle.heading.specs.declared.Found.TheVariants as F
@@ -53,15 +51,15 @@ module _ (i : Intake) (buffer : List ℕ) where
   abbrev end : ℕ
   end = i.at + plain_length rest
 
-  no_more : {Q : Type 0} (from to : ℕ) → More ≡ Line from to → Q
+  no_more : {Q : Type 0} (from to : ℕ) → ◌≡◌ {A = Option (ℕ × ℕ)} None (Some (from, to)) → Q
   no_more from to e = let z : ◌≡◌ {A = ℕ} 0 1 = cc in absurd (omega arith)
 
   -- a line that is handed over stands first of what was pending, before its LF
-  pub passed : (t : Taken) (from to : ℕ) → HandsOver i buffer t → t.next ≡ Line from to → (line : List ℕ) × (pending i buffer ≡ line ++ LF ∷ pending t.intake buffer) × Plain line
+  pub passed : (t : Taken) (from to : ℕ) → HandsOver i buffer t → t.next ≡ Some (from, to) → (line : List ℕ) × (pending i buffer ≡ line ++ LF ∷ pending t.intake buffer) × Plain line
   unfolding pending next_of end_of line_to pick
   passed t from to e n = go (ltb end (length held)) refl e
     where
-      go : (b : Bool) → ltb end (length held) ≡ b → t ≡ pick b (line_to i end) (record { intake = begun_to i end; next = More })
+      go : (b : Bool) → ltb end (length held) ≡ b → t ≡ pick b (line_to i end) (record { intake = begun_to i end; next = None })
           → (line : List ℕ) × (drop i.at (take i.have buffer) ≡ line ++ LF ∷ drop t.intake.at (take t.intake.have buffer)) × Plain line
       go true p e =
           let h = ltb-true end (length held) p in
@@ -79,7 +77,7 @@ module _ (i : Intake) (buffer : List ℕ) where
   Size gone long = ((long ≡ false) × (gone ≡ [])) ⊎ ((long ≡ true) × (4095 < length gone))
 
   -- where none is, the bytes that came have no LF, and they are still known
-  pub left : (t : Taken) → HandsOver i buffer t → t.next ≡ More → (came : List ℕ) → Begun came i buffer → Plain came × Begun came t.intake buffer
+  pub left : (t : Taken) → HandsOver i buffer t → t.next ≡ None → (came : List ℕ) → Begun came i buffer → Plain came × Begun came t.intake buffer
   unfolding pending next_of end_of line_to begun_to overlong pick
   left t e n came b = go (ltb end (length held)) refl e
     where
@@ -97,7 +95,7 @@ module _ (i : Intake) (buffer : List ℕ) where
           record { gone = came; whole = sym (append-nil came) ∙ ap (λ (l : List ℕ). came ++ l) (sym none); plain = p; size = inr (ap (λ (j : Intake). j.long) q, dropped (which i.long b.size o l)) }
       stays false o h l q p = subst (λ (j : Intake). Begun came j buffer) (sym q) b
 
-      go : (x : Bool) → ltb end (length held) ≡ x → t ≡ pick x (line_to i end) (record { intake = begun_to i end; next = More }) → Plain came × Begun came t.intake buffer
+      go : (x : Bool) → ltb end (length held) ≡ x → t ≡ pick x (line_to i end) (record { intake = begun_to i end; next = None }) → Plain came × Begun came t.intake buffer
       go true p e = no_more _ _ (sym n ∙ ap (λ (x : Taken). x.next) e)
       go false p e =
           let h = ltb-false end (length held) p in
@@ -107,13 +105,13 @@ module _ (i : Intake) (buffer : List ℕ) where
           (plain, stays (i.long || ltb 4095 (end - i.at)) refl h l (ap (λ (x : Taken). x.intake) e) plain)
 
   -- the line stands in the buffer, an empty one where it is too long
-  stood : (t : Taken) (from to : ℕ) (line gone : List ℕ) → HandsOver i buffer t → t.next ≡ Line from to → pending i buffer ≡ line ++ LF ∷ pending t.intake buffer → Plain line → Size gone i.long
+  stood : (t : Taken) (from to : ℕ) (line gone : List ℕ) → HandsOver i buffer t → t.next ≡ Some (from, to) → pending i buffer ≡ line ++ LF ∷ pending t.intake buffer → Plain line → Size gone i.long
       → part_of from to buffer ≡ asked (gone ++ line)
   unfolding comes handed begun_of
   stood t from to line gone e n w p s =
       let steps = (next-steps i buffer).comes [] in
       let by : comes i buffer [] ≡ handed buffer t.next ++ comes t.intake buffer [] = subst (λ (x : Taken). comes i buffer [] ≡ handed buffer x.next ++ comes x.intake buffer []) (sym e) steps in
-      let ours : comes i buffer [] ≡ part_of from to buffer ∷ comes t.intake buffer [] = by ∙ ap (λ (x : Next). handed buffer x ++ comes t.intake buffer []) n in
+      let ours : comes i buffer [] ≡ part_of from to buffer ∷ comes t.intake buffer [] = by ∙ ap (λ (x : Option (ℕ × ℕ)). handed buffer x ++ comes t.intake buffer []) n in
       let theirs : comes i buffer [] ≡ asked (begun_of i.long ++ line) ∷ lines_of [] (pending t.intake buffer ++ []) =
       ap (λ (l : List ℕ). lines_of (begun_of i.long) (l ++ [])) w ∙ ap (lines_of (begun_of i.long)) (append_assoc line (LF ∷ pending t.intake buffer) []) ∙ lines-whole line (begun_of i.long) (pending t.intake buffer ++ []) p in
       let same : part_of from to buffer ≡ asked (begun_of i.long ++ line) = cc in
@@ -126,13 +124,13 @@ module _ (i : Intake) (buffer : List ℕ) where
           ∙ long-empty (begun_of true ++ line) (omega (arith, length-append (begun_of true) line, long-begun))
           ∙ sym (long-empty (gone ++ line) (omega (arith, x.1, length-append gone line)))
 
-  line-within : (t : Taken) (from to : ℕ) → HandsOver i buffer t → t.next ≡ Line from to → (from ≤ to) × (to < length buffer)
+  line-within : (t : Taken) (from to : ℕ) → HandsOver i buffer t → t.next ≡ Some (from, to) → (from ≤ to) × (to < length buffer)
   line-within t from to e n =
       let s : NextStands i buffer t.intake t.next = subst (λ (x : Taken). NextStands i buffer x.intake x.next) (sym e) (next-steps i buffer).stands in
-      let b : Behind i buffer from to t.intake = subst (λ (x : Next). NextStands i buffer t.intake x) n s in
+      let b : Behind i buffer from to t.intake = subst (λ (x : Option (ℕ × ℕ)). NextStands i buffer t.intake x) n s in
       (b.order, b.inside)
 
-  cut_of : (t : Taken) (from to : ℕ) → HandsOver i buffer t → t.next ≡ Line from to → (came : List ℕ) → Begun came i buffer → Cut came from to t.intake buffer
+  cut_of : (t : Taken) (from to : ℕ) → HandsOver i buffer t → t.next ≡ Some (from, to) → (came : List ℕ) → Begun came i buffer → Cut came from to t.intake buffer
   cut_of t from to e n came b =
       let w = line-within t from to e n in
       let p = passed t from to e n in
@@ -146,15 +144,15 @@ module _ (i : Intake) (buffer : List ℕ) where
       }
 
   -- a turn that finds the line reads nothing
-  pub turned-line : (t : Taken) (from to : ℕ) → HandsOver i buffer t → t.next ≡ Line from to → Turns i buffer buffer (record { found = F.Line from to; intake = t.intake })
+  pub turned-line : (t : Taken) (from to : ℕ) → HandsOver i buffer t → t.next ≡ Some (from, to) → Turns i buffer buffer (record { found = F.Line from to; intake = t.intake })
   turned-line t from to e n = record {
     brought = [];
     heads = λ came b. subst (λ (l : List ℕ). Cut l from to t.intake buffer) (sym (append-nil came)) (cut_of t from to e n came b);
   }
 
   -- one that does not reads on
-  pub turned_more : (t : Taken) (new : List ℕ) (r : Refilled) → HandsOver i buffer t → t.next ≡ More → Refills t.intake buffer new r → Turns i buffer new (record { found = F.More; intake = r.intake })
-  turned_more t new r e n f = record {
+  pub turned_more : (t : Taken) (new : List ℕ) (r : Option Intake) (j : Intake) → HandsOver i buffer t → t.next ≡ None → Refills t.intake buffer new r → r ≡ Some j → Turns i buffer new (record { found = F.More; intake = j })
+  turned_more t new r j e n f h = subst (λ (k : Intake). Turns i buffer new (record { found = F.More; intake = k })) (held-is f h) (record {
     brought = f.got;
     heads = λ came b.
         let k = (left t e n came b).1 in
@@ -167,17 +165,13 @@ module _ (i : Intake) (buffer : List ℕ) where
           plain = k.plain;
           size = subst (λ (x : Bool). Size k.gone x) (sym f.long) k.size;
         };
-  }
-
-  none-got : (l : List ℕ) → ltb 0 (length l) ≡ false → l ≡ []
-  none-got [] e = refl
-  none-got (x ∷ xs) e = absurd (omega (arith, ltb-false 0 (length (x ∷ xs)) e))
+  })
 
   -- where nothing came there is no line
-  pub turned_none : (t : Taken) (new : List ℕ) (r : Refilled) (j : Intake) → HandsOver i buffer t → t.next ≡ More → Refills t.intake buffer new r → r.more ≡ false → Turns i buffer new (record { found = F.Nothing; intake = j })
+  pub turned_none : (t : Taken) (new : List ℕ) (r : Option Intake) (j : Intake) → HandsOver i buffer t → t.next ≡ None → Refills t.intake buffer new r → r ≡ None → Turns i buffer new (record { found = F.Nothing; intake = j })
   turned_none t new r j e n f m = record {
     brought = f.got;
-    heads = λ came b. plain-both came f.got (left t e n came b).0 (subst Plain (sym (none-got f.got (sym f.more ∙ m))) tt);
+    heads = λ came b. plain-both came f.got (left t e n came b).0 (subst Plain (sym (none-came f m)) tt);
   }
 
 -- what was pending stands at the start, and behind it what was read

@@ -1,6 +1,6 @@
 -- What the first line of the input is, where it stands, and what stands behind it. Assumes nothing.
 use Rattle.std.specs.Prelude.{◌≡◌, true, false, List, [], ◌∷◌, ◌++◌, ◌⊎◌, ℕ, ◌-◌, ◌≤◌, ◌<◌, length, take, drop}
-use Rattle.std.proofs.Common.{ap}
+use Rattle.std.proofs.Common.{ap, subst, inl, inr}
 use Rattle.text.specs.Scan.{LF}
 use Rattle.lines.specs.Lines.{Plain, asked}
 use Rattle.lines.specs.Places.{part_of}
@@ -33,6 +33,14 @@ said_more rule none found buffer e = ap (λ (f : Found). said_of rule none f buf
 pub said-nothing : {A : Type 0} (rule : List ℕ → A) (none : A) (found : Found) (buffer : List ℕ) → found ≡ F.Nothing → said_of rule none found buffer ≡ none
 unfolding said_of
 said-nothing rule none found buffer e = ap (λ (f : Found). said_of rule none f buffer) e
+
+pub no-line : {A : Type 0} (rule : List ℕ → A) (none : A) (found : Found) (buffer : List ℕ) → (found ≡ F.More) ⊎ (found ≡ F.Nothing) → said_of rule none found buffer ≡ none
+no-line rule none found buffer (inl e) = said_more rule none found buffer e
+no-line rule none found buffer (inr e) = said-nothing rule none found buffer e
+
+-- the line that was found lies in the buffer
+pub line-inside : (found : Found) (from to size : ℕ) → Inside found size → found ≡ F.Line from to → (from ≤ to) × (to < size)
+line-inside found from to size i e = subst (λ (f : Found). Inside f size) e i
 
 -- no LF has come yet: what came is what is pending, behind bytes that were dropped as too long already
 pub record Begun (came : List ℕ) (i : Intake) (buffer : List ℕ) : Type 0 where

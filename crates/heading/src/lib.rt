@@ -3,13 +3,17 @@
 
 ghost use Rattle.heading.specs.Heading.{Turns, ReadsHeading, Behind};
 
-use lines::{Intake, Next};
+use lines::Intake;
 use std::rt::Stdin;
 
 // Standard input.
 const STDIN_FILENO: i32 = 0;
 
+// More turns than any input has.
+const TURNS: u64 = 1 << 63;
+
 // The first line, from one place of the buffer to another, its LF left out; that more has to be read; or that there is none.
+// Three cases, of which two are no error: no Option or Result says them more plainly.
 #[derive(Clone, Copy)]
 pub enum Found {
     Line { from: usize, to: usize },
@@ -29,42 +33,34 @@ fn turn(stdin: Stdin, intake: Intake, buffer: &mut [u8]) -> Headed
     ensures { Turns intake buffer.old buffer.new result }
 {
     let taken = intake.next_line(buffer);
-    let left = taken.intake;
-    let next = taken.next;
-    let Next::Line { from, to } = next else {
-        let refilled = refill::refill(stdin, left, buffer);
-        let held = refilled.intake;
-        if refilled.more {
-            return Headed {
-                found: Found::More,
-                intake: held,
-            };
-        }
+    if let Some((from, to)) = taken.next {
         return Headed {
+            found: Found::Line { from, to },
+            intake: taken.intake,
+        };
+    }
+    match refill::refill(stdin, taken.intake, buffer) {
+        Some(intake) => Headed {
+            found: Found::More,
+            intake,
+        },
+        None => Headed {
             found: Found::Nothing,
             intake: Intake::start(),
-        };
-    };
-    Headed {
-        found: Found::Line { from, to },
-        intake: left,
+        },
     }
 }
 
-// Reads to the end of the first line; the turns are counted down from a number that no input uses up.
+// Reads to the end of the first line; the turns are so many that no input uses them up.
 pub fn read_heading(stdin: Stdin, buffer: &mut [u8]) -> Headed
     ensures { ReadsHeading buffer.new result }
 {
     let mut headed = turn(stdin, Intake::start(), buffer);
-    let mut turns: u64 = 9223372036854775808;
-    while 0 < turns {
-        let found = headed.found;
-        let Found::More = found else {
+    for _ in 0..TURNS {
+        let Found::More = headed.found else {
             return headed;
         };
-        let intake = headed.intake;
-        headed = turn(stdin, intake, buffer);
-        turns -= 1;
+        headed = turn(stdin, headed.intake, buffer);
     }
     headed
 }
@@ -73,8 +69,7 @@ pub fn read_heading(stdin: Stdin, buffer: &mut [u8]) -> Headed
 pub fn read_journal(buffer: &mut [u8], headed: Headed) -> usize
     ensures { Behind headed headed.found buffer.old buffer.new result }
 {
-    let found = headed.found;
-    if let Found::Nothing = found {
+    if let Found::Nothing = headed.found {
         return 0;
     }
     let intake = headed.intake;

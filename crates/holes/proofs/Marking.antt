@@ -1,21 +1,19 @@
 -- Whether a count follows, and the marks of a hole's hours. Assumes nothing.
 use mathlib.Core.Path.{◌≡◌, refl, sym, ap, ◌∙◌}
-use mathlib.Core.Bool.{Bool, true, false, not, ◌&&◌, ◌||◌, or-true, or-false}
+use mathlib.Core.Bool.{Bool, true, false, not, ◌&&◌, ◌||◌, or-false}
 use mathlib.Core.List.{List}
-use Prim.Native.Nat.{ℕ, ◌+◌, ◌-◌, ◌≤◌, ◌<◌, max}
+use Prim.Native.Nat.{ℕ, ◌+◌, ◌-◌, ◌≤◌, ◌<◌}
 use native.Mathlib.Omega.{arith}
 use native.Mathlib.Decide.{ℕ_discrete}
-use lib.Dec.{eqb, leb, ltb}
-use lib.ListN.{length, get_or, set, length-set}
-use lib.Seq.{get_or-set_same, get_or-set_other}
-use borrow.Author.Tests.{eq-eqb, ne_eqb, le-leb, lt-leb, lt-ltb, le-ltb, leb-true, leb-false, ltb-true, ltb-false}
+use lib.Dec.{eqb, leb}
+use lib.ListN.{get_or}
+use borrow.Author.Tests.{eq-eqb, ne_eqb, le-leb, lt-leb, leb-true, leb-false}
 use Rattle.laws.specs.Pick.{pick-t, pick-f}
 use Rattle.journal.specs.declared.Line.{Line}
 use Rattle.journal.specs.declared.Line.TheVariants.{Dose, On}
-use Rattle.holes.specs.Holes.{next_count, follows, ends_hole}
+use Rattle.holes.specs.Holes.{Before, next_count, follows, ends_hole}
 use Rattle.holes.specs.Marks.{Adds, AddsHole}
-use Rattle.holes.specs.declared.Before.{Before}
-use Rattle.holes.specs.declared.Before.TheVariants.{Nothing, At}
+use Rattle.std.specs.Prelude.{Some, None}
 
 -- ---- a count that follows
 
@@ -53,78 +51,6 @@ turn-next before count n l z =
     ∙ ap (eqb count) (sym (next-is before l))
     ∙ turn-other before count n
 
--- ---- the places from one to another
-
--- those before k are marked
-pub record Marking (old : List Bool) (from to k : ℕ) (new : List Bool) : Type 0 where
-  pub size : length new ≡ length old
-  pub low : from ≤ k
-  pub high : k ≤ max from (to + 1)
-  pub at : (j : ℕ) → j < length old → get_or new j false ≡ (get_or old j false || (leb from j && ltb j k))
-
-none_below : (f j : ℕ) → (leb f j && ltb j f) ≡ false
-none_below f j = go (leb f j) refl
-  where
-    go : (b : Bool) → leb f j ≡ b → (b && ltb j f) ≡ false
-    go true e = le-ltb j f (leb-true f j e)
-    go false e = refl
-
-pub marking-none : (old : List Bool) (from to : ℕ) → Marking old from to from old
-marking-none old from to =
-    record {
-      size = refl;
-      low = omega arith;
-      high = omega arith;
-      at = λ j h. sym (ap (λ (b : Bool). get_or old j false || b) (none_below from j) ∙ or-false (get_or old j false));
-    }
-
-pub marking-more : (old : List Bool) (from to k : ℕ) (new : List Bool) → Marking old from to k new → k ≤ to → k < length old → Marking old from to (k + 1) (set new k true)
-marking-more old from to k new m h b =
-    record {
-      size = length-set new k true ∙ m.size;
-      low = omega (arith, m.low);
-      high = omega arith;
-      at = λ j i. go j i (ℕ_discrete k j);
-    }
-  where
-    later : (j : ℕ) → (k ≡ j → ⊥) → ltb j k ≡ ltb j (k + 1)
-    later j n = by (ltb j k) refl
-      where
-        by : (b : Bool) → ltb j k ≡ b → b ≡ ltb j (k + 1)
-        by true e = sym (lt-ltb j (k + 1) (omega (arith, ltb-true j k e)))
-        by false e = let l = ltb-false j k e in sym (le-ltb j (k + 1) (omega arith))
-
-    go : (j : ℕ) → j < length old → Dec (k ≡ j) → get_or (set new k true) j false ≡ (get_or old j false || (leb from j && ltb j (k + 1)))
-    go j i (yes e) =
-        ap (λ (x : ℕ). get_or (set new k true) x false) (sym e)
-        ∙ get_or-set_same new k true false (omega (arith, m.size))
-        ∙ sym (ap (λ (b : Bool). get_or old j false || (b && ltb j (k + 1))) (le-leb from j (omega (arith, m.low)))
-        ∙ ap (λ (b : Bool). get_or old j false || b) (lt-ltb j (k + 1) (omega arith))
-        ∙ or-true (get_or old j false))
-    go j i (no n) =
-        get_or-set_other new k j true false (λ e. n (sym e))
-        ∙ m.at j i
-        ∙ ap (λ (b : Bool). get_or old j false || (leb from j && b)) (later j n)
-
--- no place is left, or none that is to be marked
-pub marking-all : (old : List Bool) (from to k : ℕ) (new : List Bool) → Marking old from to k new → length old ≤ k → Adds old from to new
-marking-all old from to k new m h =
-    record { size = m.size; at = λ j i. m.at j i ∙ ap (λ (b : Bool). get_or old j false || b) (same j i (leb from j) (leb j to) refl refl) }
-  where
-    same : (j : ℕ) → j < length old → (a b : Bool) → leb from j ≡ a → leb j to ≡ b → (a && ltb j k) ≡ (a && b)
-    same j i false b p q = refl
-    same j i true true p q = lt-ltb j k (omega arith)
-    same j i true false p q = le-ltb j k (omega (arith, leb-true from j p, leb-false j to q, m.high))
-
-pub marking-past : (old : List Bool) (from to k : ℕ) (new : List Bool) → Marking old from to k new → to < k → Adds old from to new
-marking-past old from to k new m h =
-    record { size = m.size; at = λ j i. m.at j i ∙ ap (λ (b : Bool). get_or old j false || b) (same j (leb from j) (leb j to) refl refl) }
-  where
-    same : (j : ℕ) (a b : Bool) → leb from j ≡ a → leb j to ≡ b → (a && ltb j k) ≡ (a && b)
-    same j false b p q = refl
-    same j true true p q = lt-ltb j k (omega (arith, leb-true from j p, leb-true j to q, m.low, m.high))
-    same j true false p q = le-ltb j k (omega (arith, leb-true from j p, leb-false j to q, m.high))
-
 -- ---- the hole that a line ends
 
 pub ends-none : (old : List Bool) (first : ℕ) (before : Before) (l : Line) → ((h : ℕ) → ends_hole h before l ≡ false) → AddsHole old first before l old
@@ -135,13 +61,13 @@ pub ends_on : (old : List Bool) (first : ℕ) (before : Before) (x : ℕ) → Ad
 unfolding ends_hole
 ends_on old first before x = ends-none old first before (On x) (λ h. refl)
 
-pub ends-first : (old : List Bool) (first y d a s p : ℕ) → AddsHole old first Nothing (Dose y d a s p) old
+pub ends-first : (old : List Bool) (first y d a s p : ℕ) → AddsHole old first None (Dose y d a s p) old
 unfolding ends_hole
-ends-first old first y d a s p = ends-none old first Nothing (Dose y d a s p) (λ h. refl)
+ends-first old first y d a s p = ends-none old first None (Dose y d a s p) (λ h. refl)
 
-pub ends-turn : (old : List Bool) (first x c y d a s p : ℕ) → follows c d ≡ true → AddsHole old first (At x c) (Dose y d a s p) old
+pub ends-turn : (old : List Bool) (first x c y d a s p : ℕ) → follows c d ≡ true → AddsHole old first (Some (x, c)) (Dose y d a s p) old
 unfolding ends_hole
-ends-turn old first x c y d a s p e = ends-none old first (At x c) (Dose y d a s p) (λ h. rw e)
+ends-turn old first x c y d a s p e = ends-none old first (Some (x, c)) (Dose y d a s p) (λ h. rw e)
 
 -- places count from the first hour on
 place-low : (first x k : ℕ) → leb (x - first) k ≡ leb x (first + k)
@@ -158,7 +84,7 @@ place-high first y k h = go (leb (first + k) y) refl
     go true e = let l = leb-true (first + k) y e in le-leb k (y - first) (omega arith)
     go false e = let l = leb-false (first + k) y e in lt-leb k (y - first) (omega arith)
 
-pub ends-hole : (old new : List Bool) (first x c y d a s p : ℕ) → follows c d ≡ false → first ≤ y → Adds old (x - first) (y - first) new → AddsHole old first (At x c) (Dose y d a s p) new
+pub ends-hole : (old new : List Bool) (first x c y d a s p : ℕ) → follows c d ≡ false → first ≤ y → Adds old (x - first) (y - first) new → AddsHole old first (Some (x, c)) (Dose y d a s p) new
 unfolding ends_hole
 ends-hole old new first x c y d a s p e high m =
     record { size = m.size; at = λ k h. m.at k h ∙ rw (e, place-low first x k, place-high first y k high) refl }
@@ -166,8 +92,8 @@ ends-hole old new first x c y d a s p e high m =
 -- a line before the first hour ends no hole there
 pub ends-before : (old : List Bool) (first : ℕ) (before : Before) (y d a s p : ℕ) → y < first → AddsHole old first before (Dose y d a s p) old
 unfolding ends_hole
-ends-before old first Nothing y d a s p h = ends-none old first Nothing (Dose y d a s p) (λ k. refl)
-ends-before old first (At x c) y d a s p h =
+ends-before old first None y d a s p h = ends-none old first None (Dose y d a s p) (λ k. refl)
+ends-before old first (Some (x, c)) y d a s p h =
     record { size = refl; at = λ k i. sym (ap (λ (b : Bool). get_or old k false || b) (none k) ∙ or-false (get_or old k false)) }
   where
     never : (u v : Bool) → (u && (v && false)) ≡ false
@@ -175,7 +101,7 @@ ends-before old first (At x c) y d a s p h =
     never true false = refl
     never false v = refl
 
-    none : (k : ℕ) → ends_hole (first + k) (At x c) (Dose y d a s p) ≡ false
+    none : (k : ℕ) → ends_hole (first + k) (Some (x, c)) (Dose y d a s p) ≡ false
     none k = ap (λ (b : Bool). not (follows c d) && (leb x (first + k) && b)) (lt-leb (first + k) y (omega arith)) ∙ never (not (follows c d)) (leb x (first + k))
 
 -- what is told of the two lines

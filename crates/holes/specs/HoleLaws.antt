@@ -1,5 +1,5 @@
 -- Where a hole is: exactly between two D lines, the one just before the other, whose counts do not follow; and that counts which follow make none. Assumes nothing.
-use Rattle.std.specs.Prelude.{◌≡◌, refl, Bool, true, false, not, ◌&&◌, ◌||◌, List, [], ◌∷◌, ◌++◌, ◌⊎◌, ℕ, ◌+◌, ◌%◌, ◌≤◌, eqb, leb}
+use Rattle.std.specs.Prelude.{◌≡◌, refl, Some, None, Bool, true, false, not, ◌&&◌, ◌||◌, List, [], ◌∷◌, ◌++◌, ◌⊎◌, ℕ, ◌+◌, ◌%◌, ◌≤◌, eqb, leb}
 use Rattle.std.proofs.Common.{sym, ap, ◌∙◌, inl, inr, arith, eqb-true, eq-eqb, le-leb, leb-true}
 use Rattle.std.proofs.Math.Bool.{or-true, or-false, or_assoc}
 use Rattle.std.proofs.lemmas.Bool.{not-true, eqb-false}
@@ -9,9 +9,7 @@ use Rattle.laws.specs.Whole.{false-true}
 use Rattle.journal.specs.JournalLaws.{Each}
 use Rattle.journal.specs.declared.Line.{Line}
 use Rattle.journal.specs.declared.Line.TheVariants.{Dose, On}
-use Rattle.holes.specs.Holes.{next_count, follows, dose_before, ends_hole, hole_from, in_hole}
-use Rattle.holes.specs.declared.Before.{Before}
-use Rattle.holes.specs.declared.Before.TheVariants.{Nothing, At}
+use Rattle.holes.specs.Holes.{Before, next_count, follows, dose_before, ends_hole, hole_from, in_hole}
 
 -- each of the two follows from the other
 abbrev pub Exactly : Type 0 → Type 0 → Type 0
@@ -36,9 +34,9 @@ from_more h b (m ∷ ls) l =
     ap (λ (x : Bool). ends_hole h b m || x) (from_more h (dose_before b m) ls l)
     ∙ sym (or_assoc (ends_hole h b m) (hole_from h (dose_before b m) ls) (ends_hole h (last_dose (dose_before b m) ls) l))
 
-pub hole-more : (h : ℕ) (ls : List Line) (l : Line) → in_hole h (ls ++ l ∷ []) ≡ (in_hole h ls || ends_hole h (last_dose Nothing ls) l)
+pub hole-more : (h : ℕ) (ls : List Line) (l : Line) → in_hole h (ls ++ l ∷ []) ≡ (in_hole h ls || ends_hole h (last_dose None ls) l)
 unfolding in_hole
-hole-more h ls l = from_more h Nothing ls l
+hole-more h ls l = from_more h None ls l
 
 -- ---- where a hole is
 
@@ -73,7 +71,7 @@ pub record Hole (h : ℕ) (ls : List Line) : Type 0 where
   pub whole : ls ≡ fore ++ Dose hour count amount settled product ∷ rest
   pub next : Breaks h hour count rest
 
-breaks-here : (h x c y d a s q : ℕ) (ls : List Line) → ends_hole h (At x c) (Dose y d a s q) ≡ true → Breaks h x c (Dose y d a s q ∷ ls)
+breaks-here : (h x c y d a s q : ℕ) (ls : List Line) → ends_hole h (Some (x, c)) (Dose y d a s q) ≡ true → Breaks h x c (Dose y d a s q ∷ ls)
 unfolding ends_hole
 breaks-here h x c y d a s q ls e =
     let spans = and_right (not (follows c d)) (leb x h && leb h y) e in
@@ -126,7 +124,7 @@ hole-later h l ls o =
       next = o.next;
     }
 
-after-dose : (h x c : ℕ) (ls : List Line) → hole_from h (At x c) ls ≡ true → Breaks h x c ls ⊎ Hole h ls
+after-dose : (h x c : ℕ) (ls : List Line) → hole_from h (Some (x, c)) ls ≡ true → Breaks h x c ls ⊎ Hole h ls
 unfolding hole_from dose_before ends_hole
 after-dose h x c [] e = false-true e
 after-dose h x c (On y ∷ ls) e = go (after-dose h x c ls e)
@@ -134,17 +132,17 @@ after-dose h x c (On y ∷ ls) e = go (after-dose h x c ls e)
     go : Breaks h x c ls ⊎ Hole h ls → Breaks h x c (On y ∷ ls) ⊎ Hole h (On y ∷ ls)
     go (inl b) = inl (breaks-on h x c y ls b)
     go (inr o) = inr (hole-later h (On y) ls o)
-after-dose h x c (Dose y d a s q ∷ ls) e = go (ends_hole h (At x c) (Dose y d a s q)) refl e (after-dose h y d ls)
+after-dose h x c (Dose y d a s q ∷ ls) e = go (ends_hole h (Some (x, c)) (Dose y d a s q)) refl e (after-dose h y d ls)
   where
     later : Breaks h y d ls ⊎ Hole h ls → Hole h (Dose y d a s q ∷ ls)
     later (inl b) = hole-here h y d a s q ls b
     later (inr o) = hole-later h (Dose y d a s q) ls o
 
-    go : (b : Bool) → ends_hole h (At x c) (Dose y d a s q) ≡ b → (b || hole_from h (At y d) ls) ≡ true → (hole_from h (At y d) ls ≡ true → Breaks h y d ls ⊎ Hole h ls) → Breaks h x c (Dose y d a s q ∷ ls) ⊎ Hole h (Dose y d a s q ∷ ls)
+    go : (b : Bool) → ends_hole h (Some (x, c)) (Dose y d a s q) ≡ b → (b || hole_from h (Some (y, d)) ls) ≡ true → (hole_from h (Some (y, d)) ls ≡ true → Breaks h y d ls ⊎ Hole h ls) → Breaks h x c (Dose y d a s q ∷ ls) ⊎ Hole h (Dose y d a s q ∷ ls)
     go true p e rest = inl (breaks-here h x c y d a s q ls p)
     go false p e rest = inr (later (rest e))
 
-hole-found : (h : ℕ) (ls : List Line) → hole_from h Nothing ls ≡ true → Hole h ls
+hole-found : (h : ℕ) (ls : List Line) → hole_from h None ls ≡ true → Hole h ls
 unfolding hole_from dose_before ends_hole
 hole-found h [] e = false-true e
 hole-found h (On y ∷ ls) e = hole-later h (On y) ls (hole-found h ls e)
@@ -154,13 +152,13 @@ hole-found h (Dose x c a s q ∷ ls) e = go (after-dose h x c ls e)
     go (inl b) = hole-here h x c a s q ls b
     go (inr o) = hole-later h (Dose x c a s q) ls o
 
-break-hole : (h x c y d a s q : ℕ) (between rest : List Line) → Each OnLine between → follows c d ≡ false → x ≤ h → h ≤ y → hole_from h (At x c) (between ++ Dose y d a s q ∷ rest) ≡ true
+break-hole : (h x c y d a s q : ℕ) (between rest : List Line) → Each OnLine between → follows c d ≡ false → x ≤ h → h ≤ y → hole_from h (Some (x, c)) (between ++ Dose y d a s q ∷ rest) ≡ true
 unfolding hole_from dose_before ends_hole
 break-hole h x c y d a s q [] rest o b f t = rw (b, le-leb x h f, le-leb h y t)
 break-hole h x c y d a s q (On z ∷ between) rest o b f t = break-hole h x c y d a s q between rest o.1 b f t
 break-hole h x c y d a s q (Dose z e u v w ∷ between) rest o b f t = absurd o.0
 
-hole-behind : (h x c a s q : ℕ) (b : Before) (fore rest : List Line) → hole_from h (At x c) rest ≡ true → hole_from h b (fore ++ Dose x c a s q ∷ rest) ≡ true
+hole-behind : (h x c a s q : ℕ) (b : Before) (fore rest : List Line) → hole_from h (Some (x, c)) rest ≡ true → hole_from h b (fore ++ Dose x c a s q ∷ rest) ≡ true
 unfolding hole_from dose_before
 hole-behind h x c a s q b [] rest e = rw e (or-true (ends_hole h b (Dose x c a s q)))
 hole-behind h x c a s q b (l ∷ fore) rest e = rw (hole-behind h x c a s q (dose_before b l) fore rest e) (or-true (ends_hole h b l))
@@ -170,12 +168,12 @@ pub hole-exactly : (ls : List Line) (h : ℕ) → Exactly (in_hole h ls ≡ true
 unfolding in_hole
 hole-exactly ls h = (hole-found h ls, back)
   where
-    back : Hole h ls → hole_from h Nothing ls ≡ true
+    back : Hole h ls → hole_from h None ls ≡ true
     back o =
         let n = o.next in
-        ap (hole_from h Nothing) o.whole
-        ∙ hole-behind h o.hour o.count o.amount o.settled o.product Nothing o.fore o.rest
-        (ap (hole_from h (At o.hour o.count)) n.whole ∙ break-hole h o.hour o.count n.hour n.count n.amount n.settled n.product n.between n.rest n.ons n.broken n.from n.to)
+        ap (hole_from h None) o.whole
+        ∙ hole-behind h o.hour o.count o.amount o.settled o.product None o.fore o.rest
+        (ap (hole_from h (Some (o.hour, o.count))) n.whole ∙ break-hole h o.hour o.count n.hour n.count n.amount n.settled n.product n.between n.rest n.ons n.broken n.from n.to)
 
 -- ---- counts that follow
 
@@ -195,13 +193,13 @@ unfoldable pub all_follow : List ℕ → Bool
 all_follow [] = true
 all_follow (count ∷ counts) = follow_on count counts
 
-after_none : (h x c : ℕ) (ls : List Line) → follow_on c (counts_in ls) ≡ true → hole_from h (At x c) ls ≡ false
+after_none : (h x c : ℕ) (ls : List Line) → follow_on c (counts_in ls) ≡ true → hole_from h (Some (x, c)) ls ≡ false
 unfolding hole_from dose_before ends_hole counts_in follow_on
 after_none h x c [] e = refl
 after_none h x c (On y ∷ ls) e = after_none h x c ls e
 after_none h x c (Dose y d a s q ∷ ls) e = rw (and_left (follows c d) _ e) (after_none h y d ls (and_right (follows c d) _ e))
 
-from-none : (h : ℕ) (ls : List Line) → all_follow (counts_in ls) ≡ true → hole_from h Nothing ls ≡ false
+from-none : (h : ℕ) (ls : List Line) → all_follow (counts_in ls) ≡ true → hole_from h None ls ≡ false
 unfolding hole_from dose_before ends_hole counts_in all_follow
 from-none h [] e = refl
 from-none h (On y ∷ ls) e = from-none h ls e

@@ -1,10 +1,12 @@
 -- Holes in the dose numbers (document 02, W1; W4: W1's test runs over all products). Assumes nothing.
-use Rattle.std.specs.Prelude.{◌≡◌, refl, Bool, true, false, not, ◌&&◌, ◌||◌, List, [], ◌∷◌, map, ℕ, ◌+◌, eqb, leb}
+use Rattle.std.specs.Prelude.{◌≡◌, refl, Option, Some, None, Bool, true, false, not, ◌&&◌, ◌||◌, List, [], ◌∷◌, map, ℕ, ◌+◌, eqb, leb}
 use Rattle.laws.specs.Pick.{pick}
 use Rattle.journal.specs.declared.Line.{Line}
 use Rattle.journal.specs.declared.Line.TheVariants.{Dose, On}
-use Rattle.holes.specs.declared.Before.{Before}
-use Rattle.holes.specs.declared.Before.TheVariants.{Nothing, At}
+
+-- the D line before the next line: its hour and count, or none yet
+abbrev pub Before : Type 0
+Before = Option (ℕ × ℕ)
 
 -- by one (0 after 999,999)
 unfoldable pub next_count : ℕ → ℕ
@@ -17,12 +19,12 @@ follows before count = eqb count 1 || eqb count (next_count before)
 -- Where the count does not follow, every hour from the earlier D line's hour to the later one's; the first D line of a journal is not tested
 unfoldable pub ends_hole : ℕ → Before → Line → Bool
 ends_hole h b (On y) = false
-ends_hole h Nothing (Dose y d a s p) = false
-ends_hole h (At x c) (Dose y d a s p) = not (follows c d) && (leb x h && leb h y)
+ends_hole h None (Dose y d a s p) = false
+ends_hole h (Some (x, c)) (Dose y d a s p) = not (follows c d) && (leb x h && leb h y)
 
 -- the D line before the next line, by its hour and count: after a D it is that D, also where its count did not follow; H lines leave it
 unfoldable pub dose_before : Before → Line → Before
-dose_before b (Dose x c a s p) = At x c
+dose_before b (Dose x c a s p) = Some (x, c)
 dose_before b (On x) = b
 
 -- hour h lies in a hole that one of these lines ends
@@ -32,7 +34,7 @@ hole_from h b (l ∷ ls) = ends_hole h b l || hole_from h (dose_before b l) ls
 
 -- hour h lies in a hole of the journal
 unfoldable pub in_hole : ℕ → List Line → Bool
-in_hole h ls = hole_from h Nothing ls
+in_hole h ls = hole_from h None ls
 
 -- ---- each clause on numbers
 

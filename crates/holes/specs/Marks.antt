@@ -1,8 +1,7 @@
 -- Marks of the hours from a first one on: those that lie in a hole. Assumes nothing.
 use Rattle.std.specs.Prelude.{◌≡◌, Bool, false, ◌&&◌, ◌||◌, List, ℕ, ◌+◌, ◌<◌, leb, length, get_or}
 use Rattle.journal.specs.declared.Line.{Line}
-use Rattle.holes.specs.Holes.{ends_hole, in_hole}
-use Rattle.holes.specs.declared.Before.{Before}
+use Rattle.holes.specs.Holes.{Before, ends_hole, in_hole}
 
 -- the marks of the 744 hours from `first` on: those in a hole
 pub record Marks (holed : List Bool) (first : ℕ) (ls : List Line) : Type 0 where

@@ -3,9 +3,8 @@ use Rattle.std.specs.Prelude.{◌≡◌, refl, Bool, false, List, [], ◌∷◌,
 use Rattle.std.proofs.Common.{sym, ◌∙◌, arith}
 use Rattle.paper.specs.Answer.{same}
 use Rattle.journal.specs.declared.Line.{Line}
-use Rattle.holes.specs.Holes.{dose_before}
+use Rattle.holes.specs.Holes.{Before, dose_before}
 use Rattle.holes.specs.Marks.{AddsHole}
-use Rattle.holes.specs.declared.Before.{Before}
 
 -- before_next: the D line before the line after this one
 abbrev pub GoesOn : Before → Line → Before → Type 0

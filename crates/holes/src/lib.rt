@@ -8,13 +8,6 @@ ghost use Rattle.holes.specs.Promises.{GoesOn, MarksHole};
 
 use journal::Line;
 
-// The D line before the next line: none yet, or its hour and count.
-#[derive(Clone, Copy)]
-pub enum Before {
-    Nothing,
-    At(u32, u32),
-}
-
 // The count that 0 follows.
 const LAST_COUNT: u32 = 999999;
 
@@ -38,41 +31,26 @@ fn in_turn(before: u32, count: u32) -> bool
 fn mark(holed: &mut [bool], from: usize, to: usize)
     ensures { Adds holed.old from to holed.new }
 {
-    let mut k = from;
-    while k < holed.len() {
-        if to < k {
-            return;
-        }
-        holed[k] = true;
-        k += 1;
-    }
+    let end = to.saturating_add(1).min(holed.len());
+    let start = from.min(end);
+    holed[start..end].fill(true);
 }
 
 // The place of an hour among those from the first on, 0 where it is before them.
 fn place_of(first: u32, hour: u32) -> usize
     ensures { result ≡ hour - first }
 {
-    if hour < first {
-        return 0;
-    }
-    (hour - first) as usize
+    hour.saturating_sub(first) as usize
 }
 
-// Marks the hours, from the first on, of the hole that a line ends, if it is a D line whose count does not follow.
-pub fn mark_hole(holed: &mut [bool], first: u32, before: Before, line: Line)
+// Marks the hours, from the first on, of the hole that a line ends, if it is a D line whose count does not follow that of the D line before it, told by its hour and count.
+pub fn mark_hole(holed: &mut [bool], first: u32, before: Option<(u32, u32)>, line: Line)
     ensures { MarksHole holed.old first before line holed.new }
 {
-    let Line::Dose {
-        hour,
-        count,
-        amount: _,
-        settled: _,
-        product: _,
-    } = line
-    else {
+    let Line::Dose { hour, count, .. } = line else {
         return;
     };
-    let Before::At(earlier, last) = before else {
+    let Some((earlier, last)) = before else {
         return;
     };
     if in_turn(last, count) {
@@ -84,18 +62,13 @@ pub fn mark_hole(holed: &mut [bool], first: u32, before: Before, line: Line)
     mark(holed, place_of(first, earlier), place_of(first, hour));
 }
 
-// The D line before the line that comes after this one.
-pub fn before_next(before: Before, line: Line) -> Before
+// The hour and count of the D line before the line that comes after this one.
+#[tactic(auto, unfolding(crate::specs::Holes::dose_before))]
+pub fn before_next(before: Option<(u32, u32)>, line: Line) -> Option<(u32, u32)>
     ensures { GoesOn before line result }
 {
     match line {
-        Line::Dose {
-            hour,
-            count,
-            amount: _,
-            settled: _,
-            product: _,
-        } => Before::At(hour, count),
-        Line::On { hour: _ } => before,
+        Line::Dose { hour, count, .. } => Some((hour, count)),
+        Line::On { .. } => before,
     }
 }

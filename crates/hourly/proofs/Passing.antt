@@ -2,6 +2,7 @@
 use mathlib.Core.Path.{◌≡◌, refl, sym, ap, ◌∙◌, subst}
 use mathlib.Core.Bool.{Bool, true, false, ◌&&◌}
 use mathlib.Core.List.{List, [], ◌∷◌, ◌++◌, append_assoc, append-nil}
+use Rattle.std.specs.Prelude.{None, Ok, Err}
 use Prim.Native.Nat.{ℕ, ◌+◌, ◌-◌, ◌*◌, ◌≤◌, ◌<◌}
 use native.Mathlib.Omega.{arith}
 use lib.ListN.{length, get_or, drop, set, length-append, length-drop, drop_of_length-le, replicate}
@@ -20,17 +21,14 @@ use Rattle.journal.specs.declared.Past.{Past}
 use Rattle.journal.specs.declared.Refusal.{Refusal}
 use Rattle.journal.specs.Says.{says_refusal, refusal-done, refusal-told}
 use Rattle.hourly.specs.Accepted.{InRange, Ranged}
-use Rattle.holes.specs.Holes.{dose_before}
+use Rattle.holes.specs.Holes.{Before, dose_before}
 use Rattle.holes.specs.HoleLaws.{last_dose, last-dose-more}
 use Rattle.holes.specs.Marks.{Marks, AddsHole}
 use Rattle.holes.specs.MarkLaws.{marks-none, marks-start, marks-more}
-use Rattle.hourly.specs.Tally.{outside, no_tally, counted, summary_of, Unmarked, Sets, Tells, accepted_after, refused_by}
+use Rattle.hourly.specs.Tally.{outside, no_tally, counted, summary_of, Unmarked, Sets, Tells, accepted_after}
 use Rattle.hourly.specs.Promises.{Counts}
-use Rattle.holes.specs.declared.Before.{Before}
-use Rattle.holes.specs.declared.Before.TheVariants.{Nothing}
 use Rattle.hourly.specs.declared.Products.{Products}
 use Rattle.hourly.specs.declared.Tally.{Tally}
-use Rattle.hourly.specs.declared.Tallied.{Tallied}
 use Rattle.hourly.proofs.Tallying.{unmarked-none, unmarked-start, unmarked-more, old-few}
 use Rattle.hourly.proofs.Settling.{sets-tell}
 
@@ -72,7 +70,7 @@ pub record Passed (w : Products) (s : List ℕ) (past : Past) (at n : ℕ) (tabl
   pub order : past.first ≤ past.last
   pub tallies : Unmarked w table past.first lines
   pub marks : Marks holed past.first lines
-  pub dosed : before ≡ last_dose Nothing lines
+  pub dosed : before ≡ last_dose None lines
 
 told-id : {A : Type 0} (a : Answer A) → told (λ x. x) a ≡ a
 unfolding told
@@ -82,11 +80,11 @@ told-id (fault n vs) = refl
 
 -- before the first line
 pub passed_none : (w : Products) (s : List ℕ) (past : Past) (at : ℕ) (table : List Tally) (holed : List Bool) → length s ≤ 65536 → past ≡ no_past → at ≡ head_bytes (form_of s) → table ≡ replicate 744 no_tally → holed ≡ replicate 744 false
-    → Passed w s past at 0 table holed Nothing
+    → Passed w s past at 0 table holed None
 unfolding no_past first_hour last_hour last_dose
-passed_none w s past at table holed h p a e f = subst (λ (q : Past). Passed w s q at 0 table holed Nothing) (sym p) (subst (λ (x : ℕ). Passed w s no_past x 0 table holed Nothing) (sym a) start)
+passed_none w s past at table holed h p a e f = subst (λ (q : Past). Passed w s q at 0 table holed None) (sym p) (subst (λ (x : ℕ). Passed w s no_past x 0 table holed None) (sym a) start)
   where
-    start : Passed w s no_past (head_bytes (form_of s)) 0 table holed Nothing
+    start : Passed w s no_past (head_bytes (form_of s)) 0 table holed None
     start =
         record {
           lines = [];
@@ -130,15 +128,12 @@ first-from P none false first h (l ∷ ls) e t = false-true e
 -- ---- what the pass answers
 
 -- the journal's refusal
-pub counts-refused : (w : Products) (s : List ℕ) (t : Tallied) (r : Refusal) → t ≡ refused_by r → journal_of s ≡ says_refusal r → Counts w s t
-unfolding refused_by
-counts-refused w s t r e j =
-    rw e
-    (record {
+pub counts-refused : (w : Products) (s : List ℕ) (r : Refusal) → journal_of s ≡ says_refusal r → Counts w s (Err r)
+counts-refused w s r j =
+    record {
       judged = refusal-told summary_of r ∙ ap (told summary_of) (sym j);
-      tells = λ ls d. refusal-done r (sym j ∙ d);
-      none = λ q f. refl;
-    })
+      tells = λ t f ls d. refusal-done r (sym j ∙ d);
+    }
 
 module _ {w : Products} {s : List ℕ} {past : Past} {at n : ℕ} {table : List Tally} {holed : List Bool} {before : Before} (p : Passed w s past at n table holed before) where
   -- the last line is taken
@@ -149,14 +144,16 @@ module _ {w : Products} {s : List ℕ} {past : Past} {at n : ℕ} {table : List 
       ∙ told_none (form_of s) (λ (ms : List Line). p.lines ++ ms) past (head_lines (form_of s) + n + 1)
       ∙ ap done (append-nil p.lines)
 
-  pub counts_all : length s ≤ at → (all : List Tally) → Sets table holed all → Counts w s (accepted_after n past all)
+  pub counts_all : length s ≤ at → (all : List Tally) → Sets table holed all → Counts w s (Ok (accepted_after n past all))
   unfolding told summary_of accepted_after
   counts_all h all t =
       let e = ended h in
       record {
         judged = rw (sym p.number, p.first, p.last) refl ∙ sym (ap (told summary_of) e);
-        tells = λ ls d. let q : p.lines ≡ ls = cc in subst (λ (ms : List Line). Tells w all (first_hour ms) ms) q (subst (λ (f : ℕ). Tells w all f p.lines) p.first (sets-tell w table all holed past.first p.lines p.tallies p.marks t));
-        none = λ r f. let z : ◌≡◌ {A = ℕ} 0 1 = cc in absurd (omega arith);
+        tells = λ u f ls d.
+            let q : p.lines ≡ ls = cc in
+            let same : all ≡ u.table = cc in
+            subst (λ (ms : List Line). Tells w u.table (first_hour ms) ms) q (subst (λ (f : ℕ). Tells w u.table f p.lines) p.first (subst (λ (x : List Tally). Tells w x past.first p.lines) same (sets-tell w table all holed past.first p.lines p.tallies p.marks t)));
       }
 
   -- no line stands at `at`
@@ -216,7 +213,7 @@ module _ {w : Products} {s : List ℕ} {past : Past} {at n : ℕ} {table : List 
                 order = q.0;
                 tallies = unmarked-more w p.lines first table l t q.0 q.1 p.ranged o (omega (arith, p.number, p.few, st.onward, st.inside));
                 marks = marks-more holed new first p.lines l m (subst (λ (x : Before). AddsHole holed first x l new) p.dosed a);
-                dosed = e ∙ ap (λ (x : Before). dose_before x l) p.dosed ∙ sym (last-dose-more Nothing p.lines l);
+                dosed = e ∙ ap (λ (x : Before). dose_before x l) p.dosed ∙ sym (last-dose-more None p.lines l);
               };
         }
 

@@ -1,5 +1,5 @@
 -- What the pass keeps of each hour while it goes through the lines, and the hour's answer by it. Assumes nothing.
-use Rattle.std.specs.Prelude.{◌≡◌, Bool, true, false, List, [], ℕ, ◌+◌, ◌-◌, ◌<◌, max, eqb, ltb, length, get_or, replicate}
+use Rattle.std.specs.Prelude.{◌≡◌, Bool, true, false, List, [], ℕ, ◌+◌, ◌-◌, ◌<◌, max, eqb, ltb, length, get_or}
 use Rattle.std.specs.Float.{nan, binary64}
 use Rattle.std.specs.Float.Ieee.{add, div}
 use Rattle.laws.specs.Pick.{pick}
@@ -8,13 +8,11 @@ use Rattle.journal.specs.Journal.{journal_of, first_hour, last_hour}
 use Rattle.journal.specs.declared.Line.{Line}
 use Rattle.journal.specs.declared.Line.TheVariants.{Dose, On}
 use Rattle.journal.specs.declared.Past.{Past}
-use Rattle.journal.specs.declared.Refusal.{Refusal}
 use Rattle.hourly.specs.Hours.{HourAnswer, measured, idle, missing, asks_for, amounts_at, has_on, total, greatest, as_f64}
 use Rattle.holes.specs.Holes.{in_hole}
 use Rattle.hourly.specs.declared.Products.{Products}
 use Rattle.hourly.specs.declared.Tally.{Tally}
 use Rattle.hourly.specs.declared.Summary.{Summary}
-use Rattle.hourly.specs.declared.Judged.TheVariants as J
 use Rattle.hourly.specs.declared.Tallied.{Tallied}
 
 -- the lines of an accepted journal, none of a refused one
@@ -88,11 +86,7 @@ pub record Sets (table : List Tally) (holed : List Bool) (new : List Tally) : Ty
 
 -- a journal accepted after n lines, by what they say of the hours
 unfoldable pub accepted_after : ℕ → Past → List Tally → Tallied
-accepted_after n past table = record { judged = J.Lines (record { lines = n; first = past.first; last = past.last }); table = table }
-
--- a refused journal has no tallies
-unfoldable pub refused_by : Refusal → Tallied
-refused_by r = record { judged = J.Refused r; table = replicate 744 no_tally }
+accepted_after n past table = record { found = record { lines = n; first = past.first; last = past.last }; table = table }
 
 -- the hour's answer by its tally
 unfoldable pub hour_from : Tally → HourAnswer

@@ -1,5 +1,5 @@
 -- What the pass has found of an accepted journal, and that an hour's tally answers as the hour does. Assumes nothing.
-use Rattle.std.specs.Prelude.{◌≡◌, refl, List, [], ◌∷◌, ℕ, eqb, length}
+use Rattle.std.specs.Prelude.{◌≡◌, refl, List, [], ◌∷◌, ℕ, eqb, length, Result, Ok}
 use Rattle.std.proofs.Common.{sym, ap, ◌∙◌, subst}
 use Rattle.std.proofs.Math.Dec.{eqb-suc-zero}
 use Rattle.std.specs.Float.{binary64}
@@ -8,6 +8,7 @@ use Rattle.laws.specs.Pick.{pick}
 use Rattle.paper.specs.Answer.{done, told}
 use Rattle.journal.specs.Journal.{journal_of, first_hour, last_hour}
 use Rattle.journal.specs.declared.Line.{Line}
+use Rattle.journal.specs.declared.Refusal.{Refusal}
 use Rattle.hourly.specs.Hours.{HourAnswer, measured, idle, missing, amounts_at, has_on, total, greatest, sum_of, largest_of, mean_of, measured_or_idle, hour_of, as_f64}
 use Rattle.holes.specs.Holes.{in_hole}
 use Rattle.hourly.specs.declared.Products.{Products}
@@ -52,5 +53,5 @@ pub found-accepted : {s : List ℕ} {found : Summary} → Found s found → Acce
 found-accepted {s} f = accepted s (lines_of s) f.journal
 
 -- the pass has counted those lines
-pub counts-tell : {w : Products} {s : List ℕ} {found : Summary} {t : Tallied} → Found s found → Counts w s t → Tells w t.table found.first (lines_of s)
-counts-tell {w} {s} {t = t} f c = subst (λ (h : ℕ). Tells w t.table h (lines_of s)) f.first (c.tells (lines_of s) f.journal)
+pub counts-tell : {w : Products} {s : List ℕ} {t : Tallied} {r : Result Tallied Refusal} → Found s t.found → Counts w s r → r ≡ Ok t → Tells w t.table t.found.first (lines_of s)
+counts-tell {w} {s} {t} f c e = subst (λ (h : ℕ). Tells w t.table h (lines_of s)) f.first (c.tells t e (lines_of s) f.journal)

@@ -1,15 +1,13 @@
 // The hours of a journal: one pass that counts its lines, and an hour's answer.
 #![tactic(auto)]
 
-ghost use Rattle.std.specs.Prelude.{◌≡◌, false, ◌-◌, ◌<◌, max, replicate};
+ghost use Rattle.std.specs.Prelude.{◌≡◌, false, ◌-◌, ◌<◌, replicate};
 ghost use Rattle.hourly.specs.Hours.{asks_for};
-ghost use Rattle.hourly.specs.Says.{says_hour};
-ghost use Rattle.hourly.specs.Tally.{no_tally, with_dose, counted, Sets, accepted_after, refused_by, hour_among};
-ghost use Rattle.hourly.specs.Promises.{Counts, AnswersTally, AnswersHour};
+ghost use Rattle.hourly.specs.Tally.{no_tally, with_dose, counted, Sets, accepted_after};
+ghost use Rattle.hourly.specs.Promises.{Counts, AnswersTally, AnswersAmong, AnswersHour};
 
-use holes::Before;
 use journal::{Line, Past, Refusal};
-use text::{LF, Num};
+use text::LF;
 
 // What a measured hour hands to the predictor: the sum and the largest amount, both exact, and the mean.
 #[derive(Clone, Copy)]
@@ -27,13 +25,6 @@ pub enum Hour {
     Missing,
 }
 
-// What asking for one hour answers.
-#[derive(Clone, Copy)]
-pub enum Asked {
-    Hour(Hour),
-    Refused(Refusal),
-}
-
 // What the lines tell of one hour: the number of its doses, their sum, the largest amount, whether its H was there, and whether it lies in a hole.
 #[derive(Clone, Copy)]
 pub struct Tally {
@@ -45,6 +36,7 @@ pub struct Tally {
 }
 
 // Which doses are asked for: those of all products, or those of one.
+// Not an Option: its None would read as doses of no product.
 #[derive(Clone, Copy)]
 pub enum Products {
     All,
@@ -59,17 +51,10 @@ pub struct Summary {
     pub last: u32,
 }
 
-// What the pass says of a journal.
-#[derive(Clone, Copy)]
-pub enum Judged {
-    Lines(Summary),
-    Refused(Refusal),
-}
-
-// What the pass over a journal finds: what it says of it, and the tallies of the hours from the first on.
+// What the pass over an accepted journal finds: what it holds, and the tallies of the hours from the first on.
 #[derive(Clone, Copy)]
 pub struct Tallied {
-    pub judged: Judged,
+    pub found: Summary,
     pub table: [Tally; journal::SPAN],
 }
 
@@ -86,16 +71,6 @@ fn no_tallies() -> [Tally; journal::SPAN]
     }; journal::SPAN]
 }
 
-// The larger of two amounts.
-fn larger(a: u32, b: u32) -> u32
-    ensures { result ≡ max a b }
-{
-    if a < b {
-        return b;
-    }
-    a
-}
-
 // One dose more: its amount is added up in f64.
 fn with_dose(t: Tally, amount: u32) -> Tally
     requires { t.doses < 16384 }
@@ -104,9 +79,8 @@ fn with_dose(t: Tally, amount: u32) -> Tally
     Tally {
         doses: t.doses + 1,
         sum: t.sum + amount as f64,
-        largest: larger(t.largest, amount),
-        on: t.on,
-        holed: t.holed,
+        largest: t.largest.max(amount),
+        ..t
     }
 }
 
@@ -127,18 +101,16 @@ fn with_line(products: Products, t: Tally, line: Line) -> Tally
 {
     match line {
         Line::Dose {
-            hour: _,
-            count: _,
             amount,
-            settled: _,
             product,
+            ..
         } => {
             if asks_for(products, product) {
                 return with_dose(t, amount);
             }
             t
         }
-        Line::On { hour: _ } => Tally { on: true, ..t },
+        Line::On { .. } => Tally { on: true, ..t },
     }
 }
 
@@ -154,94 +126,73 @@ fn with_holes(table: [Tally; journal::SPAN], holed: [bool; journal::SPAN]) -> [T
     ensures { Sets table holed result }
 {
     let mut marked = table;
-    let mut k: usize = 0;
-    while k < journal::SPAN {
-        let tally = marked[k];
-        marked[k] = Tally {
-            holed: holed[k],
-            ..tally
-        };
-        k += 1;
+    for (k, &hole) in holed.iter().enumerate() {
+        marked[k].holed = hole;
     }
     marked
-}
-
-// A journal that is refused: it has no tallies.
-fn refused(refusal: Refusal) -> Tallied
-    ensures { result ≡ refused_by refusal }
-{
-    Tallied {
-        judged: Judged::Refused(refusal),
-        table: no_tallies(),
-    }
 }
 
 // A journal that is accepted after its last line, with all tallies.
 fn accepted(lines: usize, past: Past, table: [Tally; journal::SPAN]) -> Tallied
     ensures { result ≡ accepted_after lines past table }
 {
-    let found = Summary {
-        lines,
-        first: past.first,
-        last: past.last,
-    };
     Tallied {
-        judged: Judged::Lines(found),
+        found: Summary {
+            lines,
+            first: past.first,
+            last: past.last,
+        },
         table,
     }
 }
 
 // A whole journal of either form in one pass: R13, then line by line R10, R11, R12; each line that is taken is counted at its hour, if it is no dose of a product that is not asked for, and the hours of the hole that it ends are marked.
-pub fn tallies(bytes: &[u8], products: Products) -> Tallied
+pub fn tallies(bytes: &[u8], products: Products) -> Result<Tallied, Refusal>
     ensures { Counts products bytes.now result }
 {
     let size = bytes.len();
     if size > journal::ROOM {
-        return refused(Refusal::R13);
+        return Err(Refusal::R13);
     }
     let mut table = no_tallies();
     let mut holed = no_holes();
-    let mut last = Before::Nothing;
+    let mut last = None;
     let mut past = journal::no_past();
     let head = journal::head_of(bytes);
-    let form = head.form;
     let mut at = head.bytes;
     let mut lines: usize = 0;
     'lines: loop {
         if at >= size {
-            break 'lines accepted(lines, past, with_holes(table, holed));
+            break 'lines Ok(accepted(lines, past, with_holes(table, holed)));
         }
         let number = head.lines + lines + 1;
-        let fields = journal::fields_after(form, bytes[at]);
+        let fields = journal::fields_after(head.form, bytes[at]);
         if fields == 0 {
-            break 'lines refused(Refusal::R10(number));
+            break 'lines Err(Refusal::R10(number));
         }
         let mut got = [0u32; journal::FIELDS];
-        let mut k: usize = 0;
         let mut p = at + 1;
-        'fields: while k < fields {
-            let Num::Good(v, next) = text::field_at(bytes, p, journal::MOST[k]) else {
-                break 'lines refused(Refusal::R10(number));
+        'fields: for k in 0..fields {
+            let Some((v, next)) = text::field_at(bytes, p, journal::MOST[k]) else {
+                break 'lines Err(Refusal::R10(number));
             };
             got[k] = v;
             p = next;
-            k += 1;
         }
         if text::byte_at(bytes, p) != LF {
-            break 'lines refused(Refusal::R10(number));
+            break 'lines Err(Refusal::R10(number));
         }
         let line = journal::line_from(fields, got);
         let hour = journal::hour_in(line);
         if journal::out_of_order(past, hour) {
-            break 'lines refused(Refusal::R11(number));
+            break 'lines Err(Refusal::R11(number));
         }
         if journal::too_far(past, hour) {
-            break 'lines refused(Refusal::R12(number));
+            break 'lines Err(Refusal::R12(number));
         }
         past = journal::past_after(past, line);
         let place = (hour - past.first) as usize;
-        let tally = table[place];
-        table[place] = with_line(products, tally, line);
+        table[place] = with_line(products, table[place], line);
         holes::mark_hole(&mut holed, past.first, last, line);
         last = holes::before_next(last, line);
         at = p + 1;
@@ -270,9 +221,8 @@ pub fn hour_from(t: Tally) -> Hour
 }
 
 // One hour of an accepted journal by its tallies; outside its hours it is missing.
-fn hour_among(table: [Tally; journal::SPAN], found: Summary, hour: u32) -> Hour
-    requires { found.last - found.first < 744 }
-    ensures { says_hour result ≡ hour_among table found hour }
+pub fn hour_among(table: [Tally; journal::SPAN], found: Summary, hour: u32) -> Hour
+    ensures { AnswersAmong table found hour result }
 {
     if hour < found.first {
         return Hour::Missing;
@@ -280,20 +230,16 @@ fn hour_among(table: [Tally; journal::SPAN], found: Summary, hour: u32) -> Hour
     if found.last < hour {
         return Hour::Missing;
     }
-    let place = (hour - found.first) as usize;
-    let tally = table[place];
-    hour_from(tally)
+    match table.get((hour - found.first) as usize) {
+        Some(&tally) => hour_from(tally),
+        None => Hour::Missing,
+    }
 }
 
 // The hour of a journal, or the journal's refusal.
-pub fn hour_of(bytes: &[u8], products: Products, hour: u32) -> Asked
+pub fn hour_of(bytes: &[u8], products: Products, hour: u32) -> Result<Hour, Refusal>
     ensures { AnswersHour products bytes.now hour result }
 {
-    let counted = tallies(bytes, products);
-    let table = counted.table;
-    let judged = counted.judged;
-    match judged {
-        Judged::Lines(found) => Asked::Hour(hour_among(table, found, hour)),
-        Judged::Refused(refusal) => Asked::Refused(refusal),
-    }
+    let counted = tallies(bytes, products)?;
+    Ok(hour_among(counted.table, counted.found, hour))
 }

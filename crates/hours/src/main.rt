@@ -7,7 +7,5 @@ fn main() {
     let mut bytes = [0u8; journal::READ];
     let n = io::read_full(0, &mut bytes);
     let made = report::report(&bytes, n, Products::All);
-    let out = made.bytes;
-    let len = made.len;
-    io::write_all(1, &out[..len]);
+    io::write_all(1, &made.bytes[..made.len]);
 }

@@ -1,12 +1,12 @@
 -- A line's fields, one by one: what one field more leaves to read, and what a letter asks for. Assumes nothing.
-use Rattle.std.specs.Prelude.{◌≡◌, refl, Bool, true, false, List, [], ◌∷◌, ◌++◌, ◌⊎◌, ℕ, ◌+◌, ◌≤◌, ◌<◌, eqb, length, get_or, drop, take, set}
+use Rattle.std.specs.Prelude.{Some, None, ◌≡◌, refl, Bool, true, false, List, [], ◌∷◌, ◌++◌, ◌⊎◌, ℕ, ◌+◌, ◌≤◌, ◌<◌, eqb, length, get_or, drop, take, set}
 use Rattle.std.proofs.Common.{sym, ap, ◌∙◌, subst, inl, inr, arith, add-one, lit≤, length-set, length-take, drop_of_length-le, drop-cons, get_or-take, take-suc-set, eq-eqb, ne_eqb, eqb-true}
 use Rattle.std.proofs.Math.Decide.{dec_lt}
 use Rattle.std.proofs.Math.ListN.{get_or-eq_default}
 use Rattle.std.proofs.lemmas.Bool.{eqb-false}
 use Rattle.laws.specs.Pick.{pick, pick-t, pick-f, pick-map, pick_all}
 use Rattle.laws.specs.Decimal.{Parsed, good, bad, number_at}
-use Rattle.text.specs.Scan.{TAB, LF, expect, on_good, Scans, field_at, place_after}
+use Rattle.text.specs.Scan.{Num, TAB, LF, expect, on_good, Scans, field_at, place_after}
 use Rattle.text.specs.ScanLaws.{byte_inside, from_place, expect-hit, expect-miss}
 use Rattle.journal.specs.Line.{letter_d, letter_h, most_of_d, most_of_h, fields_at, dose_from, on_from, line_of}
 use Rattle.journal.specs.declared.Form.{Form}
@@ -15,8 +15,6 @@ use Rattle.journal.specs.LineLaws.{LineStands, stands_at}
 use Rattle.journal.specs.Fields.{most_of, fields_of_d, fields_after, product_from, line_from}
 use Rattle.journal.specs.declared.Line.{Line}
 use Rattle.journal.specs.declared.Line.TheVariants.{On}
-use Rattle.text.specs.declared.Num.{Num}
-use Rattle.text.specs.declared.Num.TheVariants.{Good, Bad}
 
 fields-step : (m : ℕ) (ms got l : List ℕ) → fields_at (m ∷ ms) got l ≡ on_good (field_at m l) (λ v rest. fields_at ms (got ++ v ∷ []) rest)
 unfolding fields_at field_at expect on_good
@@ -24,12 +22,12 @@ fields-step m ms got [] = refl
 fields-step m ms got (x ∷ xs) = sym (pick-map (λ (p : Parsed ℕ). on_good p (λ v rest. fields_at ms (got ++ v ∷ []) rest)) (eqb x TAB) (number_at m xs) bad)
 
 -- a field that was read, and one that was not
-fields-good : (s : List ℕ) (at m : ℕ) (ms got : List ℕ) {r : Num} {v p : ℕ} → Scans s (field_at m (drop at s)) r → r ≡ Good v p
+fields-good : (s : List ℕ) (at m : ℕ) (ms got : List ℕ) {r : Num} {v p : ℕ} → Scans s (field_at m (drop at s)) r → r ≡ Some (v, p)
     → fields_at (m ∷ ms) got (drop at s) ≡ fields_at ms (got ++ v ∷ []) (drop p s)
 unfolding on_good
 fields-good s at m ms got q e = fields-step m ms got (drop at s) ∙ rw (q.reads, e)
 
-fields-bad : (s : List ℕ) (at m : ℕ) (ms got : List ℕ) {r : Num} → Scans s (field_at m (drop at s)) r → r ≡ Bad → fields_at (m ∷ ms) got (drop at s) ≡ bad
+fields-bad : (s : List ℕ) (at m : ℕ) (ms got : List ℕ) {r : Num} → Scans s (field_at m (drop at s)) r → r ≡ None → fields_at (m ∷ ms) got (drop at s) ≡ bad
 unfolding on_good
 fields-bad s at m ms got q e = fields-step m ms got (drop at s) ∙ rw (q.reads, e)
 
@@ -75,14 +73,14 @@ next-most n k h b = rw (add-one, drop-cons (take n most_of) k 0 (inside n k h b)
     inside : (n k : ℕ) → k < n → n ≤ 5 → k < length (take n most_of)
     inside n k h b = rw (length-take n most_of) (omega (arith, length_most))
 
-fields-turn : (s got : List ℕ) (n k at : ℕ) {r : Num} {v p : ℕ} → k < n → n ≤ 5 → k < length got → Scans s (field_at (get_or most_of k 0) (drop at s)) r → r ≡ Good v p
+fields-turn : (s got : List ℕ) (n k at : ℕ) {r : Num} {v p : ℕ} → k < n → n ≤ 5 → k < length got → Scans s (field_at (get_or most_of k 0) (drop at s)) r → r ≡ Some (v, p)
     → fields_at (drop k (take n most_of)) (take k got) (drop at s) ≡ fields_at (drop (k + 1) (take n most_of)) (take (k + 1) (set got k v)) (drop p s)
 fields-turn s got n k at {r} {v} {p} h b i q e =
     ap (λ (ms : List ℕ). fields_at ms (take k got) (drop at s)) (next-most n k h b)
     ∙ fields-good s at (get_or most_of k 0) (drop (k + 1) (take n most_of)) (take k got) q e
     ∙ ap (λ (vs : List ℕ). fields_at (drop (k + 1) (take n most_of)) vs (drop p s)) (sym (ap (λ (j : ℕ). take j (set got k v)) (add-one k) ∙ take-suc-set got k v i))
 
-fields-stop : (s got : List ℕ) (n k at : ℕ) {r : Num} → k < n → n ≤ 5 → Scans s (field_at (get_or most_of k 0) (drop at s)) r → r ≡ Bad
+fields-stop : (s got : List ℕ) (n k at : ℕ) {r : Num} → k < n → n ≤ 5 → Scans s (field_at (get_or most_of k 0) (drop at s)) r → r ≡ None
     → fields_at (drop k (take n most_of)) got (drop at s) ≡ bad
 fields-stop s got n k at h b q e =
     ap (λ (ms : List ℕ). fields_at ms got (drop at s)) (next-most n k h b) ∙ fields-bad s at (get_or most_of k 0) (drop (k + 1) (take n most_of)) got q e
@@ -116,19 +114,19 @@ asks f s at n q = go (eqb (get_or s at 0) letter_d) (eqb (get_or s at 0) letter_
     go false false d h e = rw e (record { none = λ z. line-none f s at (eqb-false _ _ d) (eqb-false _ _ h); some = λ z. absurd (omega arith) })
 
 -- a letter asks for one field, or four, or five
-abbrev Some : ℕ → Type 0
-Some n = (n ≡ 0) ⊎ ((n ≡ 1) ⊎ ((n ≡ 4) ⊎ (n ≡ 5)))
+abbrev Asked : ℕ → Type 0
+Asked n = (n ≡ 0) ⊎ ((n ≡ 1) ⊎ ((n ≡ 4) ⊎ (n ≡ 5)))
 
-fields-some : (f : Form) (b : ℕ) → Some (fields_after f b)
+fields-some : (f : Form) (b : ℕ) → Asked (fields_after f b)
 unfolding fields_after fields_of_d
-fields-some f b = pick_all Some (eqb b letter_d) (dose f) (pick_all Some (eqb b letter_h) (inr (inl refl)) (inl refl))
+fields-some f b = pick_all Asked (eqb b letter_d) (dose f) (pick_all Asked (eqb b letter_h) (inr (inl refl)) (inl refl))
   where
-    dose : (f : Form) → Some (fields_of_d f)
+    dose : (f : Form) → Asked (fields_of_d f)
     dose Old = inr (inr (inl refl))
     dose New = inr (inr (inr refl))
 
 -- only the first n values make the line
-first-values : (n : ℕ) (vs : List ℕ) → 0 < n → Some n → line_from n (take n vs) ≡ line_from n vs
+first-values : (n : ℕ) (vs : List ℕ) → 0 < n → Asked n → line_from n (take n vs) ≡ line_from n vs
 unfolding line_from product_from on_from pick
 first-values n vs h (inl e) = absurd (omega arith)
 first-values n vs h (inr (inl e)) = rw e (ap (λ (v : ℕ). On v) (get_or-take 1 vs 0 0 (omega arith)))
@@ -150,7 +148,7 @@ line-ends f s got at n p q h e =
     (asks f s at n q).some h
     ∙ ap (λ (f : Parsed (List ℕ)). on_good f (λ vs rest. good (line_from n vs) rest)) (sym e)
     ∙ fields-end (line_from n) (take n got) (drop p s)
-    ∙ ap (λ (l : Line). expect LF (drop p s) (λ rest. good l rest)) (first-values n got h (subst Some (sym q) (fields-some f (get_or s at 0))))
+    ∙ ap (λ (l : Line). expect LF (drop p s) (λ rest. good l rest)) (first-values n got h (subst Asked (sym q) (fields-some f (get_or s at 0))))
 
 line-torn : (f : Form) (s got : List ℕ) (at n p : ℕ) → n ≡ fields_after f (get_or s at 0) → 0 < n → fields_at [] (take n got) (drop p s) ≡ fields_at (take n most_of) [] (drop (at + 1) s)
     → (get_or s p 0 ≡ LF → ⊥) → line_of f (drop at s) ≡ bad
@@ -194,7 +192,7 @@ fielded-none f s at n got q z g = let h = letter-inside f s at n q z in record {
 
 module _ {s : List ℕ} {at n : ℕ} {got : List ℕ} {k p : ℕ} (w : Fielded s at n got k p) where
   -- one field more
-  pub fielded-more : {r : Num} {v q : ℕ} → k < n → Scans s (field_at (get_or most_of k 0) (drop p s)) r → r ≡ Good v q → Fielded s at n (set got k v) (k + 1) q
+  pub fielded-more : {r : Num} {v q : ℕ} → k < n → Scans s (field_at (get_or most_of k 0) (drop p s)) r → r ≡ Some (v, q) → Fielded s at n (set got k v) (k + 1) q
   fielded-more {r} {v} {q} h c e =
       record {
         some = w.some;
@@ -215,7 +213,7 @@ module _ {s : List ℕ} {at n : ℕ} {got : List ℕ} {k p : ℕ} (w : Fielded s
 
   module _ (f : Form) (asked : n ≡ fields_after f (get_or s at 0)) where
     -- a field that is none
-    pub fielded-bad : {r : Num} → k < n → Scans s (field_at (get_or most_of k 0) (drop p s)) r → r ≡ Bad → line_of f (drop at s) ≡ bad
+    pub fielded-bad : {r : Num} → k < n → Scans s (field_at (get_or most_of k 0) (drop p s)) r → r ≡ None → line_of f (drop at s) ≡ bad
     fielded-bad h c e = line-broken f s at n asked w.some (sym w.left ∙ fields-stop s (take k got) n k p h w.most c e)
 
     -- no LF behind the last

@@ -7,10 +7,8 @@ use Rattle.journal.specs.Journal.{hour_in, no_past, past_after, out_of_order, to
 use Rattle.journal.specs.JournalLaws.{head_bytes, head_lines}
 use Rattle.journal.specs.declared.Form.{Form}
 use Rattle.journal.specs.declared.Head.{Head}
-use Rattle.journal.specs.Says.{says_one, says_at, names_of, one-one, at_one}
+use Rattle.journal.specs.Says.{One, At, says_one, says_at, names_of, one-one, at_one}
 use Rattle.journal.specs.declared.Line.{Line}
-use Rattle.journal.specs.declared.One.{One}
-use Rattle.journal.specs.declared.At.{At}
 use Rattle.journal.specs.declared.Refusal.{Refusal}
 use Rattle.journal.specs.declared.Named.{Named}
 use Rattle.journal.specs.declared.Past.{Past}

@@ -1,29 +1,36 @@
 -- What the journal's answers say, in the paper's words. Assumes nothing.
-use Rattle.std.specs.Prelude.{◌≡◌, refl, List, [], ◌∷◌, ℕ, get_or}
+use Rattle.std.specs.Prelude.{◌≡◌, refl, Option, Some, None, Result, Ok, Err, List, [], ◌∷◌, ℕ, get_or}
 use Rattle.std.proofs.Common.{sym, arith}
 use Rattle.paper.specs.Answer.{Answer, done, refused, told}
 use Rattle.paper.specs.AnswerLaws.{refused-done}
 use Rattle.paper.specs.Numbers.{R10, R11, R12, R13}
 use Rattle.journal.specs.Line.{Single, version, dated, Place, holds, no_line}
 use Rattle.journal.specs.LineLaws.{holds-none}
-use Rattle.journal.specs.declared.One.{One}
-use Rattle.journal.specs.declared.One.TheVariants as O
-use Rattle.journal.specs.declared.At.{At}
-use Rattle.journal.specs.declared.At.TheVariants as A
+use Rattle.journal.specs.declared.Line.{Line}
+use Rattle.journal.specs.declared.Entry.{Entry}
+use Rattle.journal.specs.declared.Entry.TheVariants as O
+use Rattle.journal.specs.declared.LineError.{LineError}
+use Rattle.journal.specs.declared.LineError.TheVariants as E
 use Rattle.journal.specs.declared.Refusal.{Refusal}
 use Rattle.journal.specs.declared.Refusal.TheVariants as R
 use Rattle.journal.specs.declared.Named.{Named}
 
--- a reader of one line by itself answers R10 with line 1
+-- what a reader of one line by itself answers: R10 with line 1
+abbrev pub One : Type 0
+One = Result Entry LineError
+
 abbrev pub says_one : One → Answer Single
-says_one O.Version = done version
-says_one (O.Line l) = done (dated l)
-says_one O.R10 = refused R10 (1 ∷ [])
+says_one (Ok O.Version) = done version
+says_one (Ok (O.Line l)) = done (dated l)
+says_one (Err E.R10) = refused R10 (1 ∷ [])
 
 -- a line and the place after it, or that no line stands there: it refuses nothing
+abbrev pub At : Type 0
+At = Option (Line × ℕ)
+
 abbrev pub says_at : At → Place
-says_at (A.Line l n) = holds l n
-says_at A.NoLine = no_line
+says_at (Some (l, n)) = holds l n
+says_at None = no_line
 
 -- R10 to R12 with the line; R13 names nothing
 abbrev pub says_refusal : {X : Type 0} → Refusal → Answer X
@@ -41,24 +48,24 @@ names_of R.R13 = record { number = R13; line = 0 }
 
 -- two answers that say the same are equal
 pub one-one : (a b : One) → says_one a ≡ says_one b → a ≡ b
-one-one O.Version O.Version e = refl
-one-one O.Version (O.Line m) e = let z : ◌≡◌ {A = ℕ} 0 1 = cc in absurd (omega arith)
-one-one O.Version O.R10 e = refused-done (sym e)
-one-one (O.Line l) O.Version e = let z : ◌≡◌ {A = ℕ} 0 1 = cc in absurd (omega arith)
-one-one (O.Line l) (O.Line m) e = cc
-one-one (O.Line l) O.R10 e = cc
-one-one O.R10 O.Version e = refused-done e
-one-one O.R10 (O.Line m) e = cc
-one-one O.R10 O.R10 e = refl
+one-one (Ok O.Version) (Ok O.Version) e = refl
+one-one (Ok O.Version) (Ok (O.Line m)) e = let z : ◌≡◌ {A = ℕ} 0 1 = cc in absurd (omega arith)
+one-one (Ok O.Version) (Err E.R10) e = refused-done (sym e)
+one-one (Ok (O.Line l)) (Ok O.Version) e = let z : ◌≡◌ {A = ℕ} 0 1 = cc in absurd (omega arith)
+one-one (Ok (O.Line l)) (Ok (O.Line m)) e = cc
+one-one (Ok (O.Line l)) (Err E.R10) e = refused-done (sym e)
+one-one (Err E.R10) (Ok O.Version) e = refused-done e
+one-one (Err E.R10) (Ok (O.Line m)) e = refused-done e
+one-one (Err E.R10) (Err E.R10) e = refl
 
 pub at_one : (a b : At) → says_at a ≡ says_at b → a ≡ b
-at_one (A.Line l n) (A.Line m k) e =
+at_one (Some (l, n)) (Some (m, k)) e =
     let a : l ≡ m = cc in
     let b : n ≡ k = cc in
-    cc
-at_one (A.Line l n) A.NoLine e = holds-none e
-at_one A.NoLine (A.Line m k) e = holds-none (sym e)
-at_one A.NoLine A.NoLine e = refl
+    rw (a, b)
+at_one (Some (l, n)) None e = holds-none e
+at_one None (Some (m, k)) e = holds-none (sym e)
+at_one None None e = refl
 
 pub refusal-one : {X : Type 0} (a b : Refusal) → says_refusal {X = X} a ≡ says_refusal b → a ≡ b
 refusal-one (R.R10 n) (R.R10 m) e = cc

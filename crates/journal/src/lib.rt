@@ -9,17 +9,17 @@ ghost use Rattle.journal.specs.Fields.{product_from};
 ghost use Rattle.journal.specs.Says.{says_one};
 ghost use Rattle.journal.specs.Promises.{StandsAt, ReadsLine, Heads, CountsFields, MakesLine, HoursLine, Begins, TakesLine, BreaksOrder, GoesFar, Names};
 
-use text::{LF, Num, TAB};
+use text::{LF, TAB};
 
 // The form of a journal: without a V line, its D lines have no product; or with one, and its D lines have it last.
-#[derive(Clone, Copy)]
+#[derive(Clone, Copy, Debug, PartialEq, Eq)]
 pub enum Form {
     Old,
     New,
 }
 
 // A line: a completed dose, or that the box was on for all of an hour.
-#[derive(Clone, Copy)]
+#[derive(Clone, Copy, Debug, PartialEq, Eq)]
 pub enum Line {
     Dose {
         hour: u32,
@@ -33,31 +33,29 @@ pub enum Line {
     },
 }
 
-// What the reader of one line answers: the V line of the new form, a line with an hour, or neither.
-#[derive(Clone, Copy)]
-pub enum One {
+// A line by itself: the V line of the new form, or a line with an hour.
+#[derive(Clone, Copy, Debug, PartialEq, Eq)]
+pub enum Entry {
     Version,
     Line(Line),
+}
+
+// Some bytes are no line.
+#[derive(Clone, Copy, Debug, PartialEq, Eq)]
+pub enum LineError {
     R10,
 }
 
 // What stands before the first line with an hour: so many bytes and lines, by the journal's form.
-#[derive(Clone, Copy)]
+#[derive(Clone, Copy, Debug, PartialEq, Eq)]
 pub struct Head {
     pub form: Form,
     pub bytes: usize,
     pub lines: usize,
 }
 
-// What stands at a place of a journal: a line and the place after its LF, or no line.
-#[derive(Clone, Copy)]
-pub enum At {
-    Line { line: Line, next: usize },
-    NoLine,
-}
-
 // Why a journal is refused, with the line.
-#[derive(Clone, Copy)]
+#[derive(Clone, Copy, Debug, PartialEq, Eq)]
 pub enum Refusal {
     R10(usize),
     R11(usize),
@@ -66,14 +64,14 @@ pub enum Refusal {
 }
 
 // A refusal's number, and the line that it names.
-#[derive(Clone, Copy)]
+#[derive(Clone, Copy, Debug, PartialEq, Eq)]
 pub struct Named {
     pub number: u64,
     pub line: u64,
 }
 
 // What the lines so far say of the hours: whether there are any, whether the last one is closed by an H, the first hour and the last.
-#[derive(Clone, Copy)]
+#[derive(Clone, Copy, Debug, PartialEq, Eq)]
 pub struct Past {
     pub begun: bool,
     pub closed: bool,
@@ -93,6 +91,8 @@ pub const TWO: u8 = 50;
 
 // The V line has so many bytes.
 pub const VERSION_LEN: usize = 4;
+
+const VERSION: [u8; VERSION_LEN] = [V, TAB, TWO, LF];
 
 // The greatest values of a line's fields after its letter: hour, count, amount, settled, product.
 pub const HOUR_MOST: u32 = 9999999;
@@ -129,16 +129,7 @@ pub const SPAN: usize = 744;
 fn has_version(bytes: &[u8]) -> bool
     ensures { result ≡ versioned bytes.now }
 {
-    if text::byte_at(bytes, 0) != V {
-        return false;
-    }
-    if text::byte_at(bytes, 1) != TAB {
-        return false;
-    }
-    if text::byte_at(bytes, 2) != TWO {
-        return false;
-    }
-    text::byte_at(bytes, 3) == LF
+    bytes.starts_with(&VERSION)
 }
 
 // A journal's form, and what stands before its first line with an hour.
@@ -163,113 +154,91 @@ pub fn head_of(bytes: &[u8]) -> Head
 pub fn fields_after(form: Form, letter: u8) -> usize
     ensures { CountsFields form letter result }
 {
-    if letter == D {
-        match form {
-            Form::Old => {
-                return 4;
-            }
-            Form::New => {
-                return 5;
-            }
-        }
+    match letter {
+        D => match form {
+            Form::Old => 4,
+            Form::New => 5,
+        },
+        H => 1,
+        _ => 0,
     }
-    if letter == H {
-        return 1;
-    }
-    0
 }
 
 // The product of a dose of n fields: its last one if it has five, else 0.
 fn product_from(n: usize, last: u32) -> u32
     ensures { result ≡ product_from n last }
 {
-    if n == 5 {
-        return last;
-    }
-    0
+    if n == 5 { last } else { 0 }
 }
 
 // The line of n fields.
 pub fn line_from(n: usize, got: [u32; FIELDS]) -> Line
     ensures { MakesLine n got result }
 {
-    let hour = got[0];
     if n == 1 {
-        return Line::On { hour };
+        return Line::On { hour: got[0] };
     }
-    let count = got[1];
-    let amount = got[2];
-    let settled = got[3];
-    let product = product_from(n, got[4]);
     Line::Dose {
-        hour,
-        count,
-        amount,
-        settled,
-        product,
+        hour: got[0],
+        count: got[1],
+        amount: got[2],
+        settled: got[3],
+        product: product_from(n, got[4]),
     }
 }
 
-// The line with an hour at a place and the place after it.
-pub fn line_at(form: Form, bytes: &[u8], at: usize) -> At
+// The line with an hour at a place and the place after its LF.
+pub fn line_at(form: Form, bytes: &[u8], at: usize) -> Option<(Line, usize)>
     ensures { StandsAt form bytes.now at result }
 {
     let fields = fields_after(form, text::byte_at(bytes, at));
     if fields == 0 {
-        return At::NoLine;
+        return None;
     }
     let mut got = [0u32; FIELDS];
-    let mut k: usize = 0;
     let mut p = at + 1;
-    while k < fields {
-        let Num::Good(v, next) = text::field_at(bytes, p, MOST[k]) else {
-            return At::NoLine;
+    for k in 0..fields {
+        let Some((v, next)) = text::field_at(bytes, p, MOST[k]) else {
+            return None;
         };
         got[k] = v;
         p = next;
-        k += 1;
     }
     if text::byte_at(bytes, p) != LF {
-        return At::NoLine;
+        return None;
     }
-    At::Line {
-        line: line_from(fields, got),
-        next: p + 1,
-    }
+    Some((line_from(fields, got), p + 1))
 }
 
 // A line with an hour by itself, its LF included.
-fn read_dated(form: Form, bytes: &[u8]) -> One
+fn read_dated(form: Form, bytes: &[u8]) -> Result<Entry, LineError>
     ensures { says_one result ≡ whole (line_of form bytes.now) }
 {
-    let At::Line { line, next } = line_at(form, bytes, 0) else {
-        return One::R10;
+    let Some((line, next)) = line_at(form, bytes, 0) else {
+        return Err(LineError::R10);
     };
     if next < bytes.len() {
-        return One::R10;
+        return Err(LineError::R10);
     }
-    One::Line(line)
+    Ok(Entry::Line(line))
 }
 
 // Whether some bytes are the V line and nothing else.
 fn is_version(bytes: &[u8]) -> bool
     ensures { result ≡ is_version bytes.now }
 {
-    if bytes.len() == VERSION_LEN {
-        return has_version(bytes);
-    }
-    false
+    bytes.len() == VERSION_LEN && has_version(bytes)
 }
 
 // A line by itself, its LF included: in the new form the V line too.
-pub fn read_line(form: Form, bytes: &[u8]) -> One
+pub fn read_line(form: Form, bytes: &[u8]) -> Result<Entry, LineError>
     ensures { ReadsLine form bytes.now result }
 {
     match form {
         Form::Old => read_dated(form, bytes),
         Form::New => {
             if is_version(bytes) {
-                return One::Version;
+                return Ok(Entry::Version);
             }
             read_dated(form, bytes)
         }
@@ -281,13 +250,7 @@ pub fn hour_in(line: Line) -> u32
     ensures { HoursLine line result }
 {
     match line {
-        Line::Dose {
-            hour,
-            count: _,
-            amount: _,
-            settled: _,
-            product: _,
-        } => hour,
+        Line::Dose { hour, .. } => hour,
         Line::On { hour } => hour,
     }
 }
@@ -296,16 +259,7 @@ pub fn hour_in(line: Line) -> u32
 fn closes_hour(line: Line) -> bool
     ensures { result ≡ closes line }
 {
-    match line {
-        Line::Dose {
-            hour: _,
-            count: _,
-            amount: _,
-            settled: _,
-            product: _,
-        } => false,
-        Line::On { hour: _ } => true,
-    }
+    matches!(line, Line::On { .. })
 }
 
 // Before the first line.
@@ -324,10 +278,7 @@ pub fn no_past() -> Past
 fn first_hour(past: Past, hour: u32) -> u32
     ensures { result ≡ pick past.begun past.first hour }
 {
-    if past.begun {
-        return past.first;
-    }
-    hour
+    if past.begun { past.first } else { hour }
 }
 
 // After one line more.
@@ -347,24 +298,19 @@ pub fn past_after(past: Past, line: Line) -> Past
 pub fn out_of_order(past: Past, hour: u32) -> bool
     ensures { BreaksOrder past hour result }
 {
-    if past.begun {
-        if past.closed {
-            return hour <= past.last;
+    past.begun
+        && if past.closed {
+            hour <= past.last
+        } else {
+            hour < past.last
         }
-        return hour < past.last;
-    }
-    false
 }
 
 // R12: the hour is 744 or more above the first line's.
 pub fn too_far(past: Past, hour: u32) -> bool
     ensures { GoesFar past hour result }
 {
-    if past.begun {
-        let first = past.first as u64;
-        return first + SPAN as u64 <= hour as u64;
-    }
-    false
+    past.begun && past.first as u64 + SPAN as u64 <= hour as u64
 }
 
 // The number of a refusal and the line that it names, 0 for R13.

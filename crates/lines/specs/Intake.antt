@@ -1,5 +1,5 @@
 -- An input that comes in blocks: what is carried from read to read, the line that is handed over next, and that over any blocks the lines are those of the whole input. Assumes nothing.
-use Rattle.std.specs.Prelude.{◌≡◌, refl, Bool, true, false, ◌||◌, ltb}
+use Rattle.std.specs.Prelude.{◌≡◌, refl, Bool, true, false, ◌||◌, ltb, Option, Some, None}
 use Rattle.std.proofs.Math.Path.{sym, ap, subst}
 use Rattle.std.proofs.Common.{◌∙◌, length-append, take-take, take_at, drop-drop}
 use mathlib.Core.List.{List, [], ◌∷◌, ◌++◌, append_assoc}
@@ -16,8 +16,6 @@ use Rattle.paper.specs.Answer.{same}
 use Rattle.text.specs.Scan.{LF}
 use Rattle.lines.specs.declared.Intake.{Intake}
 use Rattle.lines.specs.declared.Taken.{Taken}
-use Rattle.lines.specs.declared.Next.{Next}
-use Rattle.lines.specs.declared.Next.TheVariants.{Line, More}
 use Rattle.lines.specs.Lines.{lines_from, lines_of, begun_of, too_long, asked, Plain, lines-begun, lines-whole, lines_long}
 use Rattle.lines.specs.Places.{plain_length, end_of, part_of, part_held, Carries, plain-taken, plain-within, plain-line, plain-begun}
 
@@ -45,7 +43,7 @@ overlong i end = i.long || ltb 4095 (end - i.at)
 unfoldable pub line_to : Intake → ℕ → Taken
 line_to i end =
     let from = pick (overlong i end) end i.at in
-    record { intake = record { at = end + 1; have = i.have; long = false }; next = Line from end }
+    record { intake = record { at = end + 1; have = i.have; long = false }; next = Some (from, end) }
 
 -- a begun line is left, or dropped once it is too long
 unfoldable pub begun_to : Intake → ℕ → Intake
@@ -56,7 +54,7 @@ unfoldable pub next_of : Intake → List ℕ → Taken
 next_of i buffer =
     let held = take i.have buffer in
     let end = end_of held i.at in
-    pick (ltb end (length held)) (line_to i end) (record { intake = begun_to i end; next = More })
+    pick (ltb end (length held)) (line_to i end) (record { intake = begun_to i end; next = None })
 
 -- ---- the contracts
 
@@ -76,9 +74,9 @@ next-determined i buffer p q = same p q
 -- ---- the law of a step
 
 -- the line that an answer hands over
-unfoldable pub handed : List ℕ → Next → List (List ℕ)
-handed buffer (Line from to) = part_of from to buffer ∷ []
-handed buffer More = []
+unfoldable pub handed : List ℕ → Option (ℕ × ℕ) → List (List ℕ)
+handed buffer (Some (from, to)) = part_of from to buffer ∷ []
+handed buffer None = []
 
 -- a line lies in the buffer and has at most 4,095 bytes, and the next one begins behind it
 pub record Behind (i : Intake) (buffer : List ℕ) (from to : ℕ) (next : Intake) : Type 0 where
@@ -95,9 +93,9 @@ pub record Waits (i : Intake) (buffer : List ℕ) : Type 0 where
   pub few : length (pending i buffer) ≤ 4095
 
 -- so a buffer of 4,096 bytes has room for one more
-abbrev pub NextStands : Intake → List ℕ → Intake → Next → Type 0
-NextStands i buffer next (Line from to) = Behind i buffer from to next
-NextStands i buffer next More = Waits next buffer
+abbrev pub NextStands : Intake → List ℕ → Intake → Option (ℕ × ℕ) → Type 0
+NextStands i buffer next (Some (from, to)) = Behind i buffer from to next
+NextStands i buffer next None = Waits next buffer
 
 -- what a step hands over and leaves, and that its places are good
 pub record Steps (i : Intake) (buffer : List ℕ) (t : Taken) : Type 0 where
@@ -183,7 +181,7 @@ module _ (i : Intake) (buffer : List ℕ) where
       ltb-true 4095 (length (begun_of i.long ++ rest)) (sym (overlong-is i end rest size) ∙ e)
 
   -- nothing of it is pending once it is dropped
-  begun-steps : length held ≤ end → Steps i buffer (record { intake = begun_to i end; next = More })
+  begun-steps : length held ≤ end → Steps i buffer (record { intake = begun_to i end; next = None })
   unfolding comes pending handed begun_to
   begun-steps h =
       let p = plain-begun rest (omega (arith, length-drop i.at held)) in

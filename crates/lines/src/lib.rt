@@ -13,17 +13,11 @@ pub struct Intake {
     pub long: bool,
 }
 
-// The next whole line, from one place of the buffer to another, or that more has to be read.
-#[derive(Clone, Copy)]
-pub enum Next {
-    Line { from: usize, to: usize },
-    More,
-}
-
+// The next whole line, from one place of the buffer to another; none where more has to be read.
 #[derive(Clone, Copy)]
 pub struct Taken {
     pub intake: Intake,
-    pub next: Next,
+    pub next: Option<(usize, usize)>,
 }
 
 // A line has at most so many bytes, its LF left out.
@@ -33,14 +27,12 @@ const LONGEST: usize = 4095;
 fn end_from(block: &[u8], at: usize) -> usize
     ensures { result ≡ end_of block.now at }
 {
-    let mut i = at;
-    while i < block.len() {
+    for i in at..block.len() {
         if block[i] == text::LF {
             return i;
         }
-        i += 1;
     }
-    i
+    at.max(block.len())
 }
 
 // Whether an LF is among the n bytes from `at` on: all are looked at, which a compiler does at once.
@@ -49,10 +41,8 @@ fn has_lf(block: &[u8], at: usize, n: usize) -> bool
     ensures { result ≡ false → end_of block.now (at + n) ≡ end_of block.now at }
 {
     let mut found = false;
-    let mut k: usize = 0;
-    while k < n {
-        found = found | (block[at + k] == text::LF);
-        k += 1;
+    for &b in &block[at..at + n] {
+        found |= b == text::LF;
     }
     found
 }
@@ -72,17 +62,15 @@ fn end_near(block: &[u8], at: usize) -> usize
 fn line_end(block: &[u8], at: usize) -> usize
     ensures { result ≡ end_of block.now at }
 {
-    let mut i = at;
-    while i < block.len() {
+    for i in (at..block.len()).step_by(16) {
         if block.len() - i < 16 {
             return end_from(block, i);
         }
         if has_lf(block, i, 16) {
             return end_near(block, i);
         }
-        i += 16;
     }
-    i
+    at.max(block.len())
 }
 
 impl Intake {
@@ -101,42 +89,27 @@ impl Intake {
     pub fn next_line(self, buffer: &[u8]) -> Taken
         ensures { HandsOver self buffer.now result }
     {
-        let have = text::least(self.have, buffer.len());
+        let have = self.have.min(buffer.len());
         let end = line_end(&buffer[..have], self.at);
         let over = self.long | (LONGEST < end - self.at);
         if have <= end {
-            if over {
-                return Taken {
-                    intake: Intake {
-                        at: end,
-                        have: self.have,
-                        long: true,
-                    },
-                    next: Next::More,
-                };
-            }
-            return Taken {
-                intake: self,
-                next: Next::More,
+            let begun = Intake {
+                at: end,
+                have: self.have,
+                long: true,
             };
+            let intake = if over { begun } else { self };
+            return Taken { intake, next: None };
         }
         let intake = Intake {
             at: end + 1,
             have: self.have,
             long: false,
         };
-        if over {
-            return Taken {
-                intake,
-                next: Next::Line { from: end, to: end },
-            };
-        }
+        let from = if over { end } else { self.at };
         Taken {
             intake,
-            next: Next::Line {
-                from: self.at,
-                to: end,
-            },
+            next: Some((from, end)),
         }
     }
 }
@@ -145,13 +118,8 @@ impl Intake {
 pub fn carry(buffer: &mut [u8], from: usize, to: usize) -> usize
     ensures { Carries from to buffer.old buffer.new result }
 {
-    let end = text::least(to, buffer.len());
-    let mut i = from;
-    let mut n: usize = 0;
-    while i < end {
-        buffer[n] = buffer[i];
-        n += 1;
-        i += 1;
-    }
-    n
+    let end = to.min(buffer.len());
+    let start = from.min(end);
+    buffer.copy_within(start..end, 0);
+    end - start
 }

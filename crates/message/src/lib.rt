@@ -1,15 +1,14 @@
 // What stands in a body: the address form, the operation code and the data.
 #![tactic(auto)]
 
-ghost use Rattle.std.specs.Prelude.{◌≡◌, ◌+◌, ◌≤◌, length, replicate};
-ghost use Rattle.std.proofs.lemmas.List.Edits.{sets};
-ghost use Rattle.paper.specs.Answer.{Hands};
+ghost use Rattle.std.specs.Prelude.{◌≡◌, ◌≤◌, length};
+ghost use Rattle.paper.specs.Answer.{told};
 ghost use Rattle.frame.specs.Puts.{PutsBytes};
 ghost use Rattle.message.specs.Message.{serial_of, address_bytes, proper, framable_of};
-ghost use Rattle.message.specs.Says.{says_built, Splits, Builds};
+ghost use Rattle.message.specs.Says.{says_built, handed, Splits, Builds};
 
 // The address form: an address, or an extended address, which is a serial number.
-#[derive(Clone, Copy)]
+#[derive(Clone, Copy, Debug, PartialEq, Eq)]
 pub enum Form {
     Address(u8),
     Serial(u32),
@@ -21,7 +20,7 @@ impl Form {
 }
 
 // The parts of a body; its data stand from place `from` up to place `to`.
-#[derive(Clone, Copy)]
+#[derive(Clone, Copy, Debug, PartialEq, Eq)]
 pub struct Parts {
     pub form: Form,
     pub operation: u8,
@@ -29,25 +28,24 @@ pub struct Parts {
     pub to: usize,
 }
 
-#[derive(Clone, Copy)]
-pub enum Split {
-    Parts(Parts),
+// Why a finished body has no parts: it is too short.
+#[derive(Clone, Copy, Debug, PartialEq, Eq)]
+pub enum SplitError {
     R6,
 }
 
-// What building answers: the length of the body, or a refusal: a form that its bytes would not give back, which has no number in document 01, or R14.
-#[derive(Clone, Copy)]
-pub enum Built {
-    Body(usize),
-    Improper,
-    R14,
-}
-
-// The answer beside the body, without its check; the places past the body are 0.
+// A body of len bytes, without its check; the places past the body are 0.
 #[derive(Clone, Copy)]
 pub struct Body {
-    pub built: Built,
     pub bytes: [u8; 254],
+    pub len: usize,
+}
+
+// Why no body is built: a form that its bytes would not give back, which has no number in document 01, or R14.
+#[derive(Clone, Copy, Debug, PartialEq, Eq)]
+pub enum BuildError {
+    Improper,
+    R14,
 }
 
 // The serial of three bytes.
@@ -58,29 +56,29 @@ fn serial_of(low: u8, middle: u8, high: u8) -> u32
 }
 
 // Splits a finished body into its parts.
-pub fn split_body(body: &[u8]) -> Split
+pub fn split_body(body: &[u8]) -> Result<Parts, SplitError>
     ensures { Splits body.now result }
 {
     if body.len() < 3 {
-        return Split::R6;
+        return Err(SplitError::R6);
     }
+    let to = body.len() - 1;
     if body[0] != 0 {
-        return Split::Parts(Parts {
+        return Ok(Parts {
             form: Form::Address(body[0]),
             operation: body[1],
             from: 2,
-            to: body.len() - 1,
+            to,
         });
     }
     if body.len() < 6 {
-        return Split::R6;
+        return Err(SplitError::R6);
     }
-    let serial = serial_of(body[1], body[2], body[3]);
-    Split::Parts(Parts {
-        form: Form::Serial(serial),
+    Ok(Parts {
+        form: Form::Serial(serial_of(body[1], body[2], body[3])),
         operation: body[4],
         from: 5,
-        to: body.len() - 1,
+        to,
     })
 }
 
@@ -104,28 +102,6 @@ fn put_address(out: &mut [u8], form: Form) -> usize
     }
 }
 
-// Puts bytes from a place on.
-fn put_all(out: &mut [u8], at: usize, values: &[u8])
-    requires { at + length values.now ≤ length out.old }
-    ensures { out.new ≡ sets out.old at values.now }
-{
-    let mut i: usize = 0;
-    while i < values.len() {
-        out[at + i] = values[i];
-        i += 1;
-    }
-}
-
-// A refusal.
-fn no_body(built: Built) -> Body
-    ensures { (result.built ≡ built) × (result.bytes ≡ replicate 254 0) }
-{
-    Body {
-        built,
-        bytes: [0u8; 254],
-    }
-}
-
 // Whether a form's bytes give it back.
 fn proper(form: Form) -> bool
     ensures { result ≡ proper form }
@@ -137,32 +113,29 @@ fn proper(form: Form) -> bool
 }
 
 // Address, operation code and data as a body, if it can be framed.
-fn framable_body(form: Form, operation: u8, values: &[u8]) -> Body
-    ensures { Hands 254 (says_built result.built) (framable_of form operation values.now) result.bytes }
+fn framable_body(form: Form, operation: u8, values: &[u8]) -> Result<Body, BuildError>
+    ensures { says_built result ≡ told handed (framable_of form operation values.now) }
 {
     let mut bytes = [0u8; 254];
     let head = put_address(&mut bytes, form);
     if 253 - head < values.len() {
-        return no_body(Built::R14);
+        return Err(BuildError::R14);
     }
+    let len = head + 1 + values.len();
     bytes[head] = operation;
-    put_all(&mut bytes, head + 1, values);
-    let n = head + 1 + values.len();
-    if !frame::framable(&bytes[..n]) {
-        return no_body(Built::R14);
+    bytes[head + 1..len].copy_from_slice(values);
+    if !frame::framable(&bytes[..len]) {
+        return Err(BuildError::R14);
     }
-    Body {
-        built: Built::Body(n),
-        bytes,
-    }
+    Ok(Body { bytes, len })
 }
 
 // Builds a body of address, operation code and data, without its check.
-pub fn build_body(form: Form, operation: u8, values: &[u8]) -> Body
+pub fn build_body(form: Form, operation: u8, values: &[u8]) -> Result<Body, BuildError>
     ensures { Builds form operation values.now result }
 {
     if !proper(form) {
-        return no_body(Built::Improper);
+        return Err(BuildError::Improper);
     }
     framable_body(form, operation, values)
 }

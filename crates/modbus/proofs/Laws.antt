@@ -35,9 +35,6 @@ pub enter_all-step : (l : List ℕ) (i c : ℕ) → i < length l → enter_all c
 unfolding enter_all
 enter_all-step l i c h = rw (add-one, drop-cons l i 0)
 
-pub bytes-step : (out l : List ℕ) (i : ℕ) → i < length l → sets out i (drop i l) ≡ sets (set out i (get_or l i 0)) (i + 1) (drop (i + 1) l)
-bytes-step out l i h = rw (add-one, drop-cons l i 0)
-
 pub words_step : (out l : List ℕ) (to i : ℕ) → i < length l
     → sets out to (word_bytes (drop i l)) ≡ sets (set (set out to (get_or l i 0 / 256)) (to + 1) (get_or l i 0 % 256)) (to + 2) (word_bytes (drop (i + 1) l))
 unfolding word_bytes

@@ -3,7 +3,7 @@ ghost use Rattle.std.specs.Prelude.{◌≡◌, ◌≤◌, ◌<◌, length};
 ghost use Rattle.modbus.specs.Asks.{exception, word_at, length_good, crc_good, address_good, read_ask, write_ask, ask_by, heard_by};
 ghost use Rattle.modbus.specs.Says.{asks_of, says_hearing, Hears};
 
-use crate::{Ask, Asked, Hearing, LINK, REGISTERS, crc};
+use crate::{Ask, Asked, HearError, LINK, REGISTERS, crc};
 
 // A number of the data, high byte first.
 fn word_at(frame: &[u8], i: usize) -> u16
@@ -56,10 +56,7 @@ fn exception_of(function: u8, number: u8) -> Ask
 fn read_ask(start: u16, quantity: u16) -> Ask
     ensures { asks_of result ≡ read_ask start quantity }
 {
-    if quantity < 1 {
-        return exception_of(3, 3);
-    }
-    if 125 < quantity {
+    if quantity < 1 || 125 < quantity {
         return exception_of(3, 3);
     }
     if REGISTERS < start as usize + quantity as usize {
@@ -85,40 +82,32 @@ fn write_ask(register: u16, value: u16) -> Ask
 fn ask_by(function: u8, frame: &[u8]) -> Ask
     ensures { asks_of result ≡ ask_by function frame.now }
 {
-    if function == 3 {
-        return read_ask(word_at(frame, 2), word_at(frame, 4));
+    match function {
+        3 => read_ask(word_at(frame, 2), word_at(frame, 4)),
+        6 => write_ask(word_at(frame, 2), word_at(frame, 4)),
+        _ => exception_of(function, 1),
     }
-    if function == 6 {
-        return write_ask(word_at(frame, 2), word_at(frame, 4));
-    }
-    exception_of(function, 1)
 }
 
 // A good write to address 0 acts; anything else sent there is silent.
-fn heard_by(everyone: bool, ask: Ask) -> Hearing
+fn heard_by(everyone: bool, ask: Ask) -> Result<Asked, HearError>
     ensures { says_hearing result ≡ heard_by everyone (asks_of ask) }
 {
     if !everyone {
-        return Hearing::Asked(Asked::Ours(ask));
+        return Ok(Asked::Ours(ask));
     }
     let Ask::Link(on) = ask else {
-        return Hearing::R17;
+        return Err(HearError::R17);
     };
-    Hearing::Asked(Asked::ForAll(on))
+    Ok(Asked::ForAll(on))
 }
 
 // What a frame asks of the slave with an address, or R17.
-pub fn hear(address: u8, frame: &[u8]) -> Hearing
+pub fn hear(address: u8, frame: &[u8]) -> Result<Asked, HearError>
     ensures { Hears address frame.now result }
 {
-    if !length_good(frame) {
-        return Hearing::R17;
-    }
-    if !crc_good(frame) {
-        return Hearing::R17;
-    }
-    if !address_good(address, frame) {
-        return Hearing::R17;
+    if !length_good(frame) || !crc_good(frame) || !address_good(address, frame) {
+        return Err(HearError::R17);
     }
     let ask = ask_by(text::byte_at(frame, 1), frame);
     heard_by(text::byte_at(frame, 0) == 0, ask)

@@ -15,10 +15,8 @@ fn enter(c: u16, b: u8) -> u16
     ensures { result ≡ enter c b }
 {
     let mut s = c ^ b as u16;
-    let mut k: usize = 0;
-    while k < 8 {
+    for _ in 0..8u32 {
         s = shift(s);
-        k += 1;
     }
     s
 }
@@ -28,10 +26,8 @@ pub fn crc16(bytes: &[u8]) -> u16
     ensures { Sums bytes.now result }
 {
     let mut c: u16 = 0xFFFF;
-    let mut i: usize = 0;
-    while i < bytes.len() {
-        c = enter(c, bytes[i]);
-        i += 1;
+    for &b in bytes {
+        c = enter(c, b);
     }
     c
 }

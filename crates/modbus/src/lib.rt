@@ -16,7 +16,7 @@ const REGISTERS: usize = 11;
 const LINK: u16 = 10;
 
 // What a frame asks: registers from a first one on, the link start set or cleared, or what an exception answers.
-#[derive(Clone, Copy)]
+#[derive(Clone, Copy, Debug, PartialEq, Eq)]
 pub enum Ask {
     Registers { start: u16, quantity: u16 },
     Link(bool),
@@ -24,22 +24,20 @@ pub enum Ask {
 }
 
 // Whom a frame asks: this slave alone, or all, which is a link start.
-#[derive(Clone, Copy)]
+#[derive(Clone, Copy, Debug, PartialEq, Eq)]
 pub enum Asked {
     Ours(Ask),
     ForAll(bool),
 }
 
-// What is heard in a frame: what it asks, or nothing.
-#[derive(Clone, Copy)]
-pub enum Hearing {
-    Asked(Asked),
+// Why nothing is heard in a frame.
+#[derive(Clone, Copy, Debug, PartialEq, Eq)]
+pub enum HearError {
     R17,
 }
 
-// What serving answers: the reply's length, or that the buffer is too short.
-#[derive(Clone, Copy)]
-pub enum Sent {
-    Bytes(usize),
+// Why no reply is sent: the buffer is too short.
+#[derive(Clone, Copy, Debug, PartialEq, Eq)]
+pub enum SendError {
     R8,
 }

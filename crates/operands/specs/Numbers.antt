@@ -1,5 +1,5 @@
 -- A number that may be below 0, read at a place of a line, and a row of numbers as settings. Assumes nothing.
-use Rattle.std.specs.Prelude.{◌≡◌, refl, List, [], ◌∷◌, ℕ, zero, suc, ◌≤◌, eqb, ℤ, pos, neg_ℤ, length, get_or, drop}
+use Rattle.std.specs.Prelude.{◌≡◌, refl, Option, Some, None, List, [], ◌∷◌, ℕ, zero, suc, ◌≤◌, eqb, ℤ, pos, neg_ℤ, length, get_or, drop}
 use Rattle.std.proofs.Common.{sym, ◌∙◌}
 use Rattle.laws.specs.Pick.{pick}
 use Rattle.laws.specs.Decimal.{Parsed, good, bad, number_at}
@@ -7,8 +7,6 @@ use Rattle.paper.specs.Answer.{same}
 use Rattle.settings.specs.declared.Settings.{Settings}
 use Rattle.text.specs.Scan.{TAB, expect}
 use Rattle.text.specs.ScanLaws.{bad-good, good-one}
-use Rattle.operands.specs.declared.Signed.{Signed}
-use Rattle.operands.specs.declared.Signed.TheVariants as S
 
 -- a number below 0: a minus, and a number that is not 0
 unfoldable pub minus : Parsed ℕ → Parsed ℤ
@@ -52,14 +50,18 @@ set_with row product =
       product = product;
     }
 
+-- a value and the place after it, or none
+abbrev pub Signed : Type 0
+Signed = Option (ℤ × ℕ)
+
 -- what the reader answers: the value, and the bytes of s that follow it
 abbrev pub leads_signed : List ℕ → Signed → Parsed ℤ
-leads_signed s (S.Good v next) = good v (drop next s)
-leads_signed s S.Bad = bad
+leads_signed s (Some (v, next)) = good v (drop next s)
+leads_signed s None = bad
 
 abbrev pub signed_end : Signed → ℕ
-signed_end (S.Good v next) = next
-signed_end S.Bad = 0
+signed_end (Some (v, next)) = next
+signed_end None = 0
 
 -- what each call's result has to meet
 pub record ReadsSigned (s : List ℕ) (at : ℕ) (r : Signed) : Type 0 where
@@ -74,10 +76,10 @@ pub signed-determined : (s : List ℕ) (at : ℕ) {a b : Signed} → ReadsSigned
 signed-determined s at {a} {b} p q = go a b (sym p.reads ∙ q.reads) p.inside q.inside
   where
     go : (a b : Signed) → leads_signed s a ≡ leads_signed s b → signed_end a ≤ length s → signed_end b ≤ length s → a ≡ b
-    go (S.Good v m) (S.Good w n) e h k = let o = good-one s m n e h k in rw (o.0, o.1)
-    go (S.Good v m) S.Bad e h k = bad-good (sym e)
-    go S.Bad (S.Good w n) e h k = bad-good e
-    go S.Bad S.Bad e h k = refl
+    go (Some (v, m)) (Some (w, n)) e h k = let o = good-one s m n e h k in rw (o.0, o.1)
+    go (Some (v, m)) None e h k = bad-good (sym e)
+    go None (Some (w, n)) e h k = bad-good e
+    go None None e h k = refl
 
 pub set-determined : (row : List ℕ) (product : ℕ) {a b : Settings} → MakesSet row product a → MakesSet row product b → a ≡ b
 set-determined row product p q = same p q

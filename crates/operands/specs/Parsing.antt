@@ -4,9 +4,8 @@ use Rattle.std.proofs.Common.{ap, ◌∙◌, add-one, drop-cons}
 use Rattle.laws.specs.Pick.{pick, pick-if}
 use Rattle.laws.specs.Decimal.{Parsed, good, bad}
 use Rattle.laws.specs.DecimalLaws.{number-only}
-use Rattle.text.specs.Scan.{on_good, expect, field_at, leads, Scans}
+use Rattle.text.specs.Scan.{Num, on_good, expect, field_at, leads, Scans}
 use Rattle.text.specs.ScanLaws.{bad-good}
-use Rattle.text.specs.declared.Num.{Num}
 
 pub on-good : {X Y : Type 0} {p : Parsed X} {v : X} {rest : List ℕ} (k : X → List ℕ → Parsed Y) → p ≡ good v rest → on_good p k ≡ k v rest
 unfolding on_good

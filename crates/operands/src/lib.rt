@@ -6,40 +6,28 @@ ghost use Rattle.operands.specs.Numbers.{ReadsSigned, MakesSet};
 ghost use Rattle.operands.specs.Bytes.{is_hex, standing, CountsBytes};
 
 use settings::Settings;
-use text::Num;
-
-// A number that may be below 0, read at a place: its value and the place after it, or none.
-#[derive(Clone, Copy)]
-pub enum Signed {
-    Good(i32, usize),
-    Bad,
-}
 
 // The greatest number.
 pub const GREATEST: u32 = 4294967295;
 
-const MINUS: u8 = 45;
+const MINUS: u8 = b'-';
 
-// A tab and a number that may begin with a minus, at a place; 0 has none.
-pub fn signed_at(s: &[u8], at: usize) -> Signed
+// A tab and a number that may begin with a minus, at a place, with the place after it; 0 has none.
+pub fn signed_at(s: &[u8], at: usize) -> Option<(i32, usize)>
     ensures { ReadsSigned s.now at result }
 {
     if text::byte_at(s, at) != text::TAB {
-        return Signed::Bad;
+        return None;
     }
     if text::byte_at(s, at + 1) != MINUS {
-        let Num::Good(v, next) = text::number_at(s, at + 1, 2147483647) else {
-            return Signed::Bad;
-        };
-        return Signed::Good(v as i32, next);
+        let (v, next) = text::number_at(s, at + 1, 2147483647)?;
+        return Some((v as i32, next));
     }
-    let Num::Good(v, next) = text::number_at(s, at + 2, 2147483648) else {
-        return Signed::Bad;
-    };
+    let (v, next) = text::number_at(s, at + 2, 2147483648)?;
     if v == 0 {
-        return Signed::Bad;
+        return None;
     }
-    Signed::Good((0 - v as i64) as i32, next)
+    Some(((0 - v as i64) as i32, next))
 }
 
 // The set of the first 17 of a row, in the table's order, and a product code.
@@ -72,7 +60,7 @@ pub fn set_of(row: [u32; 19], product: u32) -> Settings
 fn is_hex(b: u8) -> bool
     ensures { result ≡ is_hex b }
 {
-    text::is_digit(b) | ((65 <= b) & (b <= 70))
+    text::is_digit(b) | ((b'A' <= b) & (b <= b'F'))
 }
 
 // Whether the 8 bytes from `at` on are hexadecimal digits: all are looked at, which a compiler does at once.
@@ -81,10 +69,8 @@ fn all_hex(s: &[u8], at: usize) -> bool
     ensures { result ≡ true → standing s.now at ≡ 4 + standing s.now (at + 8) }
 {
     let mut good = true;
-    let mut k: usize = 0;
-    while k < 4 {
+    for k in 0..4 {
         good = good & is_hex(s[at + 2 * k]) & is_hex(s[at + 2 * k + 1]);
-        k += 1;
     }
     good
 }
@@ -94,17 +80,12 @@ fn count_from(s: &[u8], at: usize, had: usize) -> usize
     requires { (had ≤ at) × (at ≤ length s.now + 2) × (had + standing s.now at ≡ standing s.now 2) }
     ensures { CountsBytes s.now result }
 {
-    let mut p = at;
     let mut n = had;
-    while p + 1 < s.len() {
-        if !is_hex(s[p]) {
-            return n;
-        }
-        if !is_hex(s[p + 1]) {
+    for p in (at..s.len().saturating_sub(1)).step_by(2) {
+        if !is_hex(s[p]) || !is_hex(s[p + 1]) {
             return n;
         }
         n += 1;
-        p += 2;
     }
     n
 }
@@ -113,14 +94,12 @@ fn count_from(s: &[u8], at: usize, had: usize) -> usize
 pub fn count(s: &[u8]) -> usize
     ensures { CountsBytes s.now result }
 {
-    let mut p: usize = 2;
-    let mut n: usize = 0;
-    while p + 8 <= s.len() {
+    let mut n = 0;
+    for p in (2..s.len().saturating_sub(7)).step_by(8) {
         if !all_hex(s, p) {
             return count_from(s, p, n);
         }
         n += 4;
-        p += 8;
     }
-    count_from(s, p, n)
+    count_from(s, 2 + 2 * n, n)
 }

@@ -4,6 +4,7 @@ use mathlib.Core.Bool.{Bool}
 use mathlib.Core.List.{List, []}
 use Prim.Native.Nat.{ℕ}
 use lib.ListN.{length}
+use Rattle.std.specs.Prelude.{Result, Ok, Err}
 use Rattle.paper.specs.Answer.{Answer, done, refused, fault, told, Fills}
 use Rattle.paper.specs.AnswerLaws.{done_refused, fault-done, told-refused, fills-refused}
 use Rattle.paper.specs.Numbers.{R8, R17}
@@ -12,24 +13,26 @@ use Rattle.modbus.specs.Asks.{Ask, registers, link, exception}
 use Rattle.modbus.specs.Replies.{served_of, link_after}
 use Rattle.modbus.specs.Says.{heard_as, says_hearing, says_sent, Hears, Serves}
 use Rattle.modbus.specs.declared.Asked.{Asked}
-use Rattle.modbus.specs.declared.Hearing.{Hearing}
-use Rattle.modbus.specs.declared.Hearing.TheVariants as H
-use Rattle.modbus.specs.declared.Sent.{Sent}
-use Rattle.modbus.specs.declared.Sent.TheVariants as S
+use Rattle.modbus.specs.declared.HearError.{HearError}
+use Rattle.modbus.specs.declared.HearError.TheVariants as H
+use Rattle.modbus.specs.declared.SendError.{SendError}
+use Rattle.modbus.specs.declared.SendError.TheVariants as S
 use Rattle.scale.specs.Scale.{as_window}
 use Rattle.scale.specs.Laws.{lent-window}
 use Rattle.readout.specs.Readout.{values_for}
 use Rattle.readout.specs.Laws.{values-in}
 use Rattle.controller.specs.State.{with_link}
-use Rattle.controller.specs.Tick.{Result}
+use Rattle.controller.specs.Tick.{Result as Given}
 use Rattle.setup.specs.Setup.{link_of}
 use Rattle.panel.specs.Modbus.{values_of, linked_by, served_by, modbus_of}
 use Rattle.panel.specs.Laws.{silent-so, heard-so, modbus-refused, modbus-sound, weight-held}
 use Rattle.controller.specs.Promises.{weight-writable}
 use Rattle.controller.specs.Sound.{Sound}
-use Rattle.panel.specs.Says.{says_poll, Polls}
+use Rattle.panel.specs.Says.{says_poll, says_reply, link_left, Polls, Replies}
 use Rattle.controller.specs.declared.Controller.{Controller}
-use Rattle.panel.specs.declared.PollAnswer.TheVariants as M
+use Rattle.panel.specs.declared.PollError.{PollError}
+use Rattle.panel.specs.declared.PollError.TheVariants as M
+use Rattle.panel.specs.declared.Reply.{Reply}
 use Rattle.panel.specs.declared.Polled.{Polled}
 
 -- the registers of a sound controller
@@ -60,18 +63,14 @@ served-next c ask (done bytes) e = linked-so c ask
 served-next c ask (refused n vs) e = done_refused e
 served-next c ask (fault n vs) e = fault-done (sym e)
 
-module _ (c : Controller) (frame old : List ℕ) (s : Sound c) (hearing : Hearing) (heard : Hears c.set.address frame hearing) where
+module _ (c : Controller) (frame old : List ℕ) (hearing : Result Asked HearError) (heard : Hears c.set.address frame hearing) where
   -- R17
-  pub silent : {r : Polled} → hearing ≡ H.R17 → r.next ≡ c → r.answer ≡ M.R17 → Polls c frame old old r
-  silent {r} h n a =
+  pub silent : (e : HearError) → hearing ≡ Err e → Replies c frame old old (Err M.R17)
+  silent H.R17 h =
       let so = silent-so c frame (length old) R17 [] (sym heard ∙ ap says_hearing h) in
-      record {
-        next = n ∙ sym (ap (λ (x : Result (List ℕ)). x.next) so);
-        fills = rw a (fills-refused (ap (λ (x : Result (List ℕ)). x.answer) so) old);
-        sound = subst Sound (sym n) s;
-      }
+      record { fills = fills-refused (ap (λ (x : Given (List ℕ)). x.answer) so) old; next = ap (λ (x : Given (List ℕ)). x.next) so }
 
-  module _ (asked : Asked) (h : hearing ≡ H.Asked asked) {words : List ℕ} (table : words ≡ table_of (values_of c)) (w : Sent) {new : List ℕ} (serves : Serves c.set.address words asked old new w) where
+  module _ (asked : Asked) (h : hearing ≡ Ok asked) {words : List ℕ} (table : words ≡ table_of (values_of c)) (w : Result ℕ SendError) {new : List ℕ} (serves : Serves c.set.address words asked old new w) where
     abbrev rule : Answer (List ℕ)
     rule = served_of c.set.address (table_of (values_of c)) (heard_as asked) (length old)
 
@@ -79,26 +78,32 @@ module _ (c : Controller) (frame old : List ℕ) (s : Sound c) (hearing : Hearin
     so = heard-so c frame (length old) (heard_as asked) (sym heard ∙ ap says_hearing h)
 
     answers : (modbus_of c frame (length old)).answer ≡ rule
-    answers = ap (λ (r : Result (List ℕ)). r.answer) so ∙ served-answer c (heard_as asked).ask rule
+    answers = ap (λ (r : Given (List ℕ)). r.answer) so ∙ served-answer c (heard_as asked).ask rule
 
     filled : Fills (says_sent w) rule old new
     filled = subst (λ (t : List ℕ). Fills (says_sent w) (served_of c.set.address t (heard_as asked) (length old)) old new) table serves
 
-    polls : {r : Polled} → says_poll r.answer ≡ says_sent w → r.next ≡ (modbus_of c frame (length old)).next → Polls c frame old new r
-    polls e n =
-        record {
-          next = n;
-          fills = record { says = e ∙ filled.says ∙ ap (told length) (sym answers); left = filled.left ∙ rw answers };
-          sound = subst Sound (sym n) (modbus-sound c frame (length old) s);
-        }
+    fills : {a : Answer ℕ} → a ≡ says_sent w → Fills a (modbus_of c frame (length old)).answer old new
+    fills e = record { says = e ∙ filled.says ∙ ap (told length) (sym answers); left = filled.left ∙ rw answers }
 
     -- R8
-    pub too_short : {r : Polled} → w ≡ S.R8 → r.next ≡ c → r.answer ≡ M.R8 → Polls c frame old new r
-    too_short e n a =
-        let none : rule ≡ refused R8 [] = told-refused length rule R8 [] (sym filled.says ∙ ap says_sent e) in
-        polls (ap says_poll a ∙ sym (ap says_sent e)) (n ∙ sym (modbus-refused c frame (length old) R8 [] (answers ∙ none)))
+    pub too_short : (e : SendError) → w ≡ Err e → Replies c frame old new (Err M.R8)
+    too_short S.R8 k =
+        let none : rule ≡ refused R8 [] = told-refused length rule R8 [] (sym filled.says ∙ ap says_sent k) in
+        record { fills = fills (sym (ap says_sent k)); next = modbus-refused c frame (length old) R8 [] (answers ∙ none) }
 
-    pub replied-to : {r : Polled} {len : ℕ} {on : Bool} → w ≡ S.Bytes len → on ≡ link_after (heard_as asked).ask c.link → r.next ≡ with_link on c → r.answer ≡ M.Sent len → Polls c frame old new r
-    replied-to e l n a =
-        let next = ap (λ (x : Result (List ℕ)). x.next) so ∙ served-next c (heard_as asked).ask rule (sym (ap says_sent e) ∙ filled.says) in
-        polls (ap says_poll a ∙ sym (ap says_sent e)) (n ∙ ap (λ (b : Bool). with_link b c) l ∙ sym next)
+    pub replied-to : {len : ℕ} {on : Bool} → w ≡ Ok len → on ≡ link_after (heard_as asked).ask c.link → Replies c frame old new (Ok (record { link = on; len = len }))
+    replied-to e l =
+        let next = ap (λ (x : Given (List ℕ)). x.next) so ∙ served-next c (heard_as asked).ask rule (sym (ap says_sent e) ∙ filled.says) in
+        record { fills = fills (sym (ap says_sent e)); next = next ∙ ap (λ (b : Bool). with_link b c) (sym l) }
+
+-- the controller with the link start that a reply leaves, and its answer
+pub polls : {c : Controller} {frame old new : List ℕ} {r : Polled} → Sound c → (a : Result Reply PollError) → Replies c frame old new a
+    → r.next ≡ with_link (link_left a c.link) c → says_poll r.answer ≡ says_reply a → Polls c frame old new r
+polls {c} {frame} {old} {new} {r} s a p n e =
+    let m = n ∙ sym p.next in
+    record {
+      next = m;
+      fills = record { says = e ∙ p.fills.says; left = p.fills.left };
+      sound = subst Sound (sym m) (modbus-sound c frame (length old) s);
+    }

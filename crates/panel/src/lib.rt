@@ -4,24 +4,47 @@
 ghost use Rattle.std.specs.Prelude.{◌≡◌};
 ghost use Rattle.controller.specs.State.{with_link};
 ghost use Rattle.controller.specs.Sound.{Sound};
-ghost use Rattle.panel.specs.Says.{Polls};
+ghost use Rattle.panel.specs.Says.{Polls, Replies};
+ghost use Rattle.panel.specs.declared.PollError.{PollError};
 
 use controller::Controller;
-use modbus::{Hearing, Sent};
+use modbus::{HearError, SendError};
 
-// What a MODBUS frame answers: the reply's length, 0 where there is none, or a refusal.
-#[derive(Clone, Copy)]
-pub enum PollAnswer {
-    Sent(usize),
+// Why a MODBUS frame is refused: nothing is heard in it, or its reply has no room.
+#[derive(Clone, Copy, Debug, PartialEq, Eq)]
+pub enum PollError {
     R17,
     R8,
 }
 
-// The controller after a MODBUS frame, and the answer.
+impl From<HearError> for PollError {
+    ghost from_gives = { λ _ e. e ≡ PollError.R17 };
+
+    fn from(_e: HearError) -> PollError {
+        PollError::R17
+    }
+}
+
+impl From<SendError> for PollError {
+    ghost from_gives = { λ _ e. e ≡ PollError.R8 };
+
+    fn from(_e: SendError) -> PollError {
+        PollError::R8
+    }
+}
+
+// The controller after a MODBUS frame, and the answer: the reply's length, 0 where there is none.
 #[derive(Clone, Copy)]
 pub struct Polled {
     pub next: Controller,
-    pub answer: PollAnswer,
+    pub answer: Result<usize, PollError>,
+}
+
+// What a frame that is served leaves: the link start after it, and the reply's length.
+#[derive(Clone, Copy)]
+struct Reply {
+    link: bool,
+    len: usize,
 }
 
 // A MODBUS frame, with a lent reply buffer.
@@ -29,17 +52,24 @@ pub fn poll(c: Controller, frame: &[u8], reply: &mut [u8]) -> Polled
     requires { Sound c }
     ensures { Polls c frame.now reply.old reply.new result }
 {
+    match reply_to(c, frame, reply) {
+        Ok(served) => linked(c, served.link, Ok(served.len)),
+        Err(error) => linked(c, c.link, Err(error)),
+    }
+}
+
+// The reply to a frame, at the buffer's start; a refusal leaves the buffer as it was.
+fn reply_to(c: Controller, frame: &[u8], reply: &mut [u8]) -> Result<Reply, PollError>
+    requires { Sound c }
+    ensures { Replies c frame.now reply.old reply.new result }
+{
     let address = c.set.address as u8;
-    let Hearing::Asked(asked) = modbus::hear(address, frame) else {
-        return linked(c, c.link, PollAnswer::R17);
-    };
-    let link = modbus::link_after(asked, c.link);
+    let asked = modbus::hear(address, frame)?;
     let window = c.window;
-    let held = window.held;
     let words = readout::table(
         c.set,
         &window.samples,
-        held,
+        window.held,
         c.z,
         c.s,
         c.inputs,
@@ -48,14 +78,13 @@ pub fn poll(c: Controller, frame: &[u8], reply: &mut [u8]) -> Polled
         c.counters,
         c.link,
     );
-    let Sent::Bytes(len) = modbus::serve(address, words, asked, reply) else {
-        return linked(c, c.link, PollAnswer::R8);
-    };
-    linked(c, link, PollAnswer::Sent(len))
+    let len = modbus::serve(address, words, asked, reply)?;
+    let link = modbus::link_after(asked, c.link);
+    Ok(Reply { link, len })
 }
 
 // A frame sets or clears the link start at most.
-fn linked(mut c: Controller, link: bool, answer: PollAnswer) -> Polled
+fn linked(mut c: Controller, link: bool, answer: Result<usize, PollError>) -> Polled
     ensures { (result.next ≡ with_link link c) × (result.answer ≡ answer) }
 {
     c.link = link;

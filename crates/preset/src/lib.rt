@@ -9,7 +9,7 @@ ghost use Rattle.acts.specs.Script.{Brings};
 
 use calls::Call;
 use controller::Controller;
-use lines::{Intake, Next};
+use lines::Intake;
 
 // The box behind the lines of a block, what is pending, and whether the empty line has come.
 #[derive(Clone, Copy)]
@@ -28,11 +28,9 @@ fn made(c: Controller, line: &[u8], bytes: &mut [u8]) -> Controller
 {
     let call = calls::read(line, bytes);
     if let Call::Tick(sample, inputs) = call {
-        let ticked = c.tick(sample, inputs);
-        return ticked.next;
+        return c.tick(sample, inputs).next;
     }
-    let acted = acts::other(c, call, bytes);
-    acted.next
+    acts::other(c, call, bytes).next
 }
 
 // Makes the calls of the whole lines of what is held, up to the empty one.
@@ -45,9 +43,8 @@ pub fn bring(mut c: Controller, mut held: Intake, input: &[u8]) -> Brought
         let long = held.long;
         let start = held.at;
         let taken = held.next_line(input);
-        let next = taken.next;
         held = taken.intake;
-        let Next::Line { from, to } = next else {
+        let Some((from, to)) = taken.next else {
             return Brought {
                 controller: c,
                 intake: held,

@@ -6,21 +6,19 @@ ghost use Rattle.chosen.specs.Choice.{no_product, product_line};
 ghost use Rattle.chosen.specs.Says.{says_choice};
 ghost use Rattle.heading.specs.Heading.{Inside, said_of};
 
-use chosen::Choice;
 use heading::Found;
 
 // Standard output.
 const STDOUT_FILENO: i32 = 1;
 
 // The product of the first line; R2 where it is none, and where there is no first line.
-fn choice_in(found: Found, buffer: &[u8]) -> Choice
+fn choice_in(found: Found, buffer: &[u8]) -> Option<u8>
     requires { Inside found (length buffer.now) }
     ensures { says_choice result ≡ said_of product_line no_product found buffer.now }
 {
     match found {
         Found::Line { from, to } => chosen::product_line(&buffer[from..to]),
-        Found::More => Choice::R2,
-        Found::Nothing => Choice::R2,
+        Found::More | Found::Nothing => None,
     }
 }
 
@@ -28,11 +26,8 @@ fn choice_in(found: Found, buffer: &[u8]) -> Choice
 fn main(rt: HostRuntime) {
     let mut bytes = [0u8; journal::READ];
     let headed = heading::read_heading(rt.stdin(), &mut bytes);
-    let found = headed.found;
-    let choice = choice_in(found, &bytes);
+    let choice = choice_in(headed.found, &bytes);
     let n = heading::read_journal(&mut bytes, headed);
-    let made = chosen::report(choice, &bytes, n);
-    let out = made.bytes;
-    let len = made.len;
-    io::write_all(STDOUT_FILENO, &out[..len]);
+    let out = chosen::report(choice, &bytes, n);
+    io::write_all(STDOUT_FILENO, &out.bytes[..out.len]);
 }

@@ -1,11 +1,11 @@
 -- Laws that the proofs of the code cite. Assumes nothing.
 use mathlib.Core.Path.{◌≡◌, refl, sym}
-use mathlib.Core.Bool.{Bool, true, false, not, ◌&&◌, ◌||◌}
+use mathlib.Core.Bool.{Bool, true, false, not, ◌&&◌}
 use mathlib.Core.List.{[]}
-use Prim.Native.Nat.{ℕ}
 use lib.Dec.{leb}
+use Rattle.std.specs.Prelude.{Option, Some, None}
+use Rattle.std.specs.Option.{unwrap_or}
 use Rattle.laws.specs.Pick.{pick, pick-f}
-use Rattle.laws.specs.Whole.{false-true}
 use Rattle.paper.specs.Answer.{done, refused}
 use Rattle.paper.specs.AnswerLaws.{refused-done, passed}
 use Rattle.paper.specs.Numbers.{R16}
@@ -18,7 +18,7 @@ use Rattle.field.specs.declared.Weight.{Weight}
 use Rattle.dosing.specs.Rules.{units, near_zero}
 use Rattle.dosing.specs.declared.Units.{Units}
 use Rattle.scale.specs.Scale.{filtered, none, showable}
-use Rattle.asking.specs.declared.Reply.{Reply}
+use Rattle.single.specs.declared.Words.{Words}
 use Rattle.asking.specs.declared.Reply.TheVariants as R
 use Rattle.readout.specs.Readout.{zeroable, weight_in, words_from, words_in}
 
@@ -28,20 +28,6 @@ pub zeroable-by : (set : Settings) (window : Window) {empty near : Bool} {f : Un
     → zeroable set window ≡ (leb set.algorithm 1 && not empty && near)
 unfolding zeroable
 zeroable-by set window m e h = rw (e, h, m)
-
--- a weight is asked by either of two codes, or by neither
-module _ (g : ℕ → Reply) (p8 p7 : ℕ) (rest : Reply) where
-  pub asked : (a b : Bool) → (a || b) ≡ true → g (pick a p8 p7) ≡ pick a (g p8) (pick b (g p7) rest)
-  unfolding pick
-  asked true b h = refl
-  asked false true h = refl
-  asked false false h = false-true h
-
-  pub not-asked : (a b : Bool) → (a || b) ≡ false → pick a (g p8) (pick b (g p7) rest) ≡ rest
-  unfolding pick
-  not-asked true b h = false-true (sym h)
-  not-asked false true h = false-true (sym h)
-  not-asked false false h = refl
 
 -- a weight that is not shown cannot be written
 unshown : (v : Weight) (b : Bool) → writable v ≡ b → refused R16 [] ≡ pick b (done v) (refused R16 []) → b ≡ false
@@ -73,3 +59,9 @@ no_words v e = sym (pick-f _ _ _ (not-writable v e))
 -- such a weight's field is written
 pub written : (v : Weight) → writable v ≡ true → write_of v ≡ done (field_of v)
 written v h = written_small v (six-digits v h) (point-most v h)
+
+-- the words, or zeros
+pub or-zeros : (r : Option Words) → unwrap_or r (record { high = 0; low = 0 }) ≡ words_from r
+unfolding words_from
+or-zeros None = refl
+or-zeros (Some w) = refl

@@ -1,7 +1,8 @@
 -- A weight that can be written is the one replied, and within the range its words are the f32's. Assumes nothing.
-use Rattle.std.specs.Prelude.{◌≡◌, refl, Bool, true, false, [], ◌∷◌, ℕ, eqb}
-use Rattle.std.proofs.Common.{ap, ◌∙◌}
-use Rattle.laws.specs.Pick.{pick, pick-t}
+use Rattle.std.specs.Prelude.{◌≡◌, refl, Bool, true, false, [], ◌∷◌, ℕ, eqb, Option, Some}
+use Rattle.std.specs.Option.{is_some}
+use Rattle.std.proofs.Common.{ap, sym, ◌∙◌}
+use Rattle.laws.specs.Pick.{pick, pick-t, pick-if}
 use Rattle.settings.specs.declared.Settings.{Settings}
 use Rattle.window.specs.declared.Window.{Window}
 use Rattle.field.specs.Field.{writable, field_of}
@@ -16,7 +17,7 @@ use Rattle.single.specs.Single.{InRange, words_of}
 use Rattle.single.specs.Exact.{inside}
 use Rattle.asking.specs.Asking.{field_bytes, reply_bytes}
 use Rattle.asking.specs.declared.Reply.TheVariants as R
-use Rattle.readout.specs.Readout.{weight_in, reply_for, words_from, words_in, values_for}
+use Rattle.readout.specs.Readout.{may_zero, zero_to, zeroing, weight_in, reply_for, words_from, words_in, values_for}
 
 pub weight-in : (v : Weight) → writable v ≡ true → weight_in v ≡ R.Weight (field_of v)
 unfolding weight_in
@@ -61,3 +62,13 @@ module _ (set : Settings) (window : Window) (z : Units) (s inputs : ℕ) (gates 
       }
   unfolding values_for
   values-in n link a b = rw (words-in _ fine a, words-in _ coarse b)
+
+-- Z is given where the samples allow the request, and there only
+module _ (op : ℕ) (set : Settings) (window : Window) (z : Units) where
+  pub zeroing-may : is_some (zeroing op set window z) ≡ may_zero op set window
+  unfolding zeroing
+  zeroing-may = pick-if (λ (o : Option Units). is_some o ≡ may_zero op set window) (may_zero op set window) sym sym
+
+  pub zeroing-to : may_zero op set window ≡ true → zeroing op set window z ≡ Some (zero_to op set window z)
+  unfolding zeroing
+  zeroing-to h = pick-t _ _ _ h

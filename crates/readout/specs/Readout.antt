@@ -1,5 +1,5 @@
 -- What a master asks of the box's parts (document 01, "On the line"; document 02, W2). Assumes nothing.
-use Rattle.std.specs.Prelude.{Bool, not, ◌&&◌, ◌||◌, ℕ, leb, eqb}
+use Rattle.std.specs.Prelude.{Bool, not, ◌&&◌, ◌||◌, ℕ, leb, eqb, Option, Some, None}
 use Rattle.laws.specs.Pick.{pick}
 use Rattle.settings.specs.declared.Settings.{Settings}
 use Rattle.window.specs.Window.{samples_of}
@@ -14,8 +14,6 @@ use Rattle.counters.specs.declared.Counters.{Counters}
 use Rattle.scale.specs.Scale.{filtered, none, weight_by}
 use Rattle.single.specs.Single.{registers_of}
 use Rattle.single.specs.declared.Words.{Words}
-use Rattle.single.specs.declared.Single.{Single}
-use Rattle.single.specs.declared.Single.TheVariants as S
 use Rattle.registers.specs.declared.Values.{Values}
 use Rattle.asking.specs.declared.Reply.{Reply}
 use Rattle.asking.specs.declared.Reply.TheVariants as R
@@ -34,6 +32,10 @@ may_zero op set window = not (eqb op 0xC0) || zeroable set window
 unfoldable pub zero_to : ℕ → Settings → Window → Units → Units
 zero_to op set window z = pick (eqb op 0xC0) (units (filtered window set.p8)) z
 
+-- Z after a request, none where the samples do not allow it
+unfoldable pub zeroing : ℕ → Settings → Window → Units → Option Units
+zeroing op set window z = pick (may_zero op set window) (Some (zero_to op set window z)) None
+
 -- ---- a reply
 
 -- weight and CON; a weight that cannot be written, which no sound controller has, gives nothing
@@ -50,13 +52,13 @@ reply_for op set window z s inputs gates alarm =
 -- ---- the registers
 
 -- zeros for a number that is no weight within the range
-unfoldable pub words_from : Single → Words
-words_from (S.Words w) = w
-words_from S.Outside = record { high = 0; low = 0 }
+unfoldable pub words_from : Option Words → Words
+words_from (Some w) = w
+words_from None = record { high = 0; low = 0 }
 
 -- the weight as an f32; one that cannot be written, which no sound controller has, gives zeros
 unfoldable pub words_in : Weight → Words
-words_in v = pick (writable v) (words_from (registers_of v.value)) (words_from S.Outside)
+words_in v = pick (writable v) (words_from (registers_of v.value)) (words_from None)
 
 -- the C3 weight by p8 and the C2 weight by p7, the inputs last kept, the outputs, count and total, the link start
 unfoldable pub values_for : Settings → Window → Units → ℕ → ℕ → Gates → Bool → Counters → Bool → Values

@@ -1,6 +1,5 @@
 -- The contract of each call, and that two results that both meet it are equal. Assumes nothing.
-use Rattle.std.specs.Prelude.{◌≡◌, Bool, List, ℕ}
-use Rattle.std.proofs.Common.{ap₂}
+use Rattle.std.specs.Prelude.{◌≡◌, Bool, List, ℕ, Option}
 use Rattle.paper.specs.Answer.{same}
 use Rattle.settings.specs.declared.Settings.{Settings}
 use Rattle.window.specs.declared.Window.{Window}
@@ -9,12 +8,10 @@ use Rattle.dosing.specs.declared.Gates.{Gates}
 use Rattle.counters.specs.declared.Counters.{Counters}
 use Rattle.registers.specs.Registers.{table_of}
 use Rattle.asking.specs.declared.Reply.{Reply}
-use Rattle.readout.specs.Readout.{may_zero, zero_to, reply_for, values_for}
-use Rattle.readout.specs.declared.Zero.{Zero}
+use Rattle.readout.specs.Readout.{zeroing, reply_for, values_for}
 
-pub record Zeroed (op : ℕ) (set : Settings) (window : Window) (old : Units) (r : Zero) : Type 0 where
-  pub may : r.may ≡ may_zero op set window
-  pub z : r.z ≡ zero_to op set window old
+abbrev pub Zeroed : ℕ → Settings → Window → Units → Option Units → Type 0
+Zeroed op set window old r = r ≡ zeroing op set window old
 
 abbrev pub Replies : ℕ → Settings → Window → Units → ℕ → ℕ → Gates → Bool → Reply → Type 0
 Replies op set window z s inputs gates alarm r = r ≡ reply_for op set window z s inputs gates alarm
@@ -22,9 +19,8 @@ Replies op set window z s inputs gates alarm r = r ≡ reply_for op set window z
 abbrev pub Lists : Settings → Window → Units → ℕ → ℕ → Gates → Bool → Counters → Bool → List ℕ → Type 0
 Lists set window z s inputs gates alarm n link r = r ≡ table_of (values_for set window z s inputs gates alarm n link)
 
-pub zero-determined : (op : ℕ) (set : Settings) (window : Window) (old : Units) (a b : Zero) → Zeroed op set window old a → Zeroed op set window old b → a ≡ b
-zero-determined op set window old a b p q =
-    ap₂ {C = Zero} (λ (may : Bool) (z : Units). record { may = may; z = z }) (same p.may q.may) (same p.z q.z)
+pub zero-determined : (op : ℕ) (set : Settings) (window : Window) (old : Units) (a b : Option Units) → Zeroed op set window old a → Zeroed op set window old b → a ≡ b
+zero-determined op set window old a b p q = same p q
 
 pub reply-determined : (op : ℕ) (set : Settings) (window : Window) (z : Units) (s inputs : ℕ) (gates : Gates) (alarm : Bool) (a b : Reply) → Replies op set window z s inputs gates alarm a → Replies op set window z s inputs gates alarm b → a ≡ b
 reply-determined op set window z s inputs gates alarm a b p q = same p q

@@ -8,6 +8,7 @@ use mir.Syntax.{w32}
 use mir.Val.{to_z, of_z, SFits}
 use mir.Facts.{to_z-of_z}
 use borrow.Author.Tests.{eq-eqb, ne_eqb}
+use Rattle.std.specs.Prelude.{Option, Some, None}
 use Rattle.laws.specs.Pick.{pick, pick-t, pick-f}
 use Rattle.laws.specs.Whole.{fits32}
 use Rattle.paper.specs.Answer.{done}
@@ -16,8 +17,6 @@ use Rattle.dosing.specs.declared.Gates.{Gates}
 use Rattle.dosing.specs.declared.Phase.{Phase}
 use Rattle.controller.specs.declared.Controller.{Controller}
 use Rattle.controller.specs.declared.Fault.{Fault}
-use Rattle.controller.specs.declared.Condition.{Condition}
-use Rattle.controller.specs.declared.Condition.TheVariants.{Clear, Faulted}
 use Rattle.reasons.specs.Reasons.{Cause, is_open, unused, no_start, open_at, fault_cause, fault_or, unused_at, unstarted_at, phase_cause, gate_by, gate_cause, alarm_cause, no_output, why_of}
 
 -- a difference of two weights that an i32 holds
@@ -37,16 +36,16 @@ module _ {a b : ℤ} (fa : SFits w32 a) (fb : SFits w32 b) (h : nat_abs (a -ℤ 
 -- ---- the first reason that holds
 
 module _ (set : Settings) (g : Gates) (unstarted : Bool) (p : Phase) (w : ℤ) (output : ℕ) where
-  pub by-open : (k : Condition) → open_at g output ≡ true → is_open ≡ gate_by set g k unstarted p w output
+  pub by-open : (k : Option Fault) → open_at g output ≡ true → is_open ≡ gate_by set g k unstarted p w output
   unfolding gate_by pick
   by-open k h = rw h
 
-  module _ {k : Condition} (shut : open_at g output ≡ false) where
-    pub by-fault : {why : Fault} → k ≡ Faulted why → fault_cause why ≡ gate_by set g k unstarted p w output
+  module _ {k : Option Fault} (shut : open_at g output ≡ false) where
+    pub by-fault : {why : Fault} → k ≡ Some why → fault_cause why ≡ gate_by set g k unstarted p w output
     unfolding gate_by fault_or pick
     by-fault e = rw (shut, e)
 
-    module _ (clear : k ≡ Clear) where
+    module _ (clear : k ≡ None) where
       pub by-unused : unused_at set output ≡ true → unused ≡ gate_by set g k unstarted p w output
       unfolding gate_by fault_or pick
       by-unused a = rw (shut, clear, a)

@@ -1,5 +1,5 @@
 -- What the answers tell: open exactly if the output is open, fault exactly in a fault, and each value in its range. Assumes nothing.
-use Rattle.std.specs.Prelude.{◌≡◌, refl, Bool, true, false, not, ◌&&◌, [], ℕ, ◌≤◌, leb, eqb, ℤ, nat_abs}
+use Rattle.std.specs.Prelude.{◌≡◌, refl, Bool, true, false, not, ◌&&◌, [], ℕ, ◌≤◌, leb, eqb, ℤ, nat_abs, Option, Some, None}
 use Rattle.std.proofs.Common.{sym, ap, subst, ◌∙◌, arith, le-leb, le-ltb, ne_eqb}
 use Rattle.laws.specs.Pick.{pick, pick-t, pick-if, pick_all}
 use Rattle.laws.specs.Whole.{false-true}
@@ -22,8 +22,6 @@ use Rattle.controller.specs.Promises.{fault-gates}
 use Rattle.controller.specs.declared.Controller.{Controller}
 use Rattle.controller.specs.declared.Fault.{Fault}
 use Rattle.controller.specs.declared.Fault.TheVariants as F
-use Rattle.controller.specs.declared.Condition.{Condition}
-use Rattle.controller.specs.declared.Condition.TheVariants.{Clear, Faulted}
 use Rattle.reasons.specs.Reasons.{Cause, is_open, in_fault, unused, no_start, settling, lead_reached, in_phase, overload, no_alarm, open_at, fault_cause, fault_or, unused_at, unstarted_at, settling_or, lead_or, phase_cause, gate_by, gate_cause, alarm_cause, no_output, why_of}
 use Rattle.reasons.specs.Weights.{Comparable, weight-most, comparable}
 
@@ -71,17 +69,17 @@ phase-late set (DoseSettle w_h n) w k = pick_all Late (leb k 2) (omega arith) (o
 
 -- ---- the ways that a reason can come about
 
-fault-ways : (Q : Cause → Type 0) (k : Condition) {next : Cause} → ((why : Fault) → k ≡ Faulted why → Q (fault_cause why)) → (k ≡ Clear → Q next) → Q (fault_or k next)
+fault-ways : (Q : Cause → Type 0) (k : Option Fault) {next : Cause} → ((why : Fault) → k ≡ Some why → Q (fault_cause why)) → (k ≡ None → Q next) → Q (fault_or k next)
 unfolding fault_or
-fault-ways Q Clear at go = go refl
-fault-ways Q (Faulted why) at go = at why refl
+fault-ways Q None at go = go refl
+fault-ways Q (Some why) at go = at why refl
 
 gate-ways : (Q : Cause → Type 0) (c : Controller) (k : ℕ)
     → (open_at c.gates k ≡ true → Q is_open)
-    → ((why : Fault) → c.condition ≡ Faulted why → open_at c.gates k ≡ false → Q (fault_cause why))
-    → (c.condition ≡ Clear → open_at c.gates k ≡ false → Q unused)
-    → (c.condition ≡ Clear → open_at c.gates k ≡ false → c.unstarted ≡ true → Q no_start)
-    → (c.condition ≡ Clear → open_at c.gates k ≡ false → Q (phase_cause c.set c.phase (w_of c) k))
+    → ((why : Fault) → c.condition ≡ Some why → open_at c.gates k ≡ false → Q (fault_cause why))
+    → (c.condition ≡ None → open_at c.gates k ≡ false → Q unused)
+    → (c.condition ≡ None → open_at c.gates k ≡ false → c.unstarted ≡ true → Q no_start)
+    → (c.condition ≡ None → open_at c.gates k ≡ false → Q (phase_cause c.set c.phase (w_of c) k))
     → Q (gate_cause c k)
 unfolding gate_cause gate_by unstarted_at
 gate-ways Q c k opens faults unuses unstarts phases =
@@ -96,7 +94,7 @@ unfolding why_of
 why-ways Q c k other alarm gate =
     pick_all Q (no_output k) other (pick_all (λ (x : Cause). Q (done x)) (eqb k 4) alarm gate)
 
-alarm-ways : (Q : Cause → Type 0) (c : Controller) → ((why : Fault) → c.condition ≡ Faulted why → Q (fault_cause why)) → (c.condition ≡ Clear → Q overload × Q no_alarm) → Q (alarm_cause c.condition c.alarm)
+alarm-ways : (Q : Cause → Type 0) (c : Controller) → ((why : Fault) → c.condition ≡ Some why → Q (fault_cause why)) → (c.condition ≡ None → Q overload × Q no_alarm) → Q (alarm_cause c.condition c.alarm)
 unfolding alarm_cause
 alarm-ways Q c faults clear =
     fault-ways Q c.condition faults (λ e. pick_all Q c.alarm (clear e).0 (clear e).1)
@@ -127,18 +125,18 @@ unfolding open_at
 shut-unopen g k e = rw e (pick_all (λ (b : Bool). b ≡ false) (eqb k 1) refl (pick_all (λ (b : Bool). b ≡ false) (eqb k 2) refl refl))
 
 -- it says fault, with number and channel, exactly in a fault
-pub fault-says : (c : Controller) (k : ℕ) (why : Fault) → Sound c → 1 ≤ k → k ≤ 4 → c.condition ≡ Faulted why → why_of c k ≡ done (fault_cause why)
+pub fault-says : (c : Controller) (k : ℕ) (why : Fault) → Sound c → 1 ≤ k → k ≤ 4 → c.condition ≡ Some why → why_of c k ≡ done (fault_cause why)
 unfolding why_of no_output alarm_cause gate_cause gate_by fault_or pick
 fault-says c k why s a b e =
     let g = shut-unopen c.gates k (fault-gates c s why e).0 in
     rw (le-ltb k 1 a, le-ltb 4 k b, g, e) (pick_all (λ (x : Cause). done x ≡ done (fault_cause why)) (eqb k 4) refl refl)
 
-pub says-fault : (c : Controller) (k number channel : ℕ) → why_of c k ≡ done (in_fault number channel) → (why : Fault) × ((c.condition ≡ Faulted why) × (fault_cause why ≡ in_fault number channel))
+pub says-fault : (c : Controller) (k number channel : ℕ) → why_of c k ≡ done (in_fault number channel) → (why : Fault) × ((c.condition ≡ Some why) × (fault_cause why ≡ in_fault number channel))
 unfolding kind
 says-fault c k number channel =
-    let Q : Cause → Type 0 = λ x. x ≡ in_fault number channel → (why : Fault) × ((c.condition ≡ Faulted why) × (fault_cause why ≡ in_fault number channel)) in
-    let faults : (why : Fault) → c.condition ≡ Faulted why → Q (fault_cause why) = λ why f h. (why, (f, h)) in
-    why-ways (λ (a : Answer Cause). a ≡ done (in_fault number channel) → (why : Fault) × ((c.condition ≡ Faulted why) × (fault_cause why ≡ in_fault number channel))) c k
+    let Q : Cause → Type 0 = λ x. x ≡ in_fault number channel → (why : Fault) × ((c.condition ≡ Some why) × (fault_cause why ≡ in_fault number channel)) in
+    let faults : (why : Fault) → c.condition ≡ Some why → Q (fault_cause why) = λ why f h. (why, (f, h)) in
+    why-ways (λ (a : Answer Cause). a ≡ done (in_fault number channel) → (why : Fault) × ((c.condition ≡ Some why) × (fault_cause why ≡ in_fault number channel))) c k
     (λ e. refused-done e)
     (λ e. alarm-ways Q c faults (λ f. (λ h. absurd (omega (arith, ap kind h)), λ h. absurd (omega (arith, ap kind h)))) (cc))
     (λ e. gate-ways Q c k (λ o h. absurd (omega (arith, ap kind h))) (λ why f o. faults why f) (λ f o h. absurd (omega (arith, ap kind h)))
@@ -208,10 +206,10 @@ phase-gone set (DoseFine w_h) w k h = pick_all (λ (x : Cause). gone x ≡ true 
 phase-gone set (DoseSettle w_h n) w k h = pick_all (λ (x : Cause). gone x ≡ true → settled_on (DoseSettle w_h n) ≡ true) (leb k 2) (λ e. e) (λ e. e) h
 
 -- where it says settling with a tick gone, it is in AL1's Settle from tick 1 on and in no fault
-pub settling-why : (c : Controller) (k n allowed : ℕ) → 1 ≤ n → why_of c k ≡ done (settling n allowed) → (c.condition ≡ Clear) × (settled_on c.phase ≡ true)
+pub settling-why : (c : Controller) (k n allowed : ℕ) → 1 ≤ n → why_of c k ≡ done (settling n allowed) → (c.condition ≡ None) × (settled_on c.phase ≡ true)
 unfolding gone
 settling-why c k n allowed l =
-    let R : Type 0 = (c.condition ≡ Clear) × (settled_on c.phase ≡ true) in
+    let R : Type 0 = (c.condition ≡ None) × (settled_on c.phase ≡ true) in
     let Q : Cause → Type 0 = λ x. gone x ≡ true → R in
     let faults : (why : Fault) → Q (fault_cause why) = λ why z. false-true (sym (fault-gone why) ∙ z) in
     why-ways (λ (a : Answer Cause). a ≡ done (settling n allowed) → R) c k (λ e. refused-done e)
@@ -235,11 +233,11 @@ InRange (in_phase name) = Unit {0}
 InRange overload = Unit {0}
 InRange no_alarm = Unit {0}
 
-fault-range : (why : Fault) (k : Condition) → Named k → k ≡ Faulted why → InRange (fault_cause why)
+fault-range : (why : Fault) (k : Option Fault) → Named k → k ≡ Some why → InRange (fault_cause why)
 unfolding fault_cause InRange
 fault-range why k n e = named why (rw e at n)
   where
-    named : (f : Fault) → Named (Faulted f) → InRange (fault_cause f)
+    named : (f : Fault) → Named (Some f) → InRange (fault_cause f)
     named (F.F14 channel) h = (omega arith, omega (arith, h.1))
     named F.F21 h = (omega arith, omega arith)
 
@@ -261,7 +259,7 @@ phase-range set (DoseSettle w_h n) z w k r h b m = pick_all InRange (leb k 2) (m
 pub why-range : (c : Controller) (k : ℕ) (cause : Cause) → Sound c → why_of c k ≡ done cause → InRange cause
 unfolding InRange
 why-range c k cause s =
-    let faults : (why : Fault) → c.condition ≡ Faulted why → InRange (fault_cause why) = λ why f. fault-range why c.condition s.named f in
+    let faults : (why : Fault) → c.condition ≡ Some why → InRange (fault_cause why) = λ why f. fault-range why c.condition s.named f in
     why-ways (λ (a : Answer Cause). a ≡ done cause → InRange cause) c k (λ e. refused-done e)
     (λ e. let same : alarm_cause c.condition c.alarm ≡ cause = cc in subst InRange same (alarm-ways InRange c faults (λ f. (tt, tt))))
     (λ e. let same : gate_cause c k ≡ cause = cc in

@@ -1,5 +1,5 @@
 -- What document 02 asks to be proved of the reasons, over the rules: what `no start` and `settling` tell of the same tick. Assumes nothing.
-use Rattle.std.specs.Prelude.{◌≡◌, refl, Bool, false, ◌&&◌, ℕ, ◌+◌, ◌*◌, ◌≤◌, leb, ℤ, pos, negsuc, ◌-ℤ◌}
+use Rattle.std.specs.Prelude.{◌≡◌, refl, Bool, false, ◌&&◌, ℕ, ◌+◌, ◌*◌, ◌≤◌, leb, ℤ, pos, negsuc, ◌-ℤ◌, None}
 use Rattle.std.proofs.Math.Path.{sym, subst}
 use Rattle.std.proofs.Common.{ap, ◌∙◌, arith, le-leb}
 use Rattle.std.proofs.Math.Bool.{true, not}
@@ -27,7 +27,6 @@ use Rattle.controller.specs.Sound.{Sound, Waited}
 use Rattle.controller.specs.Bounds.{at_ready_lem}
 use Rattle.controller.specs.Keeps.{tick-sound}
 use Rattle.controller.specs.declared.Controller.{Controller}
-use Rattle.controller.specs.declared.Condition.TheVariants.{Clear}
 use Rattle.reasons.specs.Reasons.{no_start, settling, why_of}
 use Rattle.reasons.specs.Answers.{settled_on, unstarted-why, settling-why}
 use Rattle.reasons.specs.Same.{mean_at, calm_at, found, Goes, goes_on, tick_goes, link-goes, with_input4, input-goes, link-starts, input-starts, calm_goes}
@@ -48,7 +47,7 @@ ready-leaves set t h =
 
 -- the tick ends in no fault and in another phase than Ready
 pub record LeavesReady (c : Controller) : Type 0 where
-  pub clear : c.condition ≡ Clear
+  pub clear : c.condition ≡ None
   pub phase : at_ready c.phase ≡ false
 
 step-leaves : (set : Settings) (p : Phase) (t : Seen) → p ≡ Ready → t.start ≡ true → at_ready (step_of set p t).phase ≡ false
@@ -67,7 +66,7 @@ module _ (c : Controller) (x : ℤ) (i : ℕ) (s : Sound c) (h : i ≤ 15) where
   abbrev after : Controller
   after = (tick_of c x i).next
 
-  waited-is : (b : Bool) → b ≡ true → Waited b after.condition after.phase after.set (after.f.v -ℤ after.z.v) → after.condition ≡ Clear
+  waited-is : (b : Bool) → b ≡ true → Waited b after.condition after.phase after.set (after.f.v -ℤ after.z.v) → after.condition ≡ None
   waited-is true e w = w.0
   waited-is false e w = false-true e
 

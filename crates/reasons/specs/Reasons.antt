@@ -1,5 +1,5 @@
 -- Why an output is as it is (document 02, W6). Assumes nothing.
-use Rattle.std.specs.Prelude.{Bool, not, ◌&&◌, ◌||◌, [], ℕ, ◌*◌, leb, ltb, eqb, ℤ, ◌-ℤ◌}
+use Rattle.std.specs.Prelude.{Bool, not, ◌&&◌, ◌||◌, [], ℕ, ◌*◌, leb, ltb, eqb, ℤ, ◌-ℤ◌, Option, Some, None}
 use Rattle.laws.specs.Pick.{pick}
 use Rattle.paper.specs.Answer.{Answer, done, refused}
 use Rattle.paper.specs.Numbers.{R19, F14, F21}
@@ -12,8 +12,6 @@ use Rattle.controller.specs.Tick.{w_of}
 use Rattle.controller.specs.declared.Controller.{Controller}
 use Rattle.controller.specs.declared.Fault.{Fault}
 use Rattle.controller.specs.declared.Fault.TheVariants as F
-use Rattle.controller.specs.declared.Condition.{Condition}
-use Rattle.controller.specs.declared.Condition.TheVariants.{Clear, Faulted}
 
 -- ---- the reasons
 
@@ -49,9 +47,9 @@ unfoldable pub fault_cause : Fault → Cause
 fault_cause (F.F14 channel) = in_fault F14 channel
 fault_cause F.F21 = in_fault F21 0
 
-unfoldable pub fault_or : Condition → Cause → Cause
-fault_or Clear next = next
-fault_or (Faulted why) next = fault_cause why
+unfoldable pub fault_or : Option Fault → Cause → Cause
+fault_or None next = next
+fault_or (Some why) next = fault_cause why
 
 -- unused (3 in AL0)
 unfoldable pub unused_at : Settings → ℕ → Bool
@@ -110,7 +108,7 @@ unfoldable pub phase_cause : Settings → Phase → ℤ → ℕ → Cause
 phase_cause set p w k = settling_or set p k (lead_or set p w k (in_phase (name_of p)))
 
 -- For outputs 1 to 3 after a tick, give the first that holds: open; fault; unused; no start; settling; lead reached; else the phase
-unfoldable pub gate_by : Settings → Gates → Condition → Bool → Phase → ℤ → ℕ → Cause
+unfoldable pub gate_by : Settings → Gates → Option Fault → Bool → Phase → ℤ → ℕ → Cause
 gate_by set g k unstarted p w output =
     pick (open_at g output) is_open
     (fault_or k
@@ -123,7 +121,7 @@ unfoldable pub gate_cause : Controller → ℕ → Cause
 gate_cause c k = gate_by c.set c.gates c.condition c.unstarted c.phase (w_of c) k
 
 -- Output 4 is fault, overload or no alarm
-unfoldable pub alarm_cause : Condition → Bool → Cause
+unfoldable pub alarm_cause : Option Fault → Bool → Cause
 alarm_cause k four = fault_or k (pick four overload no_alarm)
 
 -- an output number outside 1..4

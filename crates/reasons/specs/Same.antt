@@ -1,5 +1,5 @@
 -- A tick that no fault ends is its phase rule; and the same tick with start on, or with another S after step 5. Assumes nothing.
-use Rattle.std.specs.Prelude.{◌≡◌, Bool, true, false, not, ℕ, ◌+◌, ◌≤◌, T, leb, ltb, ℤ}
+use Rattle.std.specs.Prelude.{◌≡◌, Bool, true, false, not, ℕ, ◌+◌, ◌≤◌, T, leb, ltb, ℤ, Option, Some, None}
 use Rattle.std.proofs.Math.Path.{refl, sym, ap}
 use Rattle.std.proofs.Common.{◌∙◌, arith}
 use Rattle.std.proofs.Math.Bool.{xor, or-true}
@@ -21,8 +21,7 @@ use Rattle.controller.specs.Tick.{Result, Told, faulted, mismatched, step7, step
 use Rattle.setup.specs.Setup.{link_of}
 use Rattle.controller.specs.Bounds.{clear-faulted}
 use Rattle.controller.specs.declared.Controller.{Controller}
-use Rattle.controller.specs.declared.Condition.{Condition}
-use Rattle.controller.specs.declared.Condition.TheVariants.{Clear, Faulted}
+use Rattle.controller.specs.declared.Fault.{Fault}
 
 -- ---- a tick that no fault ends
 
@@ -43,15 +42,15 @@ found c x i =
 -- none of the steps 1 to 6 ends the tick
 pub record Goes (c : Controller) (x : ℤ) (i : ℕ) : Type 0 where
   pub below : ltb 15 i ≡ false
-  pub clear : c.condition ≡ Clear
+  pub clear : c.condition ≡ None
   pub inside : outside x ≡ false
   pub watched : watch_of (runs_after c.set c.gates i c.runs) ≡ done tt
 
 module _ (c : Controller) (x : ℤ) (i : ℕ) where
-  by_condition : (k : Condition) → k ≡ Clear → step2 k c x i ≡ step3 c x i
+  by_condition : (k : Option Fault) → k ≡ None → step2 k c x i ≡ step3 c x i
   unfolding step2
-  by_condition Clear e = refl
-  by_condition (Faulted why) e = clear-faulted (sym e)
+  by_condition None e = refl
+  by_condition (Some why) e = clear-faulted (sym e)
 
   by-watch : (a : Answer (Unit {0})) → a ≡ done tt → (d : Controller) (next : Result Told) → mismatched a d next ≡ next
   unfolding mismatched
@@ -67,25 +66,25 @@ module _ (c : Controller) (x : ℤ) (i : ℕ) where
       ∙ by-watch _ g.watched _ _
 
   abbrev Ends : Result Told → Type 0
-  Ends r = r.next.condition ≡ Clear → Goes c x i
+  Ends r = r.next.condition ≡ None → Goes c x i
 
-  watched-goes : ltb 15 i ≡ false → c.condition ≡ Clear → outside x ≡ false → (r : Runs) (d : Controller) (next : Result Told)
-      → r ≡ runs_after c.set c.gates i c.runs → (mismatched (watch_of r) d next).next.condition ≡ Clear → Goes c x i
+  watched-goes : ltb 15 i ≡ false → c.condition ≡ None → outside x ≡ false → (r : Runs) (d : Controller) (next : Result Told)
+      → r ≡ runs_after c.set c.gates i c.runs → (mismatched (watch_of r) d next).next.condition ≡ None → Goes c x i
   unfolding mismatched faulted
   watched-goes b k o r d next e =
-      watch-ways (λ (a : Answer (Unit {0})). a ≡ watch_of r → (mismatched a d next).next.condition ≡ Clear → Goes c x i) r
+      watch-ways (λ (a : Answer (Unit {0})). a ≡ watch_of r → (mismatched a d next).next.condition ≡ None → Goes c x i) r
       (λ channel l m h t. clear-faulted (sym t))
       (λ h w t. record { below = b; clear = k; inside = o; watched = ap watch_of (sym e) ∙ sym w })
       refl
 
-  step2-goes : ltb 15 i ≡ false → (k : Condition) → c.condition ≡ k → Ends (step2 k c x i)
+  step2-goes : ltb 15 i ≡ false → (k : Option Fault) → c.condition ≡ k → Ends (step2 k c x i)
   unfolding step2 step3 steps4and5 steps6to8 faulted
-  step2-goes b Clear k =
+  step2-goes b None k =
       pick-if Ends (outside x) (λ o t. clear-faulted (sym t)) (λ o. watched-goes b k o _ _ _ refl)
-  step2-goes b (Faulted why) k = λ t. clear-faulted (sym t ∙ k)
+  step2-goes b (Some why) k = λ t. clear-faulted (sym t ∙ k)
 
   -- a tick that is not refused and ends in no fault is such a one
-  pub tick_goes : i ≤ 15 → (tick_of c x i).next.condition ≡ Clear → Goes c x i
+  pub tick_goes : i ≤ 15 → (tick_of c x i).next.condition ≡ None → Goes c x i
   unfolding tick_of
   tick_goes h =
       pick-if Ends (ltb 15 i) (λ a t. absurd (omega (arith, ltb-true 15 i a))) (λ b. step2-goes b c.condition refl)

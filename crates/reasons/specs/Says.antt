@@ -1,5 +1,5 @@
 -- What a reason says in document 02's words, the contract of the call, and that two answers that both meet it are equal. Assumes nothing.
-use Rattle.std.specs.Prelude.{◌≡◌, refl, [], ℕ}
+use Rattle.std.specs.Prelude.{◌≡◌, refl, [], ℕ, Result, Ok, Err}
 use Rattle.std.proofs.Common.{sym, ap, ◌∙◌}
 use Rattle.paper.specs.Numbers.{R19}
 use Rattle.paper.specs.Answer.{Answer, done, refused, fault, same}
@@ -10,6 +10,8 @@ use Rattle.reasons.specs.declared.Name.{Name}
 use Rattle.reasons.specs.declared.Name.TheVariants as N
 use Rattle.reasons.specs.declared.Reason.{Reason}
 use Rattle.reasons.specs.declared.Reason.TheVariants as R
+use Rattle.reasons.specs.declared.ReasonError.{ReasonError}
+use Rattle.reasons.specs.declared.ReasonError.TheVariants as E
 
 abbrev pub says_name : Name → PhaseName
 says_name N.Ready = ready
@@ -20,21 +22,24 @@ says_name N.Load = load
 says_name N.Calm = calm
 says_name N.Dose = dose
 
-abbrev pub says_reason : Reason → Answer Cause
-says_reason R.Open = done is_open
-says_reason (R.Fault number channel) = done (in_fault number channel)
-says_reason R.Unused = done unused
-says_reason R.NoStart = done no_start
-says_reason (R.Settling gone allowed) = done (settling gone allowed)
-says_reason (R.Lead w limit) = done (lead_reached w.v limit)
-says_reason (R.Phase name) = done (in_phase (says_name name))
-says_reason R.Overload = done overload
-says_reason R.NoAlarm = done no_alarm
-says_reason R.R19 = refused R19 []
+abbrev pub cause_of : Reason → Cause
+cause_of R.Open = is_open
+cause_of (R.Fault number channel) = in_fault number channel
+cause_of R.Unused = unused
+cause_of R.NoStart = no_start
+cause_of (R.Settling gone allowed) = settling gone allowed
+cause_of (R.Lead w limit) = lead_reached w.v limit
+cause_of (R.Phase name) = in_phase (says_name name)
+cause_of R.Overload = overload
+cause_of R.NoAlarm = no_alarm
+
+abbrev pub says_reason : Result Reason ReasonError → Answer Cause
+says_reason (Ok r) = done (cause_of r)
+says_reason (Err E.R19) = refused R19 []
 
 -- ---- the contract
 
-abbrev pub Explains : Controller → ℕ → Reason → Type 0
+abbrev pub Explains : Controller → ℕ → Result Reason ReasonError → Type 0
 Explains c k r = says_reason r ≡ why_of c k
 
 -- ---- it is met by one answer: what a reason says gives it back
@@ -69,26 +74,30 @@ cause_back (in_phase name) = R.Phase (name_back name)
 cause_back overload = R.Overload
 cause_back no_alarm = R.NoAlarm
 
-pub reason_back : Answer Cause → Reason
-reason_back (done cause) = cause_back cause
-reason_back (refused n vs) = R.R19
-reason_back (fault n vs) = R.R19
+pub reason_back : Answer Cause → Result Reason ReasonError
+reason_back (done cause) = Ok (cause_back cause)
+reason_back (refused n vs) = Err E.R19
+reason_back (fault n vs) = Err E.R19
 
-pub reason-back : (r : Reason) → reason_back (says_reason r) ≡ r
-unfolding reason_back cause_back
-reason-back R.Open = refl
-reason-back (R.Fault number channel) = refl
-reason-back R.Unused = refl
-reason-back R.NoStart = refl
-reason-back (R.Settling gone allowed) = refl
-reason-back (R.Lead w limit) = refl
-reason-back (R.Phase name) = ap (λ (n : Name). R.Phase n) (name_back_lem name)
-reason-back R.Overload = refl
-reason-back R.NoAlarm = refl
-reason-back R.R19 = refl
+cause-back : (r : Reason) → cause_back (cause_of r) ≡ r
+unfolding cause_back
+cause-back R.Open = refl
+cause-back (R.Fault number channel) = refl
+cause-back R.Unused = refl
+cause-back R.NoStart = refl
+cause-back (R.Settling gone allowed) = refl
+cause-back (R.Lead w limit) = refl
+cause-back (R.Phase name) = ap (λ (n : Name). R.Phase n) (name_back_lem name)
+cause-back R.Overload = refl
+cause-back R.NoAlarm = refl
 
-pub reason-one : (a b : Reason) → says_reason a ≡ says_reason b → a ≡ b
+pub reason-back : (a : Result Reason ReasonError) → reason_back (says_reason a) ≡ a
+unfolding reason_back
+reason-back (Ok r) = ap (λ (x : Reason). Ok x) (cause-back r)
+reason-back (Err E.R19) = refl
+
+pub reason-one : (a b : Result Reason ReasonError) → says_reason a ≡ says_reason b → a ≡ b
 reason-one a b e = sym (reason-back a) ∙ ap reason_back e ∙ reason-back b
 
-pub why-determined : (c : Controller) (k : ℕ) (a b : Reason) → Explains c k a → Explains c k b → a ≡ b
+pub why-determined : (c : Controller) (k : ℕ) (a b : Result Reason ReasonError) → Explains c k a → Explains c k b → a ≡ b
 why-determined c k a b p q = reason-one a b (same p q)

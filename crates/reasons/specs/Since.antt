@@ -1,5 +1,5 @@
 -- What the state keeps of the last tick, seen from outside; and what follows a tick without being one leaves every reason (document 02, W6). Assumes nothing.
-use Rattle.std.specs.Prelude.{◌≡◌, Bool, false, ◌&&◌, List, ℕ, ◌≤◌, ℤ, pos, ◌-ℤ◌}
+use Rattle.std.specs.Prelude.{◌≡◌, Bool, false, ◌&&◌, List, ℕ, ◌≤◌, ℤ, pos, ◌-ℤ◌, Option, Some, None}
 use Rattle.std.proofs.Math.Path.{refl, subst}
 use Rattle.std.proofs.Common.{sym, ap, ◌∙◌, ⊎_elim}
 use Rattle.std.proofs.Math.Bool.{true, not, and-false}
@@ -31,8 +31,6 @@ use Rattle.controller.specs.Bounds.{clear-faulted, ready-is}
 use Rattle.controller.specs.Keeps.{tick-sound, asked-zero}
 use Rattle.controller.specs.declared.Controller.{Controller}
 use Rattle.controller.specs.declared.Fault.{Fault}
-use Rattle.controller.specs.declared.Condition.{Condition}
-use Rattle.controller.specs.declared.Condition.TheVariants.{Clear, Faulted}
 use Rattle.reasons.specs.Reasons.{no_start, settling_or, lead_or, phase_cause, gate_by, gate_cause, why_of}
 use Rattle.reasons.specs.Answers.{unstarted-why}
 use Rattle.reasons.specs.Same.{found, Goes, goes_on, tick_goes}
@@ -43,15 +41,15 @@ module _ (c : Controller) (x : ℤ) (i : ℕ) (s : Sound c) (h : i ≤ 15) where
   abbrev next : Controller
   next = (tick_of c x i).next
 
-  unwaited : (b : Bool) (why : Fault) → next.condition ≡ Faulted why → Waited b next.condition next.phase next.set (next.f.v -ℤ next.z.v) → b ≡ false
+  unwaited : (b : Bool) (why : Fault) → next.condition ≡ Some why → Waited b next.condition next.phase next.set (next.f.v -ℤ next.z.v) → b ≡ false
   unwaited true why e w = clear-faulted (sym w.0 ∙ e)
   unwaited false why e w = refl
 
-  ready-clear : (d : Controller) → d.condition ≡ Clear → is_ready d ≡ at_ready d.phase
+  ready-clear : (d : Controller) → d.condition ≡ None → is_ready d ≡ at_ready d.phase
   unfolding is_ready ready_in
   ready-clear d e = rw e
 
-  ready-fault : (d : Controller) (why : Fault) → d.condition ≡ Faulted why → is_ready d ≡ false
+  ready-fault : (d : Controller) (why : Fault) → d.condition ≡ Some why → is_ready d ≡ false
   unfolding is_ready ready_in
   ready-fault d why e = rw e
 
@@ -64,9 +62,9 @@ module _ (c : Controller) (x : ℤ) (i : ℕ) (s : Sound c) (h : i ≤ 15) where
   pub tick-unstarted : next.unstarted ≡ ((is_ready c && not (start_of c.set c.link i)) && is_ready next)
   tick-unstarted = go next.condition refl
     where
-      go : (k : Condition) → next.condition ≡ k → next.unstarted ≡ ((is_ready c && not (start_of c.set c.link i)) && is_ready next)
-      go Clear e = let g = tick_goes c x i h e in rw (ready-clear c g.clear, ready-clear next e) (rule-unstarted g)
-      go (Faulted why) e = unwaited next.unstarted why e (tick-sound c x i s).unstarted ∙ sym (ap (λ (b : Bool). (is_ready c && not (start_of c.set c.link i)) && b) (ready-fault next why e) ∙ and-false (is_ready c && not (start_of c.set c.link i)))
+      go : (k : Option Fault) → next.condition ≡ k → next.unstarted ≡ ((is_ready c && not (start_of c.set c.link i)) && is_ready next)
+      go None e = let g = tick_goes c x i h e in rw (ready-clear c g.clear, ready-clear next e) (rule-unstarted g)
+      go (Some why) e = unwaited next.unstarted why e (tick-sound c x i s).unstarted ∙ sym (ap (λ (b : Bool). (is_ready c && not (start_of c.set c.link i)) && b) (ready-fault next why e) ∙ and-false (is_ready c && not (start_of c.set c.link i)))
 
 -- where the field is true the box is in Ready with outputs 1 to 3 shut, and in AL2 w is at least D
 pub unstarted-is : (c : Controller) → Sound c → c.unstarted ≡ true → (is_ready c ≡ true) × (c.gates ≡ shut) × (c.set.algorithm ≡ 2 → lt_z (w_of c) (pos c.set.dose) ≡ false)

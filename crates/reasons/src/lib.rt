@@ -1,21 +1,20 @@
 // Why an output is as it is: the first reason that holds.
 #![tactic(auto)]
 
-ghost use Rattle.std.specs.Prelude.{◌≡◌, ◌*◌, ◌-◌, ◌≤◌, eqb, leb, ◌-ℤ◌, nat_abs};
+ghost use Rattle.std.specs.Prelude.{◌≡◌, ◌*◌, ◌≤◌, eqb, leb, ◌-ℤ◌, nat_abs};
 ghost use Rattle.laws.specs.Pick.{pick};
-ghost use Rattle.paper.specs.Answer.{done};
 ghost use Rattle.dosing.specs.Rules.{units};
 ghost use Rattle.controller.specs.Sound.{Sound};
 ghost use Rattle.reasons.specs.Reasons.{settle, settling, lead_reached, in_phase, open_at, fault_cause, phase_cause, gate_by, alarm_cause};
-ghost use Rattle.reasons.specs.Says.{says_name, says_reason, Explains};
+ghost use Rattle.reasons.specs.Says.{says_name, cause_of, Explains};
 ghost use Rattle.reasons.specs.Weights.{Comparable};
 
-use controller::{Condition, Controller, Fault};
+use controller::{Controller, Fault};
 use dosing::{Gates, Phase, Units};
 use settings::Settings;
 
 // The phases by their names, without the stage.
-#[derive(Clone, Copy)]
+#[derive(Clone, Copy, Debug, PartialEq, Eq)]
 pub enum Name {
     Ready,
     Fill,
@@ -26,8 +25,8 @@ pub enum Name {
     Dose,
 }
 
-// Why an output is as it is; R19 for a number that is no output's.
-#[derive(Clone, Copy)]
+// Why an output is as it is.
+#[derive(Clone, Copy, Debug, PartialEq, Eq)]
 pub enum Reason {
     Open,
     // The channel is 0 for F21.
@@ -41,56 +40,61 @@ pub enum Reason {
     Phase(Name),
     Overload,
     NoAlarm,
+}
+
+// R19: the number is no output's.
+#[derive(Clone, Copy, Debug, PartialEq, Eq)]
+pub enum ReasonError {
     R19,
 }
 
 // The first reason that holds of an output 1 to 4.
-pub fn why(c: Controller, output: u8) -> Reason
+pub fn why(c: Controller, output: u8) -> Result<Reason, ReasonError>
     requires { Sound c }
     ensures { Explains c output result }
 {
     if (output < 1) | (4 < output) {
-        return Reason::R19;
+        return Err(ReasonError::R19);
     }
-    let condition = c.condition;
     if output == 4 {
-        return alarm_reason(condition, c.alarm);
+        return Ok(alarm_reason(c.condition, c.alarm));
     }
-    let phase = c.phase;
     let w = minus(c.f, c.z);
-    gate_reason(c.set, c.gates, condition, c.unstarted, phase, w, output)
+    let reason = gate_reason(c.set, c.gates, c.condition, c.unstarted, c.phase, w, output);
+    Ok(reason)
 }
 
 // Output 4: fault, overload or no alarm.
-fn alarm_reason(condition: Condition, alarm: bool) -> Reason
-    ensures { says_reason result ≡ done (alarm_cause condition alarm) }
+fn alarm_reason(condition: Option<Fault>, alarm: bool) -> Reason
+    ensures { cause_of result ≡ alarm_cause condition alarm }
 {
-    if let Condition::Faulted(fault) = condition {
+    if let Some(fault) = condition {
         return fault_reason(fault);
     }
     if alarm {
-        return Reason::Overload;
+        Reason::Overload
+    } else {
+        Reason::NoAlarm
     }
-    Reason::NoAlarm
 }
 
 // Outputs 1 to 3: open, fault, unused, no start, else by the phase.
 fn gate_reason(
     set: Settings,
     gates: Gates,
-    condition: Condition,
+    condition: Option<Fault>,
     unstarted: bool,
     phase: Phase,
     w: Units,
     output: u8,
 ) -> Reason
     requires { Comparable phase w.v }
-    ensures { says_reason result ≡ done (gate_by set gates condition unstarted phase w.v output) }
+    ensures { cause_of result ≡ gate_by set gates condition unstarted phase w.v output }
 {
     if is_open(gates, output) {
         return Reason::Open;
     }
-    if let Condition::Faulted(fault) = condition {
+    if let Some(fault) = condition {
         return fault_reason(fault);
     }
     if (set.algorithm == 0) & (output == 3) {
@@ -117,7 +121,7 @@ fn is_open(g: Gates, output: u8) -> bool
 
 // The fault's number and channel, 0 for F21.
 fn fault_reason(fault: Fault) -> Reason
-    ensures { says_reason result ≡ done (fault_cause fault) }
+    ensures { cause_of result ≡ fault_cause fault }
 {
     match fault {
         Fault::F14(channel) => Reason::Fault {
@@ -134,32 +138,28 @@ fn fault_reason(fault: Fault) -> Reason
 // Settling, lead reached, else the phase.
 fn phase_reason(set: Settings, phase: Phase, w: Units, output: u8) -> Reason
     requires { Comparable phase w.v }
-    ensures { says_reason result ≡ done (phase_cause set phase w.v output) }
+    ensures { cause_of result ≡ phase_cause set phase w.v output }
 {
-    let wc = shuts_at(set.dose, set.pc);
-    let wf = shuts_at(set.dose, set.pf);
+    let wc = set.dose.saturating_sub(set.pc);
+    let wf = set.dose.saturating_sub(set.pf);
     match phase {
         Phase::Ready => Reason::Phase(Name::Ready),
-        Phase::Coarse { w0: _ } => Reason::Phase(Name::Fill),
-        Phase::Fine { w0: _ } => at_wc(w, wc, output, Name::Fill),
+        Phase::Coarse { .. } => Reason::Phase(Name::Fill),
+        Phase::Fine { .. } => at_wc(w, wc, output, Name::Fill),
         Phase::Hold => at_wf(w, wf, output, Name::Fill),
-        Phase::Settle { w0: _, n } => in_settle(n, set.p9, w, wf, output),
-        Phase::Discharge {
-            w0: _,
-            ws: _,
-            settled: _,
-        } => Reason::Phase(Name::Discharge),
+        Phase::Settle { n, .. } => in_settle(n, set.p9, w, wf, output),
+        Phase::Discharge { .. } => Reason::Phase(Name::Discharge),
         Phase::Load => Reason::Phase(Name::Load),
-        Phase::Calm { n: _ } => Reason::Phase(Name::Calm),
-        Phase::DoseCoarse { wh: _ } => Reason::Phase(Name::Dose),
+        Phase::Calm { .. } => Reason::Phase(Name::Calm),
+        Phase::DoseCoarse { .. } => Reason::Phase(Name::Dose),
         Phase::DoseFine { wh } => at_wc(minus(wh, w), wc, output, Name::Dose),
-        Phase::DoseSettle { wh, n: _ } => at_wf(minus(wh, w), wf, output, Name::Settle),
+        Phase::DoseSettle { wh, .. } => at_wf(minus(wh, w), wf, output, Name::Settle),
     }
 }
 
 // The fine stage has reached Wc for output 1.
 fn at_wc(x: Units, wc: u32, output: u8, name: Name) -> Reason
-    ensures { says_reason result ≡ done (pick (eqb output 1) (lead_reached x.v wc) (in_phase (says_name name))) }
+    ensures { cause_of result ≡ pick (eqb output 1) (lead_reached x.v wc) (in_phase (says_name name)) }
 {
     if output == 1 {
         return Reason::Lead { w: x, limit: wc };
@@ -169,7 +169,7 @@ fn at_wc(x: Units, wc: u32, output: u8, name: Name) -> Reason
 
 // Settle and AL0's hold have reached Wf for outputs 1 and 2.
 fn at_wf(x: Units, wf: u32, output: u8, name: Name) -> Reason
-    ensures { says_reason result ≡ done (pick (leb output 2) (lead_reached x.v wf) (in_phase (says_name name))) }
+    ensures { cause_of result ≡ pick (leb output 2) (lead_reached x.v wf) (in_phase (says_name name)) }
 {
     if output <= 2 {
         return Reason::Lead { w: x, limit: wf };
@@ -179,7 +179,7 @@ fn at_wf(x: Units, wf: u32, output: u8, name: Name) -> Reason
 
 // AL1's Settle at its tick number n: settling for output 3.
 fn in_settle(n: u64, p9: u32, x: Units, wf: u32, output: u8) -> Reason
-    ensures { says_reason result ≡ done (pick (eqb output 3) (settling n (256 * p9)) (pick (leb output 2) (lead_reached x.v wf) (in_phase settle))) }
+    ensures { cause_of result ≡ pick (eqb output 3) (settling n (256 * p9)) (pick (leb output 2) (lead_reached x.v wf) (in_phase settle)) }
 {
     if output == 3 {
         return Reason::Settling {
@@ -195,14 +195,5 @@ fn minus(a: Units, b: Units) -> Units
     requires { nat_abs (a.v -ℤ b.v) ≤ 1800000 }
     ensures { result ≡ units (a.v -ℤ b.v) }
 {
-    let x = a.v;
-    let y = b.v;
-    Units { v: x - y }
-}
-
-// D less a lead: the weight at which that lead shuts its gate; 0 where the lead is the greater.
-fn shuts_at(dose: u32, lead: u32) -> u32
-    ensures { result ≡ dose - lead }
-{
-    if lead <= dose { dose - lead } else { 0 }
+    Units { v: a.v - b.v }
 }

@@ -1,6 +1,7 @@
 // From samples on standard input to a journal on standard output.
 #![tactic(auto)]
 
+ghost use Rattle.std.specs.Prelude.{IfSome};
 ghost use Rattle.recorder.specs.Recording.{Carries};
 
 use lines::Intake;
@@ -10,61 +11,51 @@ use std::rt::Stdin;
 // Standard output.
 const STDOUT_FILENO: i32 = 1;
 
-// What is carried on behind a turn, and whether there may be more.
+// What is carried on behind a turn.
 #[derive(Clone, Copy)]
 struct Turned {
     state: Recorder,
     intake: Intake,
-    more: bool,
 }
 
-// Notes what is held and prints what it adds; where no whole line is left, reads on.
+// Notes what is held and prints what it adds; where no whole line is left, reads on. None at the end of the input.
 fn turn(
     stdin: Stdin,
     state: Recorder,
     intake: Intake,
     input: &mut [u8],
     output: &mut [u8],
-) -> Turned
+) -> Option<Turned>
     requires { Carries state }
-    ensures { Carries result.state }
+    ensures { IfSome result (λ t. Carries t.state) }
 {
     let fed = recorder::feed(state, intake, input, output);
-    let next = fed.next;
-    let left = fed.intake;
-    let len = fed.len;
-    io::write_all(STDOUT_FILENO, &output[..len]);
-    if output.len() - len < recorder::ENOUGH {
-        return Turned {
-            state: next,
-            intake: left,
-            more: true,
-        };
+    io::write_all(STDOUT_FILENO, &output[..fed.len]);
+    if output.len() - fed.len < recorder::ENOUGH {
+        return Some(Turned {
+            state: fed.next,
+            intake: fed.intake,
+        });
     }
-    let refilled = refill::refill(stdin, left, input);
-    let held = refilled.intake;
-    Turned {
-        state: next,
-        intake: held,
-        more: refilled.more,
-    }
+    let intake = refill::refill(stdin, fed.intake, input)?;
+    Some(Turned {
+        state: fed.next,
+        intake,
+    })
 }
 
-// Reads to the end of the input; the turns are counted down from a number that no input uses up.
+// Reads to the end of the input; no input uses up so many turns.
 fn main(rt: HostRuntime) {
     let stdin = rt.stdin();
     let mut input = io::large_buffer();
     let mut output = io::large_buffer();
     let mut state = Recorder::start();
     let mut intake = Intake::start();
-    let mut turns: u64 = 9223372036854775808;
-    while 0 < turns {
-        let t = turn(stdin, state, intake, &mut input, &mut output);
-        if !t.more {
+    for _ in 0..u64::MAX {
+        let Some(t) = turn(stdin, state, intake, &mut input, &mut output) else {
             return;
-        }
+        };
         state = t.state;
         intake = t.intake;
-        turns -= 1;
     }
 }

@@ -5,6 +5,7 @@ use mathlib.Core.List.{List, [], ◌++◌, append_assoc, append-nil}
 use Prim.Native.Nat.{ℕ, zero, suc, ◌+◌, ◌-◌, ◌≤◌, ◌<◌}
 use native.Mathlib.Nat.{add-zero, zero-add}
 use native.Mathlib.Omega.{arith}
+use Rattle.std.specs.Prelude.{Option, Some, None}
 use lib.IntN.{ℤ}
 use lib.ListN.{length, drop, length-append}
 use lib.Seq.{sets, length-sets}
@@ -14,13 +15,10 @@ use Rattle.laws.specs.Pick.{pick-t, pick-f}
 use Rattle.laws.specs.Over.{over, sets-append, sets_over}
 use Rattle.lines.specs.declared.Intake.{Intake}
 use Rattle.lines.specs.declared.Taken.{Taken}
-use Rattle.lines.specs.declared.Next.{Next}
-use Rattle.lines.specs.declared.Next.TheVariants.{Line, More}
 use Rattle.lines.specs.Places.{part_of}
 use Rattle.lines.specs.Intake as lines
-use Rattle.script.specs.Sight.{sight_of}
+use Rattle.script.specs.Sight.{ticked, sight_of}
 use Rattle.script.specs.Told.{tick-told}
-use Rattle.script.specs.declared.Sighted.TheVariants as S
 use Rattle.controller.specs.declared.Controller.{Controller}
 use Rattle.clock.specs.declared.Clock.{Clock}
 use Rattle.clock.specs.declared.Marked.{Marked}
@@ -73,7 +71,7 @@ module _ {r : Recorder} {l old : List ℕ} {at : ℕ} {d : Controller} (room : a
 
 -- ---- one step
 
-step_is : (n room : ℕ) (r : Recorder) (i : Intake) (input : List ℕ) {t : Taken} {x : Next} → 64 ≤ room → t ≡ lines.next_of i input → t.next ≡ x
+step_is : (n room : ℕ) (r : Recorder) (i : Intake) (input : List ℕ) {t : Taken} {x : Option (ℕ × ℕ)} → 64 ≤ room → t ≡ lines.next_of i input → t.next ≡ x
     → feed_from (suc n) room r i input ≡ on_next (λ left next. feed_from n left next t.intake input) room r input t.intake x
 unfolding feed_from
 step_is n room r i input {t} h e f =
@@ -139,12 +137,12 @@ module _ {r₀ : Recorder} {i₀ : Intake} {input old new : List ℕ} {r : Recor
   feeding-full h = ends i (full_is (suc w.fuel) (length old - len) r i input (omega (arith, w.long)))
 
   module _ (t : Taken) (e : t ≡ lines.next_of i input) (h : 64 ≤ length new - len) where
-    pub feeding-more : t.next ≡ More → Feeds r₀ i₀ input old new (record { next = r; intake = t.intake; len = len })
+    pub feeding-more : t.next ≡ None → Feeds r₀ i₀ input old new (record { next = r; intake = t.intake; len = len })
     unfolding on_next
     feeding-more m = ends t.intake (step_is w.fuel (length old - len) r i input (omega (arith, w.long)) e m)
 
     -- one line more is noted
-    pub feeding-line : {from to : ℕ} {q : Recorder} {now : List ℕ} {at : ℕ} → t.next ≡ Line from to → Notes r (part_of from to input) new len q now at
+    pub feeding-line : {from to : ℕ} {q : Recorder} {now : List ℕ} {at : ℕ} → t.next ≡ Some (from, to) → Notes r (part_of from to input) new len q now at
         → Feeding r₀ i₀ input old now q t.intake at
     unfolding on_next ahead
     feeding-line {from} {to} {q} {now} {at} m n = go w.fuel w.enough w.whole
@@ -180,7 +178,7 @@ module _ {r₀ : Recorder} {i₀ : Intake} {input old new : List ℕ} {r : Recor
             }
 
   -- a tick that stands next is noted
-  pub feeding-tick : {x : ℤ} {k next : ℕ} (e : sight_of i input ≡ S.Tick x k next) → 64 ≤ length new - len → {q : Recorder} {now : List ℕ} {at : ℕ}
+  pub feeding-tick : {x : ℤ} {k next : ℕ} (e : sight_of i input ≡ Some (ticked x k next)) → 64 ≤ length new - len → {q : Recorder} {now : List ℕ} {at : ℕ}
       → Notes r (part_of (tick-told i input e).from (tick-told i input e).to input) new len q now at → Feeding r₀ i₀ input old now q (record { at = next; have = i.have; long = false }) at
   feeding-tick e h {q} {now} {at} n =
       let t = tick-told i input e in

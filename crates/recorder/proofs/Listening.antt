@@ -7,15 +7,20 @@ use mir.Syntax.{w32}
 use mir.Val.{SFits, to_z, of_z}
 use mir.Facts.{to_z-of_z}
 use lib.ListN.{length}
+use Rattle.std.specs.Prelude.{Option, Some, None, Result, Ok, Err}
 use Rattle.controller.specs.declared.Controller.{Controller}
 use Rattle.controller.specs.declared.Ticked.{Ticked}
 use Rattle.controller.specs.declared.Fault.{Fault}
 use Rattle.controller.specs.declared.Fault.TheVariants as F
 use Rattle.controller.specs.Sound.{Sound}
-use Rattle.controller.specs.declared.RestartAnswer.{RestartAnswer}
-use Rattle.controller.specs.declared.RestartAnswer.TheVariants as N
-use Rattle.controller.specs.Says.{says_tick, says_restart, Ticks}
+use Rattle.controller.specs.declared.RestartError.{RestartError}
+use Rattle.controller.specs.declared.RestartError.TheVariants as N
+use Rattle.controller.specs.Says.{TickAnswer, records_in_dose, says_tick, says_restart, Ticks}
 use Rattle.controller.specs.Tick.{says_fault}
+use Rattle.controller.specs.declared.Outputs.{Outputs}
+use Rattle.controller.specs.declared.TickError.{TickError}
+use Rattle.controller.specs.declared.TickError.TheVariants as T
+use Rattle.counters.specs.declared.Record.{Record}
 use Rattle.laws.specs.Decimal.{good}
 use Rattle.calls.specs.Call.{tick, call_of}
 use Rattle.calls.specs.Reads.{as_call, Unticked, ReadsCall}
@@ -36,7 +41,7 @@ use Rattle.clock.specs.declared.Stage.{Stage}
 use Rattle.clock.specs.declared.Stage.TheVariants.{First, Recording, Over}
 use Rattle.clock.specs.declared.Clock.{Clock}
 use Rattle.clock.specs.declared.Marked.{Marked}
-use Rattle.recorder.specs.Recording.{heard_tick, heard_restart, heard_said, heard_of, with, note_by, note_of, box_by}
+use Rattle.recorder.specs.Recording.{heard_doses, heard_tick, heard_restart, heard_said, heard_of, with, note_by, note_of, box_by}
 use Rattle.recorder.specs.Noting.{Hears}
 use Rattle.recorder.specs.Keeps.{heard-writable}
 
@@ -46,15 +51,32 @@ unfolding heard_tick says_fault
 fault-heard (F.F14 channel) = refl
 fault-heard F.F21 = refl
 
+-- what a tick was, by its answer
+module _ (a : TickAnswer) where
+  pub heard-none : (o : Outputs) → a ≡ Ok o → o.dose ≡ None → H.Ticked ≡ heard_tick (says_tick a)
+  unfolding heard_tick heard_doses
+  heard-none o e n = sym (ap (λ (x : TickAnswer). heard_tick (says_tick x)) e ∙ ap (λ (d : Option Record). heard_doses (records_in_dose d)) n)
+
+  pub heard-dose : (o : Outputs) (r : Record) → a ≡ Ok o → o.dose ≡ Some r → H.Dosed r ≡ heard_tick (says_tick a)
+  unfolding heard_tick heard_doses
+  heard-dose o r e n = sym (ap (λ (x : TickAnswer). heard_tick (says_tick x)) e ∙ ap (λ (d : Option Record). heard_doses (records_in_dose d)) n)
+
+  pub heard-fault : (t : TickError) (f : Fault) → a ≡ Err t → t ≡ T.Fault f → H.Ticked ≡ heard_tick (says_tick a)
+  heard-fault t f e n =
+      sym (ap (λ (x : TickAnswer). heard_tick (says_tick x)) e ∙ ap (λ (x : TickError). heard_tick (says_tick (Err x))) n ∙ fault-heard f)
+
+  pub heard-r1 : (t : TickError) → a ≡ Err t → t ≡ T.R1 → H.Other ≡ heard_tick (says_tick a)
+  unfolding heard_tick
+  heard-r1 t e n = sym (ap (λ (x : TickAnswer). heard_tick (says_tick x)) e ∙ ap (λ (x : TickError). heard_tick (says_tick (Err x))) n)
+
 -- a refused restart changes nothing
-pub refused-heard : (a : RestartAnswer) → (a ≡ N.Done → ⊥) → H.Other ≡ heard_restart (says_restart a)
+pub refused-heard : (e : RestartError) → H.Other ≡ heard_restart (says_restart (Err e))
 unfolding heard_restart
-refused-heard N.Done h = absurd (h refl)
-refused-heard (N.R2 row) h = refl
-refused-heard N.R15 h = refl
+refused-heard (N.R2 row) = refl
+refused-heard N.R15 = refl
 
 -- an answer that is neither a restart's nor that the line is no call
-pub other-answer : (a : acts.Answer) → ((r : RestartAnswer) → a ≡ A.Restart r → ⊥) → (a ≡ A.Unknown → ⊥) → H.Other ≡ heard_said (says_act a)
+pub other-answer : (a : acts.Answer) → ((r : Result (Unit {0}) RestartError) → a ≡ A.Restart r → ⊥) → (a ≡ A.Unknown → ⊥) → H.Other ≡ heard_said (says_act a)
 unfolding heard_said says_act
 other-answer A.Link h k = refl
 other-answer (A.Set a) h k = refl

@@ -1,12 +1,10 @@
 -- What the lines of a buffer give (the program `record`). Assumes nothing.
-use Rattle.std.specs.Prelude.{◌≡◌, List, [], ◌++◌, ℕ, zero, suc, ◌-◌, ◌≤◌, leb, length}
+use Rattle.std.specs.Prelude.{◌≡◌, Option, Some, None, List, [], ◌++◌, ℕ, zero, suc, ◌-◌, ◌≤◌, leb, length}
 use Rattle.std.proofs.Common.{ap, ap₂, ◌∙◌}
 use Rattle.laws.specs.Pick.{pick}
 use Rattle.laws.specs.Over.{over}
 use Rattle.paper.specs.Answer.{same}
 use Rattle.lines.specs.declared.Intake.{Intake}
-use Rattle.lines.specs.declared.Next.{Next}
-use Rattle.lines.specs.declared.Next.TheVariants.{Line, More}
 use Rattle.lines.specs.Places.{part_of}
 use Rattle.lines.specs.Intake as lines
 use Rattle.recorder.specs.Recording.{note_of, next_of, Carries}
@@ -29,11 +27,11 @@ unfoldable pub ahead : List ℕ → Gave → Gave
 ahead t g = gave g.next g.intake (t ++ g.text)
 
 -- the line that is handed over is noted, and then the others; where none is left, more has to be read
-unfoldable pub on_next : (ℕ → Recorder → Gave) → ℕ → Recorder → List ℕ → Intake → Next → Gave
-on_next others room r input i (Line from to) =
+unfoldable pub on_next : (ℕ → Recorder → Gave) → ℕ → Recorder → List ℕ → Intake → Option (ℕ × ℕ) → Gave
+on_next others room r input i (Some (from, to)) =
     let n = note_of r (part_of from to input) in
     ahead n.text (others (room - length n.text) (next_of r (part_of from to input)))
-on_next others room r input i More = gave r i []
+on_next others room r input i None = gave r i []
 
 -- line after line, while 64 bytes of room are left
 unfoldable pub feed_from : ℕ → ℕ → Recorder → Intake → List ℕ → Gave

@@ -9,9 +9,8 @@ ghost use Rattle.recorder.specs.Feed.{Feeds};
 
 use acts::Answer;
 use clock::{Clock, Heard, Stage};
-use controller::{Controller, RestartAnswer, TickAnswer};
-use lines::{Intake, Next};
-use script::Sighted;
+use controller::{Controller, Outputs, TickError};
+use lines::Intake;
 
 // What is carried from line to line.
 #[derive(Clone, Copy)]
@@ -32,14 +31,18 @@ pub struct Fed {
 pub const ENOUGH: usize = clock::ENOUGH;
 
 // A tick that is not refused is counted.
-fn heard_tick(answer: TickAnswer) -> Heard
+fn heard_tick(answer: Result<Outputs, TickError>) -> Heard
     ensures { result ≡ heard_tick (says_tick answer) }
 {
     match answer {
-        TickAnswer::Outputs(_) => Heard::Ticked,
-        TickAnswer::Dose { outputs: _, record } => Heard::Dosed(record),
-        TickAnswer::Fault(_) => Heard::Ticked,
-        TickAnswer::R1 => Heard::Other,
+        Ok(told) => match told.dose {
+            None => Heard::Ticked,
+            Some(record) => Heard::Dosed(record),
+        },
+        Err(error) => match error {
+            TickError::Fault(_) => Heard::Ticked,
+            TickError::R1 => Heard::Other,
+        },
     }
 }
 
@@ -49,8 +52,8 @@ fn by_answer(answer: Answer) -> Heard
 {
     match answer {
         Answer::Restart(restart) => match restart {
-            RestartAnswer::Done => Heard::Restarted,
-            _ => Heard::Other,
+            Ok(()) => Heard::Restarted,
+            Err(_) => Heard::Other,
         },
         Answer::Unknown => Heard::Lost,
         _ => Heard::Other,
@@ -87,15 +90,13 @@ pub fn feed(r: Recorder, intake: Intake, input: &[u8], out: &mut [u8]) -> Fed
     let mut at = intake;
     let mut len: usize = 0;
     while ENOUGH <= out.len() - len {
-        let stage = k.stage;
-        let Stage::Recording = stage else {
+        let Stage::Recording = k.stage else {
             let taken = at.next_line(input);
             at = taken.intake;
-            let next = taken.next;
-            let Next::Line { from, to } = next else {
+            let Some((from, to)) = taken.next else {
                 break;
             };
-            let Stage::First = stage else {
+            let Stage::First = k.stage else {
                 continue;
             };
             let marked = k.first(&input[from..to], &mut out[len..]);
@@ -103,31 +104,22 @@ pub fn feed(r: Recorder, intake: Intake, input: &[u8], out: &mut [u8]) -> Fed
             len += marked.len;
             continue;
         };
-        let sighted = script::tick_next(at, input);
-        if let Sighted::Tick {
-            sample,
-            inputs,
-            next,
-        } = sighted
-        {
-            let have = at.have;
+        if let Some(tick) = script::tick_next(at, input) {
             at = Intake {
-                at: next,
-                have,
+                at: tick.next,
+                have: at.have,
                 long: false,
             };
-            let ticked = c.tick(sample, inputs);
+            let ticked = c.tick(tick.sample, tick.inputs);
             c = ticked.next;
-            let answer = ticked.answer;
-            let marked = k.heard(heard_tick(answer), &mut out[len..]);
+            let marked = k.heard(heard_tick(ticked.answer), &mut out[len..]);
             k = marked.next;
             len += marked.len;
             continue;
         }
         let taken = at.next_line(input);
         at = taken.intake;
-        let next = taken.next;
-        let Next::Line { from, to } = next else {
+        let Some((from, to)) = taken.next else {
             return Fed {
                 next: Recorder {
                     controller: c,
@@ -140,8 +132,7 @@ pub fn feed(r: Recorder, intake: Intake, input: &[u8], out: &mut [u8]) -> Fed
         let call = calls::read(&input[from..to], &mut bytes);
         let acted = acts::other(c, call, &bytes);
         c = acted.next;
-        let answer = acted.answer;
-        k = k.passed(by_answer(answer));
+        k = k.passed(by_answer(acted.answer));
     }
     Fed {
         next: Recorder {

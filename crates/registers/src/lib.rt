@@ -6,7 +6,7 @@ ghost use Rattle.registers.specs.Registers.{Lists};
 use single::Words;
 
 // What stands in the registers.
-#[derive(Clone, Copy)]
+#[derive(Clone, Copy, Debug, PartialEq, Eq)]
 pub struct Values {
     // The C3 weight and the C2 weight, each as the words of an f32.
     pub c3: Words,
@@ -22,13 +22,11 @@ pub struct Values {
 pub fn words(v: Values) -> [u16; 11]
     ensures { Lists v result }
 {
-    let c3 = v.c3;
-    let c2 = v.c2;
     [
-        c3.high,
-        c3.low,
-        c2.high,
-        c2.low,
+        v.c3.high,
+        v.c3.low,
+        v.c2.high,
+        v.c2.low,
         v.inputs as u16,
         v.outputs as u16,
         (v.count / 65536) as u16,

@@ -11,7 +11,5 @@ fn main() {
     let mut bytes = [0u8; journal::READ];
     let n = io::read_full(STDIN_FILENO, &mut bytes);
     let made = archive::renewed(&bytes, n);
-    let out = made.bytes;
-    let len = made.len;
-    io::write_all(STDOUT_FILENO, &out[..len]);
+    io::write_all(STDOUT_FILENO, &made.bytes[..made.len]);
 }

@@ -4,23 +4,19 @@
 use controller::Controller;
 use lines::Intake;
 
-// Reads to the end of the input; the reads are counted down from a number that no input uses up.
+// Reads to the end of the input; no input uses up so many reads.
 fn main(rt: HostRuntime) {
     let stdin = rt.stdin();
     let mut input = io::large_buffer();
     let mut output = io::large_buffer();
     let mut c = Controller::fresh();
     let mut held = Intake::start();
-    let mut reads: u64 = 9223372036854775808;
-    while 0 < reads {
-        let refilled = refill::refill(stdin, held, &mut input);
-        if !refilled.more {
+    for _ in 0..u64::MAX {
+        let Some(intake) = refill::refill(stdin, held, &mut input) else {
             return;
-        }
-        let intake = refilled.intake;
+        };
         let carried = blocks::answer(c, intake, &input, &mut output);
         c = carried.controller;
         held = carried.intake;
-        reads -= 1;
     }
 }

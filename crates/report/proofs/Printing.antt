@@ -30,53 +30,47 @@ use Rattle.hourly.specs.declared.Tally.{Tally}
 use Rattle.hourly.specs.Floats.{whole_back}
 
 -- the text of the rows from row k on
-abbrev pub rest_by : List Tally → ℕ → ℕ → ℕ → List ℕ
-rest_by table first hours k = rows_text (rows_by (drop k (take hours table)) (first + k))
+abbrev pub rest_by : List Tally → ℕ → ℕ → List ℕ
+rest_by table first k = rows_text (rows_by (drop k table) (first + k))
 
-pub rest-whole : (table : List Tally) (first hours : ℕ) → rest_by table first hours 0 ≡ text_by table first hours
+pub rest-whole : (table : List Tally) (first : ℕ) → rest_by table first 0 ≡ text_by table first
 unfolding text_by
-rest-whole table first hours = ap (λ (h : ℕ). rows_text (rows_by (take hours table) h)) (add-zero first)
+rest-whole table first = ap (λ (h : ℕ). rows_text (rows_by table h)) (add-zero first)
 
-pub rest-row : (table : List Tally) (first hours k : ℕ) → Printable table first hours → k < hours
-    → rest_by table first hours k ≡ row_text (first + k) (shown_of (get_or table k outside)) ++ rest_by table first hours (k + 1)
+pub rest-row : (table : List Tally) (first k : ℕ) → k < length table → rest_by table first k ≡ row_text (first + k) (shown_of (get_or table k outside)) ++ rest_by table first (k + 1)
 unfolding rows_by rows_text
-rest-row table first hours k p h =
-    let n : length (take hours table) ≡ hours = length-take-le hours table (omega (arith, p.few, p.size)) in
-    let e : get_or (take hours table) k outside ≡ get_or table k outside = get_or-take hours table k outside h in
-    ap (λ (ts : List Tally). rows_text (rows_by ts (first + k))) (drop-cons (take hours table) k outside (omega arith))
-    ∙ ap (λ (t : Tally). row_text (first + k) (shown_of t) ++ rows_text (rows_by (drop (suc k) (take hours table)) (suc (first + k)))) e
-    ∙ ap (λ (m : ℕ). row_text (first + k) (shown_of (get_or table k outside)) ++ rows_text (rows_by (drop (suc k) (take hours table)) m)) (omega arith)
-    ∙ ap (λ (i : ℕ). row_text (first + k) (shown_of (get_or table k outside)) ++ rows_text (rows_by (drop i (take hours table)) (first + (k + 1)))) (sym (add-one k))
+rest-row table first k h =
+    ap (λ (ts : List Tally). rows_text (rows_by ts (first + k))) (drop-cons table k outside h)
+    ∙ ap (λ (m : ℕ). row_text (first + k) (shown_of (get_or table k outside)) ++ rows_text (rows_by (drop (suc k) table) m)) (omega arith)
+    ∙ ap (λ (i : ℕ). row_text (first + k) (shown_of (get_or table k outside)) ++ rows_text (rows_by (drop i table) (first + (k + 1)))) (sym (add-one k))
 
 -- the length of the row, and of those behind it
-pub rest-length : (table : List Tally) (first hours k : ℕ) (row : Row) → Printable table first hours → k < hours → row ≡ shown_of (get_or table k outside)
-    → length (rest_by table first hours k) ≡ length (row_text (first + k) row) + length (rest_by table first hours (k + 1))
-rest-length table first hours k row p h e =
-    ap length (rest-row table first hours k p h ∙ ap (λ (w : Row). row_text (first + k) w ++ rest_by table first hours (k + 1)) (sym e))
-    ∙ length-append (row_text (first + k) row) (rest_by table first hours (k + 1))
+pub rest-length : (table : List Tally) (first k : ℕ) (row : Row) → k < length table → row ≡ shown_of (get_or table k outside)
+    → length (rest_by table first k) ≡ length (row_text (first + k) row) + length (rest_by table first (k + 1))
+rest-length table first k row h e =
+    ap length (rest-row table first k h ∙ ap (λ (w : Row). row_text (first + k) w ++ rest_by table first (k + 1)) (sym e))
+    ∙ length-append (row_text (first + k) row) (rest_by table first (k + 1))
 
 -- the row stored, and what is left to store behind it
-pub rest-stored : (table : List Tally) (first hours k : ℕ) (row : Row) (out new whole : List ℕ) (at r : ℕ) → Printable table first hours → k < hours → row ≡ shown_of (get_or table k outside)
-    → at + length (row_text (first + k) row) ≤ length out → Puts out at (row_text (first + k) row) new r → sets out at (rest_by table first hours k) ≡ whole
-    → (sets new r (rest_by table first hours (k + 1)) ≡ whole) × (r ≡ at + length (row_text (first + k) row)) × (length new ≡ length out)
-rest-stored table first hours k row out new whole at r p h e room puts left =
+pub rest-stored : (table : List Tally) (first k : ℕ) (row : Row) (out new whole : List ℕ) (at r : ℕ) → k < length table → row ≡ shown_of (get_or table k outside)
+    → at + length (row_text (first + k) row) ≤ length out → Puts out at (row_text (first + k) row) new r → sets out at (rest_by table first k) ≡ whole
+    → (sets new r (rest_by table first (k + 1)) ≡ whole) × (r ≡ at + length (row_text (first + k) row)) × (length new ≡ length out)
+rest-stored table first k row out new whole at r h e room puts left =
     let a = puts-fit (room-is out at (row_text (first + k) row) room) puts in
-    let text = rest_by table first hours (k + 1) in (
+    let text = rest_by table first (k + 1) in (
       ap (λ (o : List ℕ). sets o r text) a.0
           ∙ ap (λ (i : ℕ). sets (sets out at (row_text (first + k) row)) i text) a.1
           ∙ sym (sets-append out at (row_text (first + k) row) text)
           ∙ ap (λ (w : Row). sets out at (row_text (first + k) w ++ text)) e
-          ∙ ap (sets out at) (sym (rest-row table first hours k p h))
+          ∙ ap (sets out at) (sym (rest-row table first k h))
           ∙ left,
       a.1,
       puts-length puts,
     )
 
-pub rest-none : (table : List Tally) (first hours k : ℕ) → Printable table first hours → hours ≤ k → rest_by table first hours k ≡ []
+pub rest-none : (table : List Tally) (first k : ℕ) → length table ≤ k → rest_by table first k ≡ []
 unfolding rows_by rows_text
-rest-none table first hours k p h =
-    let n : length (take hours table) ≡ hours = length-take-le hours table (omega (arith, p.few, p.size)) in
-    ap (λ (ts : List Tally). rows_text (rows_by ts (first + k))) (drop_of_length-le (take hours table) {i = k} (omega arith))
+rest-none table first k h = ap (λ (ts : List Tally). rows_text (rows_by ts (first + k))) (drop_of_length-le table {i = k} h)
 
 -- ---- the rows of an accepted journal
 
@@ -117,39 +111,43 @@ sum-small w ls h a = omega (arith, (modest w h ls a.ranged).sum, a.few)
 
 -- the table of an accepted journal is printed as its text
 pub record Prints (w : Products) (s : List ℕ) (found : Summary) (table : List Tally) : Type 0 where
-  pub printable : Printable table found.first (hours_in found)
-  pub text : text_by table found.first (hours_in found) ≡ hours_text w (lines_of s)
+  pub few : hours_in found ≤ 744
+  pub printable : Printable (take (hours_in found) table) found.first
+  pub text : text_by (take (hours_in found) table) found.first ≡ hours_text w (lines_of s)
 
 module _ (w : Products) (s : List ℕ) (table : List Tally) (a : Accepted s (lines_of s)) (t : Tells w table (first_hour (lines_of s)) (lines_of s)) where
   abbrev hours : ℕ
   hours = hours_in (summary_of (lines_of s))
 
-  shown : (k : ℕ) → k < hours → shown_of (get_or (take hours table) k outside) ≡ row_of w (lines_of s) (first_hour (lines_of s) + k)
-  shown k b =
-      ap shown_of (get_or-take hours table k outside b ∙ t.at k (omega (arith, hours-few (lines_of s) a)))
-      ∙ shown-tally w (lines_of s) (first_hour (lines_of s) + k) (sum-small w (lines_of s) (first_hour (lines_of s) + k) a)
+  taken : length (take hours table) ≡ hours
+  taken = length-take-le hours table (omega (arith, hours-few (lines_of s) a, t.size))
 
-  printed : text_by table (first_hour (lines_of s)) hours ≡ hours_text w (lines_of s)
+  told : (k : ℕ) → k < hours → get_or (take hours table) k outside ≡ tally_of w (lines_of s) (first_hour (lines_of s) + k)
+  told k b = get_or-take hours table k outside b ∙ t.at k (omega (arith, hours-few (lines_of s) a))
+
+  shown : (k : ℕ) → k < hours → shown_of (get_or (take hours table) k outside) ≡ row_of w (lines_of s) (first_hour (lines_of s) + k)
+  shown k b = ap shown_of (told k b) ∙ shown-tally w (lines_of s) (first_hour (lines_of s) + k) (sum-small w (lines_of s) (first_hour (lines_of s) + k) a)
+
+  printed : text_by (take hours table) (first_hour (lines_of s)) ≡ hours_text w (lines_of s)
   unfolding text_by hours_text rows_of
   printed =
-      let n : length (take hours table) ≡ hours = length-take-le hours table (omega (arith, hours-few (lines_of s) a, t.size)) in
-      let rows = rows_tell w (lines_of s) (take hours table) (first_hour (lines_of s)) (λ k b. shown k (omega arith)) in
+      let rows = rows_tell w (lines_of s) (take hours table) (first_hour (lines_of s)) (λ k b. shown k (omega (arith, taken))) in
       ap rows_text (
       rows
-      ∙ ap (λ (m : ℕ). map (λ k. record { hour = k; row = row_of w (lines_of s) k }) (hours_from (first_hour (lines_of s)) m)) n
+      ∙ ap (λ (m : ℕ). map (λ k. record { hour = k; row = row_of w (lines_of s) k }) (hours_from (first_hour (lines_of s)) m)) taken
       ∙ ap (map (λ k. record { hour = k; row = row_of w (lines_of s) k })) (sym (span-is (lines_of s))))
 
   prints-lines : Prints w s (summary_of (lines_of s)) table
   unfolding summary_of tally_of
   prints-lines =
       record {
+        few = hours-few (lines_of s) a;
         printable =
             record {
-              size = t.size;
-              few = hours-few (lines_of s) a;
+              few = omega (arith, taken, hours-few (lines_of s) a);
               summed = λ k b. record {
                 whole = total (amounts_at w (first_hour (lines_of s) + k) (lines_of s));
-                exact = ap (λ (x : Tally). x.sum) (t.at k (omega (arith, hours-few (lines_of s) a)));
+                exact = ap (λ (x : Tally). x.sum) (told k (omega (arith, taken)));
                 small = sum-small w (lines_of s) (first_hour (lines_of s) + k) a;
               };
               short = omega (arith, ap length printed, text-short w (lines_of s) a);
@@ -166,6 +164,6 @@ pub first-last : {s : List ℕ} {found : Summary} → Found s found → found.fi
 first-last f = omega (arith, f.first, f.last, (found-accepted f).order)
 
 -- and the text is what is printed, if it has room
-pub prints-answer : {w : Products} {s : List ℕ} {found : Summary} {table : List Tally} → Found s found → Prints w s found table → (room : ℕ) → in_room [] room (text_by table found.first (hours_in found)) ≡ print_of w s room
+pub prints-answer : {w : Products} {s : List ℕ} {found : Summary} {table : List Tally} → Found s found → Prints w s found table → (room : ℕ) → in_room [] room (text_by (take (hours_in found) table) found.first) ≡ print_of w s room
 unfolding print_of on_done
 prints-answer {w} f p room = ap (in_room [] room) p.text ∙ sym (ap (λ (a : Answer (List Line)). on_done a (λ ls. in_room [] room (hours_text w ls))) f.journal)

@@ -23,35 +23,38 @@ use Rattle.hourly.specs.declared.Products.{Products}
 use Rattle.report.specs.declared.Printout.{Printout}
 
 -- a text laid over nothing but 0
-pub holds-over : (text old : List ℕ) (r : Printout) → old ≡ replicate 33480 0 → r.len ≡ length text → r.bytes ≡ over text old → Holds text r
-holds-over text old r z n e = hands-over 33480 text old r.bytes r.len z n e
+pub holds-over : {n : ℕ} (text : List ℕ) (r : Printout n) → r.len ≡ length text → r.bytes ≡ over text (replicate n 0) → Holds text r
+holds-over {n} text r k e = hands-over n text (replicate n 0) r.bytes r.len refl k e
 
 -- a text put there
-pub holds-put : (text old : List ℕ) (r : Printout) → old ≡ replicate 33480 0 → length text ≤ 33480 → Puts old 0 text r.bytes r.len → Holds text r
-holds-put text old r z h p =
-    let n : length old ≡ 33480 = ap length z ∙ length-replicate {A = ℕ} 33480 0 in
-    let f = puts-fit (room-is old 0 text (omega arith)) p in
-    holds-over text old r z (f.1 ∙ omega arith) (f.0 ∙ sets_over old text (omega arith))
+pub holds-put : {n : ℕ} (text : List ℕ) (r : Printout n) → length text ≤ n → Puts (replicate n 0) 0 text r.bytes r.len → Holds text r
+holds-put {n} text r h p =
+    let m : length (replicate {A = ℕ} n 0) ≡ n = length-replicate {A = ℕ} n 0 in
+    let f = puts-fit (room-is (replicate n 0) 0 text (omega (arith, m, h))) p in
+    holds-over text r (f.1 ∙ omega arith) (f.0 ∙ sets_over (replicate n 0) text (omega (arith, m, h)))
 
 -- what the text's answer is made of
 abbrev print_from : Products → Answer (List Line) → ℕ → Answer (List ℕ)
 print_from w a room = on_done a (λ ls. in_room [] room (hours_text w ls))
 
-module _ (w : Products) (s old new : List ℕ) (z : old ≡ replicate 33480 0) where
+module _ (w : Products) (s new : List ℕ) where
+  abbrev old : List ℕ
+  old = replicate 33480 0
+
   room : 33480 ≤ length old
-  room = omega (arith, ap length z, length-replicate {A = ℕ} 33480 0)
+  room = omega (arith, length-replicate {A = ℕ} 33480 0)
 
   -- the text stands there
-  pub text-holds : (n : ℕ) → Fills (done n) (print_of w s (length old)) old new → Holds (report_of w s) (record { bytes = new; len = n })
+  pub text-holds : (n : ℕ) → Fills (done n) (print_of w s (length old)) old new → Holds {n = 33480} (report_of w s) (record { bytes = new; len = n })
   unfolding report_of report_from print_of on_done told leaves
   text-holds n f = go (journal_of s) refl
     where
-      go : (a : Answer (List Line)) → journal_of s ≡ a → Holds (report_from w a) (record { bytes = new; len = n })
+      go : (a : Answer (List Line)) → journal_of s ≡ a → Holds {n = 33480} (report_from w a) (record { bytes = new; len = n })
       go (done ls) e =
           let p = room-enough w s ls (length old) e room in
           let says : done n ≡ done (length (hours_text w ls)) = f.says ∙ ap (told length) p in
           let m : n ≡ length (hours_text w ls) = cc in
-          holds-over (hours_text w ls) old (record { bytes = new; len = n }) z m (f.left ∙ ap (λ (a : Answer (List ℕ)). leaves a old) p)
+          holds-over (hours_text w ls) (record { bytes = new; len = n }) m (f.left ∙ ap (λ (a : Answer (List ℕ)). leaves a old) p)
       go (refused k vs) e = refused-done (sym (f.says ∙ ap (λ (a : Answer (List Line)). told length (print_from w a (length old))) e))
       go (fault k vs) e = fault-done (sym (f.says ∙ ap (λ (a : Answer (List Line)). told length (print_from w a (length old))) e))
 
@@ -82,7 +85,7 @@ module _ (w : Products) (s old new : List ℕ) (z : old ≡ replicate 33480 0) w
       go (fault k vs) e = refusal-fault r (f.says ∙ ap (λ (a : Answer (List Line)). told length (print_from w a (length old))) e)
 
 -- 65,537 bytes were asked for, so it is the report of the journal that was read
-pub reports : (w : Products) (bytes seen : List ℕ) (n : ℕ) (r : Printout) → length bytes ≡ 65537 → seen ≡ take n bytes → Holds (report_of w seen) r → Reports w bytes n r
+pub reports : (w : Products) (bytes seen : List ℕ) (n : ℕ) (r : Printout 33480) → length bytes ≡ 65537 → seen ≡ take n bytes → Holds (report_of w seen) r → Reports w bytes n r
 reports w bytes seen n r size e h =
     record {
       holds = subst (λ (l : List ℕ). Holds (report_of w l) r) e h;

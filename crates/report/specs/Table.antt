@@ -1,5 +1,5 @@
 -- The rows of a table of tallies, and the text that they make. Assumes nothing.
-use Rattle.std.specs.Prelude.{◌≡◌, List, [], ◌∷◌, ℕ, suc, ◌+◌, ◌-◌, ◌^◌, ◌≤◌, ◌<◌, eqb, length, get_or, take}
+use Rattle.std.specs.Prelude.{◌≡◌, List, [], ◌∷◌, ℕ, suc, ◌+◌, ◌-◌, ◌^◌, ◌≤◌, ◌<◌, eqb, length, get_or}
 use Rattle.std.specs.Float.{binary64}
 use Rattle.std.specs.Float.Ieee.{to_bits, to_unsigned}
 use Rattle.laws.specs.Pick.{pick}
@@ -35,15 +35,14 @@ unfoldable pub rows_by : List Tally → ℕ → List HourRow
 rows_by [] h = []
 rows_by (t ∷ ts) h = record { hour = h; row = shown_of t } ∷ rows_by ts (suc h)
 
--- the text of the first hours of a table
-unfoldable pub text_by : List Tally → ℕ → ℕ → List ℕ
-text_by table first hours = rows_text (rows_by (take hours table) first)
+-- the text of some hours, the first of them given
+unfoldable pub text_by : List Tally → ℕ → List ℕ
+text_by table first = rows_text (rows_by table first)
 
-pub record Printable (table : List Tally) (first hours : ℕ) : Type 0 where
-  pub size : length table ≡ 744
-  pub few : hours ≤ 744
-  pub summed : (k : ℕ) → k < hours → Summed (get_or table k outside)
-  pub short : length (text_by table first hours) ≤ 33480
+pub record Printable (table : List Tally) (first : ℕ) : Type 0 where
+  pub few : length table ≤ 744
+  pub summed : (k : ℕ) → k < length table → Summed (get_or table k outside)
+  pub short : length (text_by table first) ≤ 33480
 
 -- how many hours a journal has: none if it is empty
 unfoldable pub hours_in : Summary → ℕ

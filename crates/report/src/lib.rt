@@ -1,7 +1,7 @@
 // What the hour program prints for a journal.
 #![tactic(auto)]
 
-ghost use Rattle.std.specs.Prelude.{◌≡◌, [], ◌∷◌, ◌+◌, ◌≤◌, min, length, replicate};
+ghost use Rattle.std.specs.Prelude.{◌≡◌, [], ◌∷◌, ◌+◌, ◌≤◌, length};
 ghost use Rattle.std.proofs.lemmas.List.Edits.{sets};
 ghost use Rattle.paper.specs.Answer.{in_room, Fills};
 ghost use Rattle.text.specs.Put.{Puts};
@@ -9,19 +9,26 @@ ghost use Rattle.hourly.specs.Text.{row_m, row_text};
 ghost use Rattle.report.specs.Rows.{tail_text};
 ghost use Rattle.report.specs.Table.{says_shown, Summed, shown_of, text_by, Printable, hours_in};
 ghost use Rattle.report.specs.Says.{says_printed};
-ghost use Rattle.report.specs.Report.{refusal_of};
-ghost use Rattle.report.specs.Promises.{PrintsHours, PutsRefusal, Holds, HoldsRefusal, Reports};
+ghost use Rattle.report.specs.declared.PrintError.TheVariants.{Refused};
+ghost use Rattle.report.specs.Promises.{PrintsHours, PutsRefusal, HoldsRefusal, ReportsRefusal, Reports};
 
-use hourly::{Hour, Judged, Products, Summary, Tally};
+use hourly::{Hour, Products, Summary, Tally};
 use journal::Refusal;
 use text::{LF, TAB};
 
-// What making the text answers: its length, the journal's refusal, or that the buffer is too short.
-#[derive(Clone, Copy)]
-pub enum Printed {
-    Text(usize),
+// Why no text is made: the journal is refused, or the buffer is too short.
+#[derive(Clone, Copy, Debug, PartialEq, Eq)]
+pub enum PrintError {
     Refused(Refusal),
     R8,
+}
+
+impl From<Refusal> for PrintError {
+    ghost from_gives = { λ refusal e. e ≡ Refused refusal };
+
+    fn from(refusal: Refusal) -> PrintError {
+        PrintError::Refused(refusal)
+    }
 }
 
 // So many bytes hold the report of any journal.
@@ -29,8 +36,8 @@ pub const ENOUGH: usize = 33480;
 
 // A report: its bytes, how many they are, and 0 behind them.
 #[derive(Clone, Copy)]
-pub struct Printout {
-    pub bytes: [u8; ENOUGH],
+pub struct Printout<const N: usize> {
+    pub bytes: [u8; N],
     pub len: usize,
 }
 
@@ -47,8 +54,7 @@ fn shown_from(t: Tally) -> Shown
     requires { Summed t }
     ensures { says_shown result ≡ shown_of t }
 {
-    let hour = hourly::hour_from(t);
-    match hour {
+    match hourly::hour_from(t) {
         Hour::Measured(f) => Shown::Measured {
             doses: t.doses,
             sum: f.sum as u64,
@@ -120,33 +126,27 @@ fn row_len(hour: u64, t: Tally) -> usize
     n + 22 + text::decimal_len(t.doses as u64) + text::decimal_len(t.sum as u64)
 }
 
-// How many bytes the rows of the first hours of a table have.
-fn text_len(table: [Tally; journal::SPAN], first: u32, hours: usize) -> usize
-    requires { Printable table first hours }
-    ensures { result ≡ length (text_by table first hours) }
+// How many bytes the rows of some hours have, the first of them given.
+fn text_len(table: &[Tally], first: u32) -> usize
+    requires { Printable table.now first }
+    ensures { result ≡ length (text_by table.now first) }
 {
     let mut n: usize = 0;
-    let mut k: usize = 0;
-    while k < hours {
-        let tally = table[k];
+    for (k, &tally) in table.iter().enumerate() {
         n += row_len(first as u64 + k as u64, tally);
-        k += 1;
     }
     n
 }
 
-// The rows of the first hours of a table, stored from the buffer's start.
-fn put_rows(out: &mut [u8], table: [Tally; journal::SPAN], first: u32, hours: usize)
-    requires printable { Printable table first hours }
-    requires room { length (text_by table first hours) ≤ length out.old }
-    ensures { out.new ≡ sets out.old 0 (text_by table first hours) }
+// The rows of some hours, stored from the buffer's start.
+fn put_rows(out: &mut [u8], table: &[Tally], first: u32)
+    requires printable { Printable table.now first }
+    requires room { length (text_by table.now first) ≤ length out.old }
+    ensures { out.new ≡ sets out.old 0 (text_by table.now first) }
 {
     let mut at: usize = 0;
-    let mut k: usize = 0;
-    while k < hours {
-        let tally = table[k];
+    for (k, &tally) in table.iter().enumerate() {
         at = put_row(out, at, first as u64 + k as u64, shown_from(tally));
-        k += 1;
     }
 }
 
@@ -161,33 +161,26 @@ fn hours_in(found: Summary) -> usize
     (found.last - found.first) as usize + 1
 }
 
-// The text of an accepted journal's tallies, if it has room.
-fn print_table(table: [Tally; journal::SPAN], found: Summary, out: &mut [u8]) -> Printed
-    requires printable { Printable table found.first (hours_in found) }
-    requires order { found.first ≤ found.last }
-    ensures { Fills (says_printed result) (in_room [] (length out.old) (text_by table found.first (hours_in found))) out.old out.new }
+// The text of some hours' tallies, if it has room.
+fn print_table(table: &[Tally], first: u32, out: &mut [u8]) -> Result<usize, PrintError>
+    requires { Printable table.now first }
+    ensures { Fills (says_printed result) (in_room [] (length out.old) (text_by table.now first)) out.old out.new }
 {
-    let first = found.first;
-    let hours = hours_in(found);
-    let n = text_len(table, first, hours);
+    let n = text_len(table, first);
     if out.len() < n {
-        return Printed::R8;
+        return Err(PrintError::R8);
     }
-    put_rows(out, table, first, hours);
-    Printed::Text(n)
+    put_rows(out, table, first);
+    Ok(n)
 }
 
 // The hour program's text for some products, from the buffer's start, or a refusal that leaves the buffer as it was.
-pub fn print(bytes: &[u8], products: Products, out: &mut [u8]) -> Printed
+pub fn print(bytes: &[u8], products: Products, out: &mut [u8]) -> Result<usize, PrintError>
     ensures { PrintsHours products bytes.now result out.old out.new }
 {
-    let counted = hourly::tallies(bytes, products);
-    let table = counted.table;
-    let judged = counted.judged;
-    match judged {
-        Judged::Lines(found) => print_table(table, found, out),
-        Judged::Refused(refusal) => Printed::Refused(refusal),
-    }
+    let counted = hourly::tallies(bytes, products)?;
+    let hours = hours_in(counted.found);
+    print_table(&counted.table[..hours], counted.found.first, out)
 }
 
 // R, a refusal's number and its line, if they have room.
@@ -206,51 +199,32 @@ pub fn put_refused(out: &mut [u8], number: u64, line: u64) -> usize
     text::put_byte(out, p, LF)
 }
 
-// Nothing but 0.
-fn no_bytes() -> [u8; ENOUGH]
-    ensures { result ≡ replicate 33480 0 }
-{
-    [0u8; ENOUGH]
-}
-
 // The one line of a refusal, by its number and the line that it names.
-pub fn refusal_line(number: u64, line: u64) -> Printout
+pub fn refusal_line<const N: usize>(number: u64, line: u64) -> Printout<N>
     ensures { HoldsRefusal number line result }
 {
-    let mut out = no_bytes();
-    let len = put_refused(&mut out, number, line);
-    Printout { bytes: out, len }
+    let mut bytes = [0u8; N];
+    let len = put_refused(&mut bytes, number, line);
+    Printout { bytes, len }
 }
 
 // The one line of a journal's refusal.
-fn refusal_report(refusal: Refusal) -> Printout
-    ensures { Holds (refusal_of refusal) result }
+pub fn refusal_report<const N: usize>(refusal: Refusal) -> Printout<N>
+    ensures { ReportsRefusal refusal result }
 {
     let named = journal::number_and_line(refusal);
     refusal_line(named.number, named.line)
 }
 
-// The smaller of two numbers.
-fn smaller(a: usize, b: usize) -> usize
-    ensures { result ≡ min a b }
-{
-    if a < b {
-        return a;
-    }
-    b
-}
-
 // What the hour program prints for a journal, which the first n of the bytes read are, and for some products: its text, or the line of its refusal.
-pub fn report(bytes: &[u8; journal::READ], n: usize, products: Products) -> Printout
+pub fn report(bytes: &[u8; journal::READ], n: usize, products: Products) -> Printout<ENOUGH>
     ensures { Reports products bytes.now n result }
 {
-    let mut out = no_bytes();
-    let size = smaller(n, journal::READ);
-    let all: &[u8] = bytes;
-    let printed = print(&all[..size], products, &mut out);
-    match printed {
-        Printed::Text(len) => Printout { bytes: out, len },
-        Printed::Refused(refusal) => refusal_report(refusal),
-        Printed::R8 => Printout { bytes: out, len: 0 },
+    let mut out = [0u8; ENOUGH];
+    let size = n.min(journal::READ);
+    match print(&bytes[..size], products, &mut out) {
+        Ok(len) => Printout { bytes: out, len },
+        Err(PrintError::Refused(refusal)) => refusal_report(refusal),
+        Err(PrintError::R8) => Printout { bytes: out, len: 0 },
     }
 }

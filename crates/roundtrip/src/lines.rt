@@ -1,40 +1,30 @@
 // A journal line of either form and the V line, written and read back.
 ghost use Rattle.roundtrip.specs.Lines.{EchoesLine, EchoesVersion};
 
-use entry::Wrote;
-use journal::{Form, Line, One};
-
-// What writing and reading back answers: the line, or the writer's refusal.
-#[derive(Clone, Copy)]
-pub enum Echoed {
-    Line(Line),
-    R10,
-}
+use journal::{Entry, Form, Line, LineError};
 
 // The longest line has so many bytes.
 const LONGEST: usize = 31;
 
 // Writes a line in a form, reads it back in that form, and answers the line that was read; the buffer is never too short.
-pub fn echo(form: Form, line: Line) -> Echoed
+pub fn echo(form: Form, line: Line) -> Result<Line, LineError>
     ensures { EchoesLine form line result }
 {
     let mut buffer = [0u8; LONGEST];
-    let wrote = entry::write(form, line, &mut buffer);
-    let Wrote::Line(len) = wrote else {
-        return Echoed::R10;
+    let Ok(len) = entry::write(form, line, &mut buffer) else {
+        return Err(LineError::R10);
     };
-    let back = journal::read_line(form, &buffer[..len]);
-    let One::Line(read) = back else {
-        return Echoed::R10;
+    let Entry::Line(read) = journal::read_line(form, &buffer[..len])? else {
+        return Err(LineError::R10);
     };
-    Echoed::Line(read)
+    Ok(read)
 }
 
 // Writes the V line, reads it back in the new form, and answers what was read.
-pub fn echo_version() -> One
+pub fn echo_version() -> Result<Entry, LineError>
     ensures { EchoesVersion result }
 {
     let mut buffer = [0u8; journal::VERSION_LEN];
-    entry::write_version(&mut buffer);
+    let _ = entry::write_version(&mut buffer);
     journal::read_line(Form::New, &buffer)
 }

@@ -7,26 +7,18 @@ ghost use Rattle.runs.specs.Runs.{Reaches, Ran};
 
 use calls::Call;
 use controller::Controller;
-use lines::{Intake, Next};
-use script::Sighted;
+use lines::Intake;
 
 // Standard output.
 const STDOUT_FILENO: i32 = 1;
 
-// Why a run stops: at a call that is no tick and no line request, whose bytes stand at the start of the lent buffer, or for more input.
-#[derive(Clone, Copy)]
-pub enum Stop {
-    Call(Call),
-    More,
-}
-
-// Where a run stopped: the controller, what is pending, the end of the answers, and why.
+// Where a run stopped: the controller, what is pending, the end of the answers, and the call that is no tick and no line request, whose bytes stand at the start of the lent buffer; none where it stopped for more input.
 #[derive(Clone, Copy)]
 pub struct Run {
     pub controller: Controller,
     pub intake: Intake,
     pub len: usize,
-    pub stop: Stop,
+    pub stop: Option<Call>,
 }
 
 // So many bytes hold every answer.
@@ -64,31 +56,21 @@ fn ticks(mut c: Controller, mut held: Intake, input: &[u8], out: &mut [u8], at: 
     ensures { Reaches c held input.now result }
 {
     let mut len = with_room(out, at);
-    loop {
-        let sighted = script::tick_next(held, input);
-        let Sighted::Tick {
-            sample,
-            inputs,
-            next,
-        } = sighted
-        else {
-            return Reached {
-                controller: c,
-                intake: held,
-                len,
-            };
-        };
-        let have = held.have;
+    while let Some(tick) = script::tick_next(held, input) {
         held = Intake {
-            at: next,
-            have,
+            at: tick.next,
+            have: held.have,
             long: false,
         };
-        let ticked = c.tick(sample, inputs);
-        let said = ticked.answer;
+        let ticked = c.tick(tick.sample, tick.inputs);
         c = ticked.next;
-        let end = boxed::say_tick(out, len, said);
+        let end = boxed::say_tick(out, len, ticked.answer);
         len = with_room(out, end);
+    }
+    Reached {
+        controller: c,
+        intake: held,
+        len,
     }
 }
 
@@ -109,7 +91,7 @@ pub fn answer(
             controller: c,
             intake: held,
             len,
-            stop: Stop::More,
+            stop: None,
         };
     }
     let mut reply = pieces::no_reply();
@@ -118,14 +100,13 @@ pub fn answer(
         c = reached.controller;
         len = reached.len;
         let taken = reached.intake.next_line(input);
-        let next = taken.next;
         held = taken.intake;
-        let Next::Line { from, to } = next else {
+        let Some((from, to)) = taken.next else {
             return Run {
                 controller: c,
                 intake: held,
                 len,
-                stop: Stop::More,
+                stop: None,
             };
         };
         let call = calls::read(&input[from..to], bytes);
@@ -134,15 +115,14 @@ pub fn answer(
                 controller: c,
                 intake: held,
                 len,
-                stop: Stop::Call(call),
+                stop: Some(call),
             };
         };
         let size = n as usize;
         let most = room as usize;
         pieces::lend(&mut reply, most);
         let asked = c.request(&bytes[..size], &mut reply[..most]);
-        let said = asked.answer;
         c = asked.next;
-        len = boxed::say_request(out, len, said, most, &reply);
+        len = boxed::say_request(out, len, asked.answer, most, &reply);
     }
 }

@@ -1,22 +1,21 @@
 -- What a weighing says in the paper's words, the contract of each call, and that two results that both meet it are equal. Assumes nothing.
-use Rattle.std.specs.Prelude.{◌≡◌, refl, Bool, List, [], ℕ, ℤ, ◌-ℤ◌}
-use Rattle.paper.specs.Answer.{Answer, done, refused, same}
-use Rattle.paper.specs.Numbers.{R16}
+use Rattle.std.specs.Prelude.{◌≡◌, Bool, List, ℕ, ℤ, ◌-ℤ◌, Result}
+use Rattle.paper.specs.Answer.{Answer, same}
 use Rattle.settings.specs.declared.Settings.{Settings}
 use Rattle.window.specs.Window.{samples_of}
 use Rattle.window.specs.declared.Window.{Window}
+use Rattle.field.specs.Says.{says_got, got-one}
+use Rattle.field.specs.declared.FieldError.{FieldError}
 use Rattle.field.specs.declared.Weight.{Weight}
 use Rattle.dosing.specs.Rules.{units}
 use Rattle.dosing.specs.declared.Units.{Units}
 use Rattle.dosing.specs.declared.Gates.{Gates}
 use Rattle.dosing.specs.declared.Seen.{Seen}
 use Rattle.scale.specs.Scale.{outside, none, as_window, filtered_lent, filter_of, calm_by_mean, calm_by_gates, stable_of, over_capacity, seen_by, weight_by, showable}
-use Rattle.scale.specs.declared.Weighed.{Weighed}
-use Rattle.scale.specs.declared.Weighed.TheVariants as W
 
-abbrev pub says_weighed : Weighed → Answer Weight
-says_weighed (W.Weight v) = done v
-says_weighed W.R16 = refused R16 []
+-- a weight that a reply can show, or R16
+abbrev pub says_weighed : Result Weight FieldError → Answer Weight
+says_weighed = says_got
 
 -- ---- the contracts
 
@@ -48,16 +47,13 @@ Overs set f z r = r ≡ over_capacity set (f.v -ℤ z.v)
 abbrev pub Sees : Settings → Units → Units → ℕ → Bool → Seen → Type 0
 Sees set f z s start r = r ≡ seen_by set f z s start
 
-abbrev pub Weighs : Settings → Window → Units → ℕ → ℕ → Weighed → Type 0
+abbrev pub Weighs : Settings → Window → Units → ℕ → ℕ → Result Weight FieldError → Type 0
 Weighs set window z s n r = says_weighed r ≡ showable (weight_by set window z s n)
 
 -- ---- each is met by one result
 
-pub weighed-one : (a b : Weighed) → says_weighed a ≡ says_weighed b → a ≡ b
-weighed-one (W.Weight v) (W.Weight w) e = cc
-weighed-one (W.Weight v) W.R16 e = cc
-weighed-one W.R16 (W.Weight w) e = cc
-weighed-one W.R16 W.R16 e = refl
+pub weighed-one : (a b : Result Weight FieldError) → says_weighed a ≡ says_weighed b → a ≡ b
+weighed-one a b e = got-one a b e
 
 pub outside-determined : (x : Units) (a b : Bool) → Excludes x a → Excludes x b → a ≡ b
 outside-determined x a b p q = same p q
@@ -86,5 +82,5 @@ over-determined set f z a b p q = same p q
 pub see-determined : (set : Settings) (f z : Units) (s : ℕ) (start : Bool) (a b : Seen) → Sees set f z s start a → Sees set f z s start b → a ≡ b
 see-determined set f z s start a b p q = same p q
 
-pub weigh-determined : (set : Settings) (window : Window) (z : Units) (s n : ℕ) (a b : Weighed) → Weighs set window z s n a → Weighs set window z s n b → a ≡ b
+pub weigh-determined : (set : Settings) (window : Window) (z : Units) (s n : ℕ) (a b : Result Weight FieldError) → Weighs set window z s n a → Weighs set window z s n b → a ≡ b
 weigh-determined set window z s n a b p q = weighed-one a b (same p q)

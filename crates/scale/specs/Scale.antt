@@ -1,5 +1,5 @@
 -- What a tick and a request read off the samples (document 01, "One tick", steps 3 to 5 and 8; "On the line"). Assumes nothing.
-use Rattle.std.specs.Prelude.{Bool, true, false, ◌&&◌, ◌||◌, List, [], ◌∷◌, ℕ, ◌+◌, ◌*◌, leb, ltb, ℤ, pos, negsuc, nat_abs, ◌-ℤ◌, take}
+use Rattle.std.specs.Prelude.{Bool, true, false, ◌&&◌, ◌||◌, List, [], ◌∷◌, ℕ, ◌+◌, ◌*◌, leb, ltb, ℤ, pos, negsuc, nat_abs, ◌-ℤ◌, take, Option, Some, None}
 use Rattle.std.specs.Bool.{xor}
 use Rattle.std.specs.Int.Signed.{lt_z, le_z}
 use Rattle.laws.specs.Pick.{pick}
@@ -66,6 +66,10 @@ calm_by_gates old new s = pick (changed old new) 0 s
 -- w > C+9
 unfoldable pub over_capacity : Settings → ℤ → Bool
 over_capacity set w = lt_z (pos (set.capacity + 9)) w
+
+-- a whole number of at most six digits
+unfoldable pub six_digits : ℤ → Option ℤ
+six_digits w = pick (leb (nat_abs w) 999999) (Some w) None
 
 -- w = F-Z; beyond six digits, where no sound controller comes, 0
 unfoldable pub net_of : ℤ → ℤ → ℤ

@@ -3,22 +3,15 @@
 
 ghost use Rattle.std.specs.Prelude.{◌≡◌, ◌-ℤ◌};
 ghost use Rattle.dosing.specs.Rules.{units};
-ghost use Rattle.scale.specs.Scale.{as_window, net_of, showable};
+ghost use Rattle.scale.specs.Scale.{as_window, net_of, six_digits, showable};
 ghost use Rattle.scale.specs.Says.{Excludes, Lacks, MeansLent, Filters, CalmsByMean, CalmsByGates, Steadies, Overs, Sees, Weighs, says_weighed};
 
 use dosing::{Gates, Seen, Units};
-use field::Weight;
+use field::{FieldError, Weight};
 use settings::Settings;
 
-// A weight that a reply can show, or R16 for one that is beyond six digits or has a point above 7.
-#[derive(Clone, Copy)]
-pub enum Weighed {
-    Weight(Weight),
-    R16,
-}
-
 // A difference of two weights, which an i32 need not hold.
-#[derive(Clone, Copy)]
+#[derive(Clone, Copy, Debug, PartialEq, Eq)]
 struct Wide {
     v: i64,
 }
@@ -27,11 +20,21 @@ impl Wide {
     // A weight above C and this is over capacity.
     const OVER_CAPACITY: i64 = 9;
     // The greatest weight of six digits.
-    const SIX_DIGITS: i64 = 999999;
+    const SIX_DIGITS: u64 = 999999;
+
+    // The weight, where it has at most six digits.
+    fn six_digits(self) -> Option<i32>
+        ensures { result ≡ six_digits self.v }
+    {
+        if self.v.unsigned_abs() > Wide::SIX_DIGITS {
+            return None;
+        }
+        Some(self.v as i32)
+    }
 }
 
 // The greatest size of a sample that is not outside.
-const SAMPLE_MOST: i32 = 900000;
+const SAMPLE_MOST: u32 = 900000;
 // The cap of the calm run S.
 const CALM_MOST: u32 = 4032;
 // So many ticks of calm for each unit of p9 are stable.
@@ -43,23 +46,23 @@ const POINT_MOST: u32 = 7;
 pub fn is_outside(x: Units) -> bool
     ensures { Excludes x result }
 {
-    let v = x.v;
-    (v < 0 - SAMPLE_MOST) | (SAMPLE_MOST < v)
+    x.v.unsigned_abs() > SAMPLE_MOST
 }
 
-// No sample is held of those lent.
+// No sample is held of those lent. `samples` and `held` stay two parameters: `Lacks` promises for any two, also for fewer samples than held.
 pub fn holds_none(samples: &[i32], held: usize) -> bool
     ensures { Lacks samples.now held result }
 {
-    (held == 0) | (samples.len() == 0)
+    held == 0 || samples.is_empty()
 }
 
 // F of the samples lent, of which so many are held: the mean of the last n.
 pub fn mean_lent(samples: &[i32], held: usize, n: u32) -> Units
     ensures { MeansLent samples.now held n result }
 {
-    let v = window::mean_of(samples, held, n as usize);
-    Units { v }
+    Units {
+        v: window::mean_of(samples, held, n as usize),
+    }
 }
 
 // n: p7 if output 1 was open before the tick, else p8.
@@ -73,23 +76,18 @@ pub fn filter_of(set: Settings, g: Gates) -> u32
 pub fn calm_by_mean(first: bool, f: Units, previous: Units, s: u32) -> u32
     ensures { CalmsByMean first f previous s result }
 {
-    let now = f.v;
-    let before = previous.v;
-    if first | !((now <= before) & (before <= now)) {
-        return 0;
+    if first || f != previous {
+        0
+    } else {
+        s.min(CALM_MOST - 1) + 1
     }
-    if s < CALM_MOST {
-        return s + 1;
-    }
-    CALM_MOST
 }
 
 // If an output 1 to 3 changed, S becomes 0.
 pub fn calm_by_gates(old: Gates, new: Gates, s: u32) -> u32
     ensures { CalmsByGates old new s result }
 {
-    let changed = (old.one != new.one) | (old.two != new.two) | (old.three != new.three);
-    if changed { 0 } else { s }
+    if old == new { s } else { 0 }
 }
 
 // S >= 64*p9
@@ -103,61 +101,50 @@ pub fn stable_of(set: Settings, s: u32) -> bool
 fn net(f: Units, z: Units) -> Wide
     ensures { result.v ≡ f.v -ℤ z.v }
 {
-    let x = f.v as i64;
-    let y = z.v as i64;
-    Wide { v: x - y }
+    Wide {
+        v: f.v as i64 - z.v as i64,
+    }
 }
 
 // w > C+9
 pub fn over_capacity(set: Settings, f: Units, z: Units) -> bool
     ensures { Overs set f z result }
 {
-    let w = net(f, z);
-    let v = w.v;
-    let most = set.capacity as i64 + Wide::OVER_CAPACITY;
-    most < v
+    net(f, z).v > set.capacity as i64 + Wide::OVER_CAPACITY
 }
 
 // w = F-Z where it has at most six digits, else 0.
 fn narrow_net(f: Units, z: Units) -> Units
     ensures { result ≡ units (net_of f.v z.v) }
 {
-    let w = net(f, z);
-    let v = w.v;
-    if (v < 0 - Wide::SIX_DIGITS) | (Wide::SIX_DIGITS < v) {
-        return Units { v: 0 };
+    Units {
+        v: net(f, z).six_digits().unwrap_or(0),
     }
-    Units { v: v as i32 }
 }
 
 // What the phase rule sees: F, Z, w, start and stable.
 pub fn see(set: Settings, f: Units, z: Units, s: u32, start: bool) -> Seen
     ensures { Sees set f z s start result }
 {
-    let w = narrow_net(f, z);
-    let stable = stable_of(set, s);
     Seen {
         f,
         z,
-        w,
+        w: narrow_net(f, z),
         start,
-        stable,
+        stable: stable_of(set, s),
     }
 }
 
-// A weight with its flags and the decimal point, where a reply can show it.
-fn shown(w: Wide, stable: bool, over: bool, point: u32) -> Weighed
+// A weight with its flags and the decimal point; R16 beyond six digits or with a point above 7.
+fn shown(w: Wide, stable: bool, over: bool, point: u32) -> Result<Weight, FieldError>
     ensures { says_weighed result ≡ showable (record { value = w.v; stable = stable; over = over; point = point }) }
 {
-    let v = w.v;
-    if (v < 0 - Wide::SIX_DIGITS) | (Wide::SIX_DIGITS < v) {
-        return Weighed::R16;
+    let value = w.six_digits().ok_or(FieldError::R16)?;
+    if point > POINT_MOST {
+        return Err(FieldError::R16);
     }
-    if POINT_MOST < point {
-        return Weighed::R16;
-    }
-    Weighed::Weight(Weight {
-        value: v as i32,
+    Ok(Weight {
+        value,
         stable,
         over,
         point: point as u8,
@@ -165,16 +152,24 @@ fn shown(w: Wide, stable: bool, over: bool, point: u32) -> Weighed
 }
 
 // The weight and its flags, filtered by n samples; with no sample held all but the decimal point is 0.
-pub fn weigh(set: Settings, samples: &[i32], held: usize, z: Units, s: u32, n: u32) -> Weighed
+pub fn weigh(
+    set: Settings,
+    samples: &[i32],
+    held: usize,
+    z: Units,
+    s: u32,
+    n: u32,
+) -> Result<Weight, FieldError>
     ensures { Weighs set (as_window samples.now held) z s n result }
 {
-    let point = set.point;
     if holds_none(samples, held) {
-        return shown(Wide { v: 0 }, false, false, point);
+        return shown(Wide { v: 0 }, false, false, set.point);
     }
     let f = mean_lent(samples, held, n);
-    let w = net(f, z);
-    let stable = stable_of(set, s);
-    let over = over_capacity(set, f, z);
-    shown(w, stable, over, point)
+    shown(
+        net(f, z),
+        stable_of(set, s),
+        over_capacity(set, f, z),
+        set.point,
+    )
 }

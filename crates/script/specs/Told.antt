@@ -1,6 +1,6 @@
 -- What a program knows of the next line by what it was told. Assumes nothing.
-use Rattle.std.proofs.Math.Path.{◌≡◌, ap}
-use Rattle.std.specs.Prelude.{refl, List, [], ◌∷◌, ℕ, ◌+◌, ◌≤◌, ◌<◌, ltb, ℤ, length, take}
+use Rattle.std.proofs.Math.Path.{◌≡◌, ap, ap₂}
+use Rattle.std.specs.Prelude.{refl, Option, Some, None, List, [], ◌∷◌, ℕ, ◌+◌, ◌≤◌, ◌<◌, ltb, ℤ, length, take}
 use Rattle.std.proofs.Common.{sym, ◌∙◌, subst}
 use Rattle.std.proofs.Math.Bool.{false}
 use native.Mathlib.Omega.{arith}
@@ -8,15 +8,14 @@ use Rattle.laws.specs.Pick.{pick, pick-if}
 use Rattle.laws.specs.Decimal.{Parsed, good, bad}
 use Rattle.lines.specs.declared.Intake.{Intake}
 use Rattle.lines.specs.declared.Taken.{Taken}
-use Rattle.lines.specs.declared.Next.TheVariants.{Line}
 use Rattle.lines.specs.Places.{end_of, part_of}
 use Rattle.lines.specs.Intake.{overlong, line_to, next_of, Behind, NextStands, next-steps}
 use Rattle.calls.specs.Call.{Call, tick, request, modbus, order, item, bytes, at_end, call_by, call_of}
 use Rattle.calls.specs.declared.Call as read
 use Rattle.calls.specs.declared.Call.TheVariants as C
 use Rattle.calls.specs.Reads.{as_call, Unticked}
-use Rattle.script.specs.Sight.{Seen, seen, unseen, if_tick, only_tick, placed, handed_tick, sight_of}
-use Rattle.script.specs.declared.Sighted.TheVariants as S
+use Rattle.script.specs.Sight.{Seen, seen, unseen, if_tick, only_tick, ticked, placed, handed_tick, sight_of}
+use Rattle.script.specs.declared.Tick.{Tick}
 
 unseen-seen : {X : Type 0} {x : ℤ} {k : ℕ} → unseen ≡ seen x k → X
 unseen-seen e = let z : ◌≡◌ {A = ℕ} 0 1 = cc in let f : ⊥ = omega arith in absurd f
@@ -43,21 +42,23 @@ unfolding call_of only_tick
 line-tick [] e = unseen-seen e
 line-tick (b ∷ bs) e = ended-tick (call_by b bs) e
 
-placed-tick : (n : ℕ) (s : Seen) {x : ℤ} {k next : ℕ} → placed n s ≡ S.Tick x k next → (s ≡ seen x k) × (n ≡ next)
+placed-tick : (n : ℕ) (s : Seen) {x : ℤ} {k next : ℕ} → placed n s ≡ Some (ticked x k next) → (s ≡ seen x k) × (n ≡ next)
 unfolding placed
-placed-tick n (seen y j) e = (cc, cc)
+placed-tick n (seen y j) {x} {k} {next} e =
+    let t : ticked y j n ≡ ticked x k next = cc in
+    (ap₂ seen (ap (λ (t : Tick). t.sample) t) (ap (λ (t : Tick). t.inputs) t), ap (λ (t : Tick). t.next) t)
 placed-tick n unseen e = let z : ◌≡◌ {A = ℕ} 0 1 = cc in let f : ⊥ = omega arith in absurd f
 
 -- it is the next line's, and the others begin behind it
 pub record Ticking (i : Intake) (input : List ℕ) (t : Taken) (x : ℤ) (k next : ℕ) : Type 0 where
   pub from : ℕ
   pub to : ℕ
-  pub line : t.next ≡ Line from to
+  pub line : t.next ≡ Some (from, to)
   pub behind : t.intake ≡ record { at = next; have = i.have; long = false }
   pub call : call_of (part_of from to input) ≡ good (tick x k) []
 
 module _ (i : Intake) (input : List ℕ) where
-  told_line : (end : ℕ) {x : ℤ} {k next : ℕ} → handed_tick input (line_to i end).intake.at (line_to i end).next ≡ S.Tick x k next → Ticking i input (line_to i end) x k next
+  told_line : (end : ℕ) {x : ℤ} {k next : ℕ} → handed_tick input (line_to i end).intake.at (line_to i end).next ≡ Some (ticked x k next) → Ticking i input (line_to i end) x k next
   unfolding line_to handed_tick
   told_line end e =
       let l = part_of (pick (overlong i end) end i.at) end input in
@@ -70,16 +71,16 @@ module _ (i : Intake) (input : List ℕ) where
         call = line-tick l p.0;
       }
 
-  pub tick-told : {x : ℤ} {k next : ℕ} → sight_of i input ≡ S.Tick x k next → Ticking i input (next_of i input) x k next
+  pub tick-told : {x : ℤ} {k next : ℕ} → sight_of i input ≡ Some (ticked x k next) → Ticking i input (next_of i input) x k next
   unfolding sight_of next_of handed_tick
   tick-told {x} {k} {next} e =
-      pick-if (λ (t : Taken). handed_tick input t.intake.at t.next ≡ S.Tick x k next → Ticking i input t x k next) (ltb (end_of (take i.have input) i.at) (length (take i.have input)))
+      pick-if (λ (t : Taken). handed_tick input t.intake.at t.next ≡ Some (ticked x k next) → Ticking i input t x k next) (ltb (end_of (take i.have input) i.at) (length (take i.have input)))
       (λ h. told_line (end_of (take i.have input) i.at))
       (λ h f. let z : ◌≡◌ {A = ℕ} 0 1 = cc in let a : ⊥ = omega arith in absurd a)
       e
 
   -- it lies in the buffer
-  pub tick-ahead : {x : ℤ} {k next : ℕ} → sight_of i input ≡ S.Tick x k next → (i.at < next) × (next ≤ length input)
+  pub tick-ahead : {x : ℤ} {k next : ℕ} → sight_of i input ≡ Some (ticked x k next) → (i.at < next) × (next ≤ length input)
   tick-ahead e =
       let t = tick-told e in
       let b : Behind i input t.from t.to (next_of i input).intake = subst (NextStands i input (next_of i input).intake) t.line (next-steps i input).stands in
@@ -98,12 +99,12 @@ untick s (C.Item i) e = tt
 untick s (C.Bytes u n k) e = tt
 untick s C.Unknown e = tt
 
-placed-none : (n : ℕ) (s : Seen) → placed n s ≡ S.Other → s ≡ unseen
+placed-none : (n : ℕ) (s : Seen) → placed n s ≡ None → s ≡ unseen
 unfolding placed
 placed-none n (seen y j) e = let z : ◌≡◌ {A = ℕ} 0 1 = cc in let f : ⊥ = omega arith in absurd f
 placed-none n unseen e = refl
 
-pub no-tick : (i : Intake) (input : List ℕ) {from to : ℕ} → sight_of i input ≡ S.Other → (next_of i input).next ≡ Line from to
+pub no-tick : (i : Intake) (input : List ℕ) {from to : ℕ} → sight_of i input ≡ None → (next_of i input).next ≡ Some (from, to)
     → (s : List ℕ) (call : read.Call) → as_call s call ≡ call_of (part_of from to input) → Unticked call
 unfolding sight_of handed_tick
 no-tick i input {from} {to} e l s call a =

@@ -1,6 +1,6 @@
 -- What each public call hands back is what its event makes of the controller: so a series of events is a series of calls. Assumes nothing.
-use Rattle.std.specs.Prelude.{◌≡◌, refl, Bool, true, List, [], ◌⊎◌, ℕ, length, ℤ}
-use Rattle.std.proofs.Common.{sym, ◌∙◌, inl, inr, ⊎_elim, eq-eqb}
+use Rattle.std.specs.Prelude.{◌≡◌, refl, Bool, true, List, [], ◌⊎◌, ℕ, length, ℤ, Result, Ok}
+use Rattle.std.proofs.Common.{sym, ap, ◌∙◌, inl, inr, ⊎_elim, eq-eqb}
 use Rattle.paper.specs.Answer.{Answer, done, refused, fault, told}
 use Rattle.settings.specs.declared.Settings.{Settings}
 use Rattle.controller.specs.declared.Controller.{Controller}
@@ -10,8 +10,8 @@ use Rattle.controller.specs.declared.Requested.{Requested}
 use Rattle.panel.specs.declared.Polled.{Polled}
 use Rattle.setup.specs.declared.Configured.{Configured}
 use Rattle.setup.specs.declared.Cleared.{Cleared}
-use Rattle.controller.specs.declared.Restarted.{Restarted}
-use Rattle.controller.specs.Restart.{restart_of, controller_in, restarted_from}
+use Rattle.controller.specs.declared.RestartError.{RestartError}
+use Rattle.controller.specs.Restart.{restart_of, restarted_from}
 use Rattle.setup.specs.Setup.{link_of}
 use Rattle.controller.specs.State.{fresh_of}
 use Rattle.controller.specs.Says.{says_restart, Restarts, Ticks, Replies}
@@ -64,26 +64,14 @@ unfolding event_of
 reset-is c r h = h.next
 
 -- an accepted restart is put in place of the old controller
-taken_in : (f : Controller → Unit {0}) (c : Controller) (a : Answer Controller) → told f a ≡ done tt → controller_in a ≡ restarted_from c a
-unfolding told controller_in restarted_from
-taken_in f c (done d) e = refl
-taken_in f c (refused n vs) e = refused-done e
-taken_in f c (fault n vs) e = fault-done e
-
-pub restart-is : (c : Controller) (set : Settings) (count total : ℕ) (r : Restarted) → Restarts set count total r → says_restart r.answer ≡ done tt → r.next ≡ event_of c (restart set count total)
-unfolding event_of
-restart-is c set count total r h e = h.next ∙ taken_in _ c (restart_of set count total) (sym h.says ∙ e)
+pub restart-is : (c : Controller) (set : Settings) (count total : ℕ) (r : Result Controller RestartError) (d : Controller) → Restarts set count total r → r ≡ Ok d → d ≡ event_of c (restart set count total)
+unfolding event_of restarted_from
+restart-is c set count total r d h e = ap (restarted_from c) (sym (ap says_restart e) ∙ h.says)
 
 -- at a refused one the old controller stays
-stays-in : (f : Controller → Unit {0}) (c : Controller) (a : Answer Controller) (n : ℕ) (vs : List ℕ) → told f a ≡ refused n vs → restarted_from c a ≡ c
-unfolding told restarted_from
-stays-in f c (done d) n vs e = refused-done (sym e)
-stays-in f c (refused m us) n vs e = refl
-stays-in f c (fault m us) n vs e = refl
-
-pub restart-stays : (c : Controller) (set : Settings) (count total : ℕ) (r : Restarted) (n : ℕ) (vs : List ℕ) → Restarts set count total r → says_restart r.answer ≡ refused n vs → event_of c (restart set count total) ≡ c
-unfolding event_of
-restart-stays c set count total r n vs h e = stays-in _ c (restart_of set count total) n vs (sym h.says ∙ e)
+pub restart-stays : (c : Controller) (set : Settings) (count total : ℕ) (r : Result Controller RestartError) (n : ℕ) (vs : List ℕ) → Restarts set count total r → says_restart r ≡ refused n vs → event_of c (restart set count total) ≡ c
+unfolding event_of restarted_from
+restart-stays c set count total r n vs h e = ap (restarted_from c) (sym h.says ∙ e)
 
 -- a restart with the numbers that the counters' call answers just before it hands them back
 handed : (n : Counters) (a : Answer Controller) → handed_back (given_by a n.count n.total) n ≡ true

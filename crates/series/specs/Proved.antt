@@ -1,13 +1,12 @@
 -- Demand 3 holds of every series of calls from a fresh controller. The statement itself stands in proofs/Proved. Assumes nothing.
-use Rattle.std.specs.Prelude.{◌≡◌, refl, Bool, true, false, List, ℕ, ◌≤◌, ltb, ℤ}
+use Rattle.std.specs.Prelude.{◌≡◌, refl, Bool, true, false, List, ℕ, ◌≤◌, ltb, ℤ, Option, Some, None}
 use Rattle.std.proofs.Common.{sym, ap, ap₂, ◌∙◌, arith, ltb-false}
 use Rattle.laws.specs.Pick.{pick-if}
 use Rattle.laws.specs.Whole.{true-false, false-true}
 use Rattle.settings.specs.declared.Settings.{Settings}
 use Rattle.dosing.specs.Gates.{filling_open}
 use Rattle.controller.specs.declared.Controller.{Controller}
-use Rattle.controller.specs.declared.Condition.{Condition}
-use Rattle.controller.specs.declared.Condition.TheVariants.{Clear, Faulted}
+use Rattle.controller.specs.declared.Fault.{Fault}
 use Rattle.scale.specs.Scale.{over_capacity}
 use Rattle.controller.specs.Tick.{Result, Told, tick_of}
 use Rattle.controller.specs.State.{fresh_of}
@@ -21,10 +20,10 @@ use Rattle.series.specs.Statement.{accepted, Demand3}
 use Rattle.series.specs.Walk.{Accords, CountsAll}
 
 -- in a fault
-unfilled : (c : Controller) → Sound c → (k : Condition) → c.condition ≡ k → clear c.condition ≡ false → filling_open c.set c.gates ≡ false
+unfilled : (c : Controller) → Sound c → (k : Option Fault) → c.condition ≡ k → clear c.condition ≡ false → filling_open c.set c.gates ≡ false
 unfolding clear
-unfilled c s Clear e h = true-false (rw e at h)
-unfilled c s (Faulted why) e h = fault-unfilled c why s e
+unfilled c s None e h = true-false (rw e at h)
+unfilled c s (Some why) e h = fault-unfilled c why s e
 
 -- a tick that is no refusal has inputs of at most 15
 taken : (c : Controller) (x : ℤ) (i : ℕ) → accepted (tick_of c x i).answer ≡ true → i ≤ 15

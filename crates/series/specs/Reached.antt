@@ -1,11 +1,10 @@
 -- No phase is out of reach: for each phase of each algorithm and for both faults, some series of calls from the fresh controller reaches it. Assumes nothing.
-use Rattle.std.specs.Prelude.{◌≡◌, refl, true, List, [], ◌∷◌, ◌++◌, map, ℕ}
+use Rattle.std.specs.Prelude.{◌≡◌, refl, true, List, [], ◌∷◌, ◌++◌, map, ℕ, Option, Some, None}
 use Rattle.settings.specs.Cases.{set_of}
 use Rattle.dosing.specs.declared.Phase.{Phase}
 use Rattle.dosing.specs.declared.Phase.TheVariants.{Ready, Coarse, Fine, Hold, Settle, Discharge, Load, Calm, DoseCoarse, DoseFine, DoseSettle}
+use Rattle.controller.specs.declared.Fault.{Fault}
 use Rattle.controller.specs.declared.Fault.TheVariants as F
-use Rattle.controller.specs.declared.Condition.{Condition}
-use Rattle.controller.specs.declared.Condition.TheVariants.{Clear, Faulted}
 use Rattle.controller.specs.State.{fresh_of}
 use Rattle.controller.specs.Restart.{restarted_from}
 use Rattle.setup.specs.Cases.{orders}
@@ -31,10 +30,10 @@ phase_name (DoseCoarse w_h) = dose_coarse'
 phase_name (DoseFine w_h) = dose_fine'
 phase_name (DoseSettle w_h n) = dose_settle'
 
-unfoldable pub name_in : Condition → Phase → Name
-name_in Clear p = phase_name p
-name_in (Faulted (F.F14 channel)) p = f14 channel
-name_in (Faulted F.F21) p = f21
+unfoldable pub name_in : Option Fault → Phase → Name
+name_in None p = phase_name p
+name_in (Some (F.F14 channel)) p = f14 channel
+name_in (Some F.F21) p = f21
 
 -- where a series ends: the algorithm, and the phase or the fault
 pub record End : Type 0 where

@@ -28,12 +28,14 @@ pub struct Settings {
     pub product: u32,
 }
 
-// What the check answers: the set is good, or the row of the first bad setting (1 is the first).
-#[derive(Clone, Copy)]
-pub enum Checked {
-    Good,
+// Why a set is refused: R2 names the row of the first bad setting (1 is the first).
+#[derive(Clone, Copy, Debug, PartialEq, Eq)]
+pub enum SettingError {
     R2(u32),
 }
+
+// How many settings there are.
+const ROWS: usize = 18;
 
 // A least and a greatest value.
 #[derive(Clone, Copy)]
@@ -43,7 +45,7 @@ struct Range {
 }
 
 // Each setting's fixed range, in the order of the check; a bound that depends on other settings is laid over it.
-const TABLE: [Range; 18] = [
+const TABLE: [Range; ROWS] = [
     Range { from: 0, to: 3 }, // algorithm
     Range {
         from: 1,
@@ -102,7 +104,7 @@ impl Settings {
     pub const PRODUCT_MOST: u32 = 255;
 
     // The values of the settings, in the table's order.
-    fn values(self) -> [u32; 18]
+    fn values(self) -> [u32; ROWS]
         ensures { result ≡ map value_of (table self) }
     {
         [
@@ -128,7 +130,7 @@ impl Settings {
     }
 
     // The table with the bounds that depend on other settings laid over it.
-    fn ranges(self) -> [Range; 18]
+    fn ranges(self) -> [Range; ROWS]
         ensures { result ≡ map range_of (table self) }
     {
         let mut ranges = TABLE;
@@ -159,25 +161,24 @@ impl Settings {
     }
 
     // Checks the settings in the table's order; the first that is out of its range is named.
-    pub fn check(self) -> Checked
+    pub fn check(self) -> Result<(), SettingError>
         ensures { Checks self result }
     {
         let values = self.values();
         let ranges = self.ranges();
-        let mut i: usize = 0;
-        while i < 18 {
-            let value = values[i];
+        for (i, &value) in values.iter().enumerate() {
             let range = ranges[i];
             if (value < range.from) | (range.to < value) {
-                return Checked::R2(i as u32 + 1);
+                return Err(SettingError::R2(i as u32 + 1));
             }
-            i += 1;
         }
-        Checked::Good
+        Ok(())
     }
+}
 
+impl Default for Settings {
     // The default set: AL0, C 10,000, D 100, M 100.
-    pub fn default() -> Settings
+    fn default() -> Settings
         ensures { IsDefault result }
     {
         Settings {

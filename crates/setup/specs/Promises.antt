@@ -1,5 +1,5 @@
 -- What these calls promise beside their contracts: refusals that change nothing, what a set keeps, and counters that a reset alone changes. Assumes nothing.
-use Rattle.std.specs.Prelude.{◌≡◌, refl, Bool, List, [], ℕ}
+use Rattle.std.specs.Prelude.{◌≡◌, refl, Bool, List, [], ℕ, None}
 use Rattle.paper.specs.Answer.{Answer, done, refused, fault}
 use Rattle.paper.specs.AnswerLaws.{done_refused, passed}
 use Rattle.paper.specs.Numbers.{R3}
@@ -15,7 +15,6 @@ use Rattle.controller.specs.Sound.{Sound}
 use Rattle.controller.specs.Promises.{ready-gates}
 use Rattle.controller.specs.Bounds.{ready-is}
 use Rattle.controller.specs.declared.Controller.{Controller}
-use Rattle.controller.specs.declared.Condition.TheVariants.{Clear}
 
 -- ---- refusals
 
@@ -35,7 +34,7 @@ reset-refused c n vs e = after-refused (reset_answer c) _ c n vs e
 
 -- ---- what a call changes
 
-as-restarted : (c : Controller) (set : Settings) → c.condition ≡ Clear → c.phase ≡ Ready → c.gates ≡ shut → taken set c ≡ with_link c.link (with_alarm c.alarm (with_inputs c.inputs (restarted set c.counters.count c.counters.total)))
+as-restarted : (c : Controller) (set : Settings) → c.condition ≡ None → c.phase ≡ Ready → c.gates ≡ shut → taken set c ≡ with_link c.link (with_alarm c.alarm (with_inputs c.inputs (restarted set c.counters.count c.counters.total)))
 unfolding taken restarted
 as-restarted c set a b g = rw (a, b, g)
 

@@ -1,30 +1,36 @@
 -- What the answers say in the paper's words, and the contract of each call. Assumes nothing.
-use Rattle.std.specs.Prelude.{◌≡◌, Bool, [], ◌∷◌}
+use Rattle.std.specs.Prelude.{◌≡◌, Bool, [], ◌∷◌, Result, Ok, Err}
 use Rattle.paper.specs.Answer.{Answer, done, refused}
 use Rattle.paper.specs.Numbers.{R2, R3}
 use Rattle.settings.specs.declared.Settings.{Settings}
+use Rattle.settings.specs.declared.SettingError.{SettingError}
+use Rattle.settings.specs.declared.SettingError.TheVariants as C
 use Rattle.counters.specs.declared.Counters.{Counters}
 use Rattle.controller.specs.Sound.{Sound}
 use Rattle.controller.specs.declared.Controller.{Controller}
 use Rattle.setup.specs.Setup.{settings_of, reset_of, link_of}
 use Rattle.controller.specs.Made.{Made}
-use Rattle.setup.specs.declared.SetAnswer.{SetAnswer}
-use Rattle.setup.specs.declared.SetAnswer.TheVariants as S
+use Rattle.setup.specs.declared.SetError.{SetError}
+use Rattle.setup.specs.declared.SetError.TheVariants as S
 use Rattle.setup.specs.declared.Configured.{Configured}
-use Rattle.setup.specs.declared.ResetAnswer.{ResetAnswer}
-use Rattle.setup.specs.declared.ResetAnswer.TheVariants as C
+use Rattle.setup.specs.declared.ResetError.{ResetError}
+use Rattle.setup.specs.declared.ResetError.TheVariants as Z
 use Rattle.setup.specs.declared.Cleared.{Cleared}
 
 -- ---- the answers
 
-abbrev pub says_set : SetAnswer → Answer (Unit {0})
-says_set S.Taken = done tt
-says_set S.R3 = refused R3 []
-says_set (S.R2 row) = refused R2 (row ∷ [])
+abbrev pub says_set : Result (Unit {0}) SetError → Answer (Unit {0})
+says_set (Ok u) = done tt
+says_set (Err S.R3) = refused R3 []
+says_set (Err (S.R2 row)) = refused R2 (row ∷ [])
 
-abbrev pub says_reset : ResetAnswer → Answer (Unit {0})
-says_reset C.Done = done tt
-says_reset C.R3 = refused R3 []
+-- the check's refusal, passed on
+abbrev pub set_error : SettingError → SetError
+set_error (C.R2 row) = S.R2 row
+
+abbrev pub says_reset : Result (Unit {0}) ResetError → Answer (Unit {0})
+says_reset (Ok u) = done tt
+says_reset (Err Z.R3) = refused R3 []
 
 -- ---- the contracts: the next controller and the answer are the rule's, and the next controller is sound
 

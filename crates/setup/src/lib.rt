@@ -4,34 +4,42 @@
 ghost use Rattle.std.specs.Prelude.{◌≡◌};
 ghost use Rattle.controller.specs.Sound.{Sound};
 ghost use Rattle.setup.specs.Setup.{taken};
-ghost use Rattle.setup.specs.Says.{Sets, Resets, Counted, Links};
+ghost use Rattle.setup.specs.Says.{set_error, Sets, Resets, Counted, Links};
 
 use channels::Runs;
 use controller::Controller;
 use counters::Counters;
 use dosing::Units;
-use settings::{Checked, Settings};
+use settings::{SettingError, Settings};
 use window::Window;
 
-// What new settings answer; R2 names the row.
-#[derive(Clone, Copy)]
-pub enum SetAnswer {
-    Taken,
+// Why new settings are refused; R2 names the row.
+#[derive(Clone, Copy, Debug, PartialEq, Eq)]
+pub enum SetError {
     R3,
     R2(u32),
+}
+
+impl From<SettingError> for SetError {
+    ghost from_gives = { λ error e. e ≡ set_error error };
+
+    fn from(error: SettingError) -> SetError {
+        match error {
+            SettingError::R2(row) => SetError::R2(row),
+        }
+    }
 }
 
 // The controller after new settings, and the answer.
 #[derive(Clone, Copy)]
 pub struct Configured {
     pub next: Controller,
-    pub answer: SetAnswer,
+    pub answer: Result<(), SetError>,
 }
 
-// What a counter reset answers.
-#[derive(Clone, Copy)]
-pub enum ResetAnswer {
-    Done,
+// Why a counter reset is refused.
+#[derive(Clone, Copy, Debug, PartialEq, Eq)]
+pub enum ResetError {
     R3,
 }
 
@@ -39,7 +47,7 @@ pub enum ResetAnswer {
 #[derive(Clone, Copy)]
 pub struct Cleared {
     pub next: Controller,
-    pub answer: ResetAnswer,
+    pub answer: Result<(), ResetError>,
 }
 
 // Takes a set in Ready (R3), where it is good (R2).
@@ -47,41 +55,41 @@ pub fn configure(c: Controller, set: Settings) -> Configured
     requires { Sound c }
     ensures { Sets c set result }
 {
-    let condition = c.condition;
-    let phase = c.phase;
-    if !controller::is_ready(condition, phase) {
+    if !controller::is_ready(c.condition, c.phase) {
         return Configured {
             next: c,
-            answer: SetAnswer::R3,
+            answer: Err(SetError::R3),
         };
     }
     match set.check() {
-        Checked::Good => taken(set, c),
-        Checked::R2(row) => Configured {
+        Ok(()) => Configured {
+            next: taken(set, c),
+            answer: Ok(()),
+        },
+        Err(error) => Configured {
             next: c,
-            answer: SetAnswer::R2(row),
+            answer: Err(SetError::from(error)),
         },
     }
 }
 
 // Puts count and total to 0 in Ready (R3).
-pub fn reset(mut c: Controller) -> Cleared
+pub fn reset(c: Controller) -> Cleared
     requires { Sound c }
     ensures { Resets c result }
 {
-    let condition = c.condition;
-    let phase = c.phase;
-    if !controller::is_ready(condition, phase) {
+    if !controller::is_ready(c.condition, c.phase) {
         return Cleared {
             next: c,
-            answer: ResetAnswer::R3,
+            answer: Err(ResetError::R3),
         };
     }
-    let none = Counters { count: 0, total: 0 };
-    c.counters = none;
     Cleared {
-        next: c,
-        answer: ResetAnswer::Done,
+        next: Controller {
+            counters: Counters { count: 0, total: 0 },
+            ..c
+        },
+        answer: Ok(()),
     }
 }
 
@@ -89,8 +97,7 @@ pub fn reset(mut c: Controller) -> Cleared
 pub fn counted(c: Controller) -> Counters
     ensures { Counted c result }
 {
-    let kept = c.counters;
-    kept
+    c.counters
 }
 
 // Sets or clears the link start, at any time.
@@ -103,25 +110,19 @@ pub fn link(mut c: Controller, on: bool) -> Controller
 }
 
 // The filter is emptied, Z is 0, the runs are cleared and no tick was the last; all else is kept.
-fn taken(set: Settings, mut c: Controller) -> Configured
-    ensures { (result.next ≡ taken set c) × (result.answer ≡ SetAnswer.Taken) }
+fn taken(set: Settings, mut c: Controller) -> Controller
+    ensures { result ≡ taken set c }
 {
-    let zero = Units { v: 0 };
-    let emptied = Window::new();
-    let runs = Runs {
+    c.set = set;
+    c.window = Window::new();
+    c.z = Units { v: 0 };
+    c.f = Units { v: 0 };
+    c.s = 0;
+    c.runs = Runs {
         one: 0,
         two: 0,
         three: 0,
     };
-    c.set = set;
-    c.window = emptied;
-    c.z = zero;
-    c.f = zero;
-    c.s = 0;
-    c.runs = runs;
     c.unstarted = false;
-    Configured {
-        next: c,
-        answer: SetAnswer::Taken,
-    }
+    c
 }

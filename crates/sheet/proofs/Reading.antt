@@ -5,12 +5,10 @@ use Prim.Native.Nat.{ℕ, ◌≤◌, ◌<◌}
 use lib.ListN.{length, drop_of_length-le}
 use lib.Seq.{drop-cons}
 use Rattle.laws.specs.Decimal.{good}
-use Rattle.text.specs.Scan.{leads, ReadsNumber}
-use Rattle.text.specs.declared.Num.{Num}
-use Rattle.text.specs.declared.Num.TheVariants.{Good, Bad}
+use Rattle.text.specs.Scan.{Num, leads, ReadsNumber}
+use Rattle.std.specs.Prelude.{Some, None}
 use Rattle.sheet.specs.Lines.{first_from, first_line}
 use Rattle.sheet.specs.Says.{says_first}
-use Rattle.sheet.specs.declared.First.TheVariants as F
 
 module _ (s : List ℕ) (n : Num) (r : ReadsNumber s 0 9999832 n) where
   -- the line's first hour is what the reader found
@@ -18,14 +16,14 @@ module _ (s : List ℕ) (n : Num) (r : ReadsNumber s 0 9999832 n) where
   unfolding first_line
   found m e = ap first_from (r.reads ∙ ap (leads s) e)
 
-  pub none : n ≡ Bad → says_first F.R21 ≡ first_line s
+  pub none : n ≡ None → says_first None ≡ first_line s
   unfolding first_from
-  none e = sym (found Bad e)
+  none e = sym (found None e)
 
-  pub more : (v next : ℕ) → n ≡ Good v next → next < length s → says_first F.R21 ≡ first_line s
+  pub more : (v next : ℕ) → n ≡ Some (v, next) → next < length s → says_first None ≡ first_line s
   unfolding first_from
-  more v next e h = sym (found (Good v next) e ∙ ap (λ (l : List ℕ). first_from (good v l)) (drop-cons s next 0 h))
+  more v next e h = sym (found (Some (v, next)) e ∙ ap (λ (l : List ℕ). first_from (good v l)) (drop-cons s next 0 h))
 
-  pub alone : (v next : ℕ) → n ≡ Good v next → length s ≤ next → says_first (F.Hour v) ≡ first_line s
+  pub alone : (v next : ℕ) → n ≡ Some (v, next) → length s ≤ next → says_first (Some v) ≡ first_line s
   unfolding first_from
-  alone v next e h = sym (found (Good v next) e ∙ ap (λ (l : List ℕ). first_from (good v l)) (drop_of_length-le s {i = next} h))
+  alone v next e h = sym (found (Some (v, next)) e ∙ ap (λ (l : List ℕ). first_from (good v l)) (drop_of_length-le s {i = next} h))

@@ -1,50 +1,33 @@
 -- From the answer of printing to the report. Assumes nothing.
+use Rattle.std.specs.Prelude.{Option}
 use mathlib.Core.Path.{◌≡◌, refl, sym, ap, ◌∙◌, subst}
 use mathlib.Core.Bool.{Bool, true, false}
 use mathlib.Core.List.{List, []}
 use Prim.Native.Nat.{ℕ, ◌≤◌, min}
 use native.Mathlib.Omega.{arith}
-use native.Mathlib.Decide.{dec_lt}
 use lib.Dec.{leb}
 use lib.ListN.{length, take, replicate, length-replicate}
-use lib.Seq.{take_all}
 use borrow.Author.Tests.{le-leb}
 use Rattle.laws.specs.Pick.{pick, pick-t}
-use Rattle.laws.specs.Over.{sets_over}
 use Rattle.paper.specs.Answer.{Answer, done, refused, fault, told, on_done, in_room, leaves, Fills}
 use Rattle.paper.specs.AnswerLaws.{refused-done, fault-done, fault-refused, done_refused, hands-over}
 use Rattle.paper.specs.Numbers.{R8, R10, R21}
-use Rattle.text.specs.Put.{Puts}
-use Rattle.text.specs.PutLaws.{room-is, puts-fit}
 use Rattle.journal.specs.Journal.{journal_of}
-use Rattle.journal.specs.Says.{says_refusal, refusal-done, refusal-told, names_of, refusal-names}
+use Rattle.journal.specs.Says.{refusal-told, names_of, refusal-names}
 use Rattle.journal.specs.declared.Line.{Line}
-use Rattle.journal.specs.declared.Refusal.{Refusal}
-use Rattle.journal.specs.declared.Refusal.TheVariants as J
-use Rattle.report.specs.Report.{refusal_text, refusal_of, journal-named}
+use Rattle.report.specs.Report.{refusal_text, journal-named}
 use Rattle.weekly.specs.Week.{first_of, after_journal}
 use Rattle.weekly.specs.Day.{days_of}
+use Rattle.weekly.specs.Says.{says_error, error-done}
+use Rattle.weekly.specs.declared.WeekError.{WeekError}
+use Rattle.weekly.specs.declared.WeekError.TheVariants as E
 use Rattle.weekly.specs.declared.Day.{Day}
 use Rattle.sheet.specs.Lines.{days_text, print_of, report_by, report_of}
 use Rattle.sheet.specs.Lengths.{made-short, seen-enough}
-use Rattle.sheet.specs.Says.{given_first}
-use Rattle.sheet.specs.Promises.{Holds, Reports}
-use Rattle.sheet.specs.declared.First.{First}
-use Rattle.sheet.specs.declared.Printout.{Printout}
-
--- a text put over nothing but 0
-pub holds-put : (text old : List ℕ) (r : Printout) → old ≡ replicate 140 0 → length text ≤ 140 → Puts old 0 text r.bytes r.len → Holds text r
-holds-put text old r z h p =
-    let n : length old ≡ 140 = ap length z ∙ length-replicate {A = ℕ} 140 0 in
-    let f = puts-fit (room-is old 0 text (omega arith)) p in
-    hands-over 140 text old r.bytes r.len z (f.1 ∙ omega arith) (f.0 ∙ sets_over old text (omega arith))
-
--- no refusal of a journal is a fault
-refusal-fault : {X Q : Type 0} {n : ℕ} {vs : List ℕ} (r : Refusal) → says_refusal {X = X} r ≡ fault n vs → Q
-refusal-fault (J.R10 n) e = fault-refused (sym e)
-refusal-fault (J.R11 n) e = fault-refused (sym e)
-refusal-fault (J.R12 n) e = fault-refused (sym e)
-refusal-fault J.R13 e = fault-refused (sym e)
+use Rattle.sheet.specs.Says.{given_first, error_text}
+use Rattle.report.specs.Promises.{Holds}
+use Rattle.sheet.specs.Promises.{Reports}
+use Rattle.report.specs.declared.Printout.{Printout}
 
 -- no week is refused with R8
 later : (s : List ℕ) (n k : ℕ) (vs : List ℕ) → after_journal s (first_of n) days_of ≡ refused k vs → R10 ≤ k
@@ -74,11 +57,11 @@ module _ (s : List ℕ) (n : ℕ) (old new : List ℕ) (z : old ≡ replicate 14
       pick-t (leb (length (days_text 0 ds)) (length old)) (done (days_text 0 ds)) (refused R8 []) (le-leb (length (days_text 0 ds)) (length old) (omega (arith, made-short s (first_of n) ds e)))
 
   -- the sheet stands there
-  pub text-holds : (len : ℕ) → Fills (done len) (print_of s n (length old)) old new → Holds (report_of (first_of n) s) (record { bytes = new; len = len })
+  pub text-holds : (len : ℕ) → Fills (done len) (print_of s n (length old)) old new → Holds {n = 140} (report_of (first_of n) s) (record { bytes = new; len = len })
   unfolding report_of report_by print_of on_done told leaves
   text-holds len f = go made refl
     where
-      go : (a : Answer (List Day)) → made ≡ a → Holds (report_by a) (record { bytes = new; len = len })
+      go : (a : Answer (List Day)) → made ≡ a → Holds {n = 140} (report_by a) (record { bytes = new; len = len })
       go (done ds) e =
           let p : printed made ≡ done (days_text 0 ds) = ap printed e ∙ room ds e in
           let says : done len ≡ done (length (days_text 0 ds)) = f.says ∙ ap (told length) p in
@@ -100,41 +83,26 @@ module _ (s : List ℕ) (n : ℕ) (old new : List ℕ) (z : old ≡ replicate 14
           absurd (omega (arith, later s n k vs e))
       go (fault k vs) e = fault-refused (sym (f.says ∙ ap (λ (a : Answer (List Day)). told length (printed a)) e))
 
-  -- the journal is refused, and the report is the refusal's line
-  pub refused-line : (r : Refusal) → Fills (says_refusal r) (print_of s n (length old)) old new → refusal_of r ≡ report_of (first_of n) s
-  unfolding report_of report_by print_of on_done told
-  refused-line r f = go made refl
+  -- there is no week, and the report is the line of why
+  pub error-line : (x : WeekError) → Fills (says_error x) (print_of s n (length old)) old new → error_text x ≡ report_of (first_of n) s
+  unfolding report_of report_by print_of on_done told error_text
+  error-line x f = go made refl
     where
-      line : refusal_of r ≡ report_by (says_refusal r)
-      line = let x = refusal-names r in sym (ap report_by x.1 ∙ ap (λ (k : ℕ). refusal_text (names_of r).number k) x.2)
+      line : (x : WeekError) → error_text x ≡ report_by (says_error x)
+      line (E.Refused r) = let y = refusal-names r in sym (ap report_by y.1 ∙ ap (λ (k : ℕ). refusal_text (names_of r).number k) y.2)
+      line E.R21 = refl
 
-      go : (a : Answer (List Day)) → made ≡ a → refusal_of r ≡ report_by a
-      go (done ds) e = refusal-done r (f.says ∙ ap (told length) (ap printed e ∙ room ds e))
-      go (refused k vs) e = line ∙ ap report_by (refusal-told (λ (m : ℕ). []) r ∙ ap (told (λ (m : ℕ). [])) (f.says ∙ ap (λ (a : Answer (List Day)). told length (printed a)) e))
-      go (fault k vs) e = refusal-fault r (f.says ∙ ap (λ (a : Answer (List Day)). told length (printed a)) e)
+      same-error : (x : WeekError) → says_error {X = List Day} x ≡ told (λ (m : ℕ). []) (says_error {X = ℕ} x)
+      same-error (E.Refused r) = refusal-told (λ (m : ℕ). []) r
+      same-error E.R21 = refl
 
-  -- the first hour is none, and the report is the line of R21
-  pub late-line : Fills (refused R21 []) (print_of s n (length old)) old new → refusal_text 21 0 ≡ report_of (first_of n) s
-  unfolding report_of report_by print_of on_done told
-  late-line f = go made refl
-    where
-      go : (a : Answer (List Day)) → made ≡ a → refusal_text 21 0 ≡ report_by a
-      go (done ds) e = refused-done (f.says ∙ ap (told length) (ap printed e ∙ room ds e))
-      go (refused k vs) e =
-          let q : ◌≡◌ {A = Answer (List Day)} (refused R21 []) (refused k vs) = ap (told (λ (m : ℕ). [])) (f.says ∙ ap (λ (a : Answer (List Day)). told length (printed a)) e) in
-          ap report_by q
-      go (fault k vs) e = fault-refused (sym (f.says ∙ ap (λ (a : Answer (List Day)). told length (printed a)) e))
-
--- no more bytes are looked at than were asked for
-pub seen-is : (bytes : List ℕ) (n k : ℕ) → length bytes ≡ 65537 → k ≡ min n 65537 → take k bytes ≡ take n bytes
-seen-is bytes n k size e =
-    elim (dec_lt n 65537) [
-      | yes h ↦ let f : k ≡ n = omega arith in ap (λ (j : ℕ). take j bytes) f
-      | no h ↦ take_all k bytes (omega arith) ∙ sym (take_all n bytes (omega arith))
-    ]
+      go : (a : Answer (List Day)) → made ≡ a → error_text x ≡ report_by a
+      go (done ds) e = error-done x (f.says ∙ ap (told length) (ap printed e ∙ room ds e))
+      go (refused k vs) e = line x ∙ ap report_by (same-error x ∙ ap (told (λ (m : ℕ). [])) (f.says ∙ ap (λ (a : Answer (List Day)). told length (printed a)) e))
+      go (fault k vs) e = line x ∙ ap report_by (same-error x ∙ ap (told (λ (m : ℕ). [])) (f.says ∙ ap (λ (a : Answer (List Day)). told length (printed a)) e))
 
 -- 65,537 bytes were asked for, so it is the report of the journal that was read
-pub reports : (first : First) (bytes seen : List ℕ) (n m : ℕ) (r : Printout) → length bytes ≡ 65537 → seen ≡ take n bytes → first_of m ≡ given_first first → Holds (report_of (first_of m) seen) r → Reports first bytes n r
+pub reports : (first : Option ℕ) (bytes seen : List ℕ) (n m : ℕ) (r : Printout 140) → length bytes ≡ 65537 → seen ≡ take n bytes → first_of m ≡ given_first first → Holds (report_of (first_of m) seen) r → Reports first bytes n r
 unfolding report_of
 reports first bytes seen n m r size e f h =
     let g : Holds (report_of (given_first first) seen) r = subst (λ (a : Answer ℕ). Holds (report_of a seen) r) f h in

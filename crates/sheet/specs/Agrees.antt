@@ -1,6 +1,7 @@
 -- The week agrees with the hour program, hour by hour. Assumes nothing.
-use Rattle.std.specs.Prelude.{◌≡◌, Bool, true, false, ◌⊎◌, ℕ, ◌+◌, ◌*◌, ◌<◌, leb, get_or}
-use Rattle.std.proofs.Common.{sym, ap, ◌∙◌, inl, inr}
+use Rattle.std.specs.Result.{is_ok}
+use Rattle.std.specs.Prelude.{◌≡◌, Bool, true, false, ◌⊎◌, ℕ, ◌+◌, ◌*◌, ◌<◌, leb, get_or, Result, Ok, Err}
+use Rattle.std.proofs.Common.{sym, ap, ◌∙◌, inl, inr, true≢false}
 use mathlib.Core.List.Memᴰ
 use mathlib.Core.List.{List, [], ◌∷◌, map, Memᴰ}
 use Rattle.laws.specs.Pick.{pick}
@@ -10,16 +11,15 @@ use Rattle.paper.specs.Numbers.{R21}
 use Rattle.journal.specs.Journal.{journal_of, first_hour, last_hour}
 use Rattle.journal.specs.declared.Line.{Line}
 use Rattle.hourly.specs.declared.Products.TheVariants.{All}
+use Rattle.hourly.specs.declared.Hour.{Hour}
 use Rattle.hourly.specs.Hours.{HourAnswer, missing, amounts_at, hour_of}
 use Rattle.hourly.specs.Text.{HourRow, row_from, row_of, span_of, rows_of}
 use Rattle.hourly.specs.Accepted.{Accepted}
 use Rattle.hourly.specs.Bounds.{outside-missing, empty-missing}
 use Rattle.weekly.specs.Week.{day_by, week_by, week_of, first_of, after_journal}
-use Rattle.weekly.specs.Says.{says_said, says_hours, hours_in}
+use Rattle.weekly.specs.Says.{says_hours, hours_in}
 use Rattle.weekly.specs.Promises.{MakesWeek}
-use Rattle.weekly.specs.declared.Said.{Said}
-use Rattle.weekly.specs.declared.Said.TheVariants as S
-use Rattle.weekly.specs.declared.Weekly.{Weekly}
+use Rattle.weekly.specs.declared.WeekError.{WeekError}
 use Rattle.weekly.specs.Lists.{list_at}
 
 -- hour k of day d of a week
@@ -60,18 +60,17 @@ empty first d k h b = week-hour [] first d k h b ∙ empty-missing All (first + 
 -- ---- joined: an answer of `week_of` and the rows of the hour program
 
 -- the hours of a week that was made are those of the journal's lines
-pub made-hours : (s : List ℕ) (first : ℕ) (r : Weekly) (ls : List Line) → MakesWeek s first r → journal_of s ≡ done ls → r.said ≡ S.Made → says_hours (hours_in r) ≡ week_of ls first
-unfolding after_journal on_done told first_of pick
-made-hours s first r ls m j e =
-    go (leb first 9999832)
-    (sym (ap (λ (x : Said). says_said x (says_hours (hours_in r))) e) ∙ m.says ∙ ap (λ (a : Answer (List Line)). on_done a (λ l. told (week_of l) (first_of first))) j)
+pub made-hours : (s : List ℕ) (first : ℕ) (r : Result (List (List Hour)) WeekError) (ls : List Line) → MakesWeek s first r → journal_of s ≡ done ls → is_ok r ≡ true → says_hours (hours_in r) ≡ week_of ls first
+unfolding after_journal on_done told first_of pick hours_in
+made-hours s first (Ok week) ls m j e = go (leb first 9999832) (m ∙ ap (λ (a : Answer (List Line)). on_done a (λ l. told (week_of l) (first_of first))) j)
   where
-    go : (b : Bool) → done (says_hours (hours_in r)) ≡ told (week_of ls) (pick b (done first) (refused R21 [])) → says_hours (hours_in r) ≡ week_of ls first
+    go : (b : Bool) → done (says_hours week) ≡ told (week_of ls) (pick b (done first) (refused R21 [])) → says_hours week ≡ week_of ls first
     go true q = cc
     go false q = refused-done (sym q)
+made-hours s first (Err x) ls m j e = absurd (true≢false (sym e))
 
 -- so the hours that the one call hands over and the rows that the other prints agree
-pub calls-agree : (s : List ℕ) (first : ℕ) (r : Weekly) (ls : List Line) (d k : ℕ) (p : HourRow) → MakesWeek s first r → journal_of s ≡ done ls → r.said ≡ S.Made → d < 7 → k < 24 → Memᴰ p (rows_of All ls) → p.hour ≡ first + 24 * d + k
+pub calls-agree : (s : List ℕ) (first : ℕ) (r : Result (List (List Hour)) WeekError) (ls : List Line) (d k : ℕ) (p : HourRow) → MakesWeek s first r → journal_of s ≡ done ls → is_ok r ≡ true → d < 7 → k < 24 → Memᴰ p (rows_of All ls) → p.hour ≡ first + 24 * d + k
     → p.row ≡ row_from (hour_at (says_hours (hours_in r)) d k) (amounts_at All p.hour ls)
 calls-agree s first r ls d k p m j e h b i q =
     agrees ls first d k p h b i q

@@ -1,51 +1,44 @@
 // What the week program prints for a journal and a first hour.
 #![tactic(auto)]
 
-ghost use Rattle.std.specs.Prelude.{◌≡◌, [], ◌+◌, ◌≤◌, min, length, replicate};
+ghost use Rattle.std.specs.Prelude.{◌≡◌, [], ◌+◌, ◌≤◌, length};
 ghost use Rattle.std.proofs.lemmas.List.Edits.{sets};
 ghost use Rattle.paper.specs.Answer.{in_room, Fills};
 ghost use Rattle.text.specs.Put.{Puts};
-ghost use Rattle.report.specs.Report.{refusal_text, refusal_of};
+ghost use Rattle.report.specs.Promises.{Holds};
 ghost use Rattle.weekly.specs.Week.{first_of};
+ghost use Rattle.sheet.specs.declared.PrintError.TheVariants.{Week};
 ghost use Rattle.sheet.specs.Lines.{letter_of, day_text, days_text};
-ghost use Rattle.sheet.specs.Says.{says_printed, given_first};
+ghost use Rattle.sheet.specs.Says.{says_printed, given_first, error_text};
 ghost use Rattle.sheet.specs.Counted.{CountsDay};
-ghost use Rattle.sheet.specs.Promises.{PrintsSheet, ReadsFirst, Holds, Reports};
+ghost use Rattle.sheet.specs.Promises.{PrintsSheet, ReadsFirst, Reports};
 
-use journal::Refusal;
-use text::{LF, Num, TAB};
-use weekly::{Day, Kind, Said};
+use report::Printout;
+use text::{LF, TAB};
+use weekly::{Day, Kind, WeekError};
 
-// What printing a week answers: the length of its text, the journal's refusal, a first hour above the greatest, or that the buffer is too short.
-#[derive(Clone, Copy)]
-pub enum Printed {
-    Text(usize),
-    Refused(Refusal),
-    R21,
+// Why no week is printed: there is none, or the buffer is too short.
+#[derive(Clone, Copy, Debug, PartialEq, Eq)]
+pub enum PrintError {
+    Week(WeekError),
     R8,
 }
 
-// The first hour of a line, or that it has none.
-#[derive(Clone, Copy)]
-pub enum First {
-    Hour(u32),
-    R21,
+impl From<WeekError> for PrintError {
+    ghost from_gives = { λ e r. r ≡ Week e };
+
+    fn from(error: WeekError) -> PrintError {
+        PrintError::Week(error)
+    }
 }
 
 // So many bytes hold the report of any week.
 pub const ENOUGH: usize = 140;
 
-// A report: its bytes, how many they are, and 0 behind them.
-#[derive(Clone, Copy)]
-pub struct Printout {
-    pub bytes: [u8; ENOUGH],
-    pub len: usize,
-}
-
 // A number that is no first hour.
 const TOO_LATE: u32 = weekly::LATEST + 1;
 
-// W, I or X.
+// W, I or X; a function, since `impl From<Kind> for u8` could stand in weekly alone, which prints nothing.
 fn letter_of(kind: Kind) -> u8
     ensures { result ≡ letter_of kind }
 {
@@ -68,11 +61,9 @@ fn put_day(out: &mut [u8], at: usize, d: u64, day: Day) -> usize
     requires { at + length (day_text d day) ≤ length out.old }
     ensures { Puts out.old at (day_text d day) out.new result }
 {
-    let kind = day.kind;
-    let letter = letter_of(kind);
     let mut p = text::put_decimal(out, at, d);
     p = text::put_byte(out, p, TAB);
-    p = text::put_byte(out, p, letter);
+    p = text::put_byte(out, p, letter_of(day.kind));
     p = text::put_byte(out, p, TAB);
     p = text::put_decimal(out, p, day.covered as u64);
     p = text::put_byte(out, p, TAB);
@@ -84,12 +75,9 @@ fn put_day(out: &mut [u8], at: usize, d: u64, day: Day) -> usize
 fn text_len(days: [Day; 7]) -> usize
     ensures { result ≡ length (days_text 0 days) }
 {
-    let mut n: usize = 0;
-    let mut k: usize = 0;
-    while k < 7 {
-        let day = days[k];
-        n += day_len(k as u64, day);
-        k += 1;
+    let mut n = 0;
+    for (d, day) in days.iter().enumerate() {
+        n += day_len(d as u64, *day);
     }
     n
 }
@@ -99,111 +87,70 @@ fn put_days(out: &mut [u8], days: [Day; 7])
     requires { length (days_text 0 days) ≤ length out.old }
     ensures { out.new ≡ sets out.old 0 (days_text 0 days) }
 {
-    let mut at: usize = 0;
-    let mut k: usize = 0;
-    while k < 7 {
-        let day = days[k];
-        at = put_day(out, at, k as u64, day);
-        k += 1;
+    let mut at = 0;
+    for (d, day) in days.iter().enumerate() {
+        at = put_day(out, at, d as u64, *day);
     }
 }
 
 // The lines of seven days, if they have room.
-fn print_days(days: [Day; 7], out: &mut [u8]) -> Printed
+fn print_days(days: [Day; 7], out: &mut [u8]) -> Result<usize, PrintError>
     ensures { Fills (says_printed result) (in_room [] (length out.old) (days_text 0 days)) out.old out.new }
 {
     let n = text_len(days);
     if out.len() < n {
-        return Printed::R8;
+        return Err(PrintError::R8);
     }
     put_days(out, days);
-    Printed::Text(n)
+    Ok(n)
 }
 
 // The sheet of a journal's week from a first hour on, from the buffer's start, or a refusal that leaves the buffer as it was.
-pub fn print(bytes: &[u8], first: u32, out: &mut [u8]) -> Printed
+pub fn print(bytes: &[u8], first: u32, out: &mut [u8]) -> Result<usize, PrintError>
     ensures { PrintsSheet bytes.now first result out.old out.new }
 {
-    let made = weekly::days_of(bytes, first);
-    let days = made.days;
-    let said = made.said;
-    match said {
-        Said::Made => print_days(days, out),
-        Said::Refused(refusal) => Printed::Refused(refusal),
-        Said::R21 => Printed::R21,
-    }
+    let days = weekly::days_of(bytes, first)?;
+    print_days(days, out)
 }
 
 // The first hour alone on a line, whose LF is left out.
-pub fn first_line(line: &[u8]) -> First
+pub fn first_line(line: &[u8]) -> Option<u32>
     ensures { ReadsFirst line.now result }
 {
-    let Num::Good(hour, next) = text::number_at(line, 0, weekly::LATEST) else {
-        return First::R21;
-    };
+    let (hour, next) = text::number_at(line, 0, weekly::LATEST)?;
     if next < line.len() {
-        return First::R21;
+        return None;
     }
-    First::Hour(hour)
+    Some(hour)
 }
 
 // The first hour as a number: one that is too late where the line had none.
-fn number_in(first: First) -> u32
+fn number_in(first: Option<u32>) -> u32
     ensures { first_of result ≡ given_first first }
 {
-    match first {
-        First::Hour(hour) => hour,
-        First::R21 => TOO_LATE,
+    first.unwrap_or(TOO_LATE)
+}
+
+// The one line of why there is no week.
+fn error_report(error: WeekError) -> Printout<ENOUGH>
+    ensures { Holds (error_text error) result }
+{
+    match error {
+        WeekError::Refused(refusal) => report::refusal_report(refusal),
+        WeekError::R21 => report::refusal_line(21, 0),
     }
-}
-
-// Nothing but 0.
-fn no_bytes() -> [u8; ENOUGH]
-    ensures { result ≡ replicate 140 0 }
-{
-    [0u8; ENOUGH]
-}
-
-// The one line of a refusal.
-fn line_report(number: u64, line: u64) -> Printout
-    ensures { Holds (refusal_text number line) result }
-{
-    let mut out = no_bytes();
-    let len = report::put_refused(&mut out, number, line);
-    Printout { bytes: out, len }
-}
-
-// The one line of a journal's refusal.
-fn refusal_report(refusal: Refusal) -> Printout
-    ensures { Holds (refusal_of refusal) result }
-{
-    let named = journal::number_and_line(refusal);
-    line_report(named.number, named.line)
-}
-
-// The smaller of two numbers.
-fn smaller(a: usize, b: usize) -> usize
-    ensures { result ≡ min a b }
-{
-    if a < b {
-        return a;
-    }
-    b
 }
 
 // What the week program prints for a first hour and a journal, which the first n of the bytes read are: its sheet, or the line of a refusal.
-pub fn report(first: First, bytes: &[u8; journal::READ], n: usize) -> Printout
+pub fn report(first: Option<u32>, bytes: &[u8; journal::READ], n: usize) -> Printout<ENOUGH>
     ensures { Reports first bytes.now n result }
 {
     let hour = number_in(first);
-    let mut out = no_bytes();
-    let size = smaller(n, journal::READ);
-    let all: &[u8] = bytes;
-    let printed = print(&all[..size], hour, &mut out);
-    match printed {
-        Printed::Text(len) => Printout { bytes: out, len },
-        Printed::Refused(refusal) => refusal_report(refusal),
-        Printed::R21 => line_report(21, 0),
-        Printed::R8 => Printout { bytes: out, len: 0 },
+    let mut out = [0u8; ENOUGH];
+    let size = n.min(journal::READ);
+    match print(&bytes[..size], hour, &mut out) {
+        Ok(len) => Printout { bytes: out, len },
+        Err(PrintError::Week(error)) => error_report(error),
+        Err(PrintError::R8) => Printout { bytes: out, len: 0 },
     }
 }

@@ -1,5 +1,5 @@
 -- Each weight is exactly the whole number as an f32 and comes back from its two words; 0 is all bits 0. Assumes nothing.
-use Rattle.std.specs.Prelude.{◌≡◌, refl, Bool, true, false, not, ℕ, suc, ◌^◌, ◌<◌, T, ℤ, pos, negsuc, nat_abs, Float}
+use Rattle.std.specs.Prelude.{◌≡◌, refl, Bool, true, false, not, ℕ, suc, ◌^◌, ◌<◌, T, ℤ, pos, negsuc, nat_abs, Float, Some, None}
 use Rattle.std.proofs.Common.{sym, ap, ◌∙◌, div-add-mod', arith, le→leb, lt→ltb, le-leb}
 use Rattle.std.specs.Float.{nan, inf, fin, binary32}
 use Rattle.std.specs.Float.Ieee.{of_int, to_bits, of_bits, to_signed, in_float, in_signed, is_nan}
@@ -10,7 +10,6 @@ use Rattle.std.specs.Float.Ieee.Back.{round_whole, positive_back, negative_back}
 use Rattle.std.proofs.lemmas.Bool.{lt-leb}
 use Rattle.laws.specs.Pick.{pick-t, pick-f}
 use Rattle.single.specs.Single.{most, InRange, single_of, bits_of, words_of, registers_of, weight_in}
-use Rattle.single.specs.declared.Single.TheVariants as S
 
 -- the sign of a whole number: true where it is below 0
 abbrev pub is_neg : ℤ → Bool
@@ -80,18 +79,18 @@ examples = (refl, refl, refl, refl)
 
 -- ---- what the call answers
 
-pub inside : (w : ℤ) → InRange w → registers_of w ≡ S.Words (words_of w)
+pub inside : (w : ℤ) → InRange w → registers_of w ≡ Some (words_of w)
 unfolding registers_of
 inside w h = pick-t _ _ _ (le-leb (nat_abs w) most h)
 
-pub outside : (w : ℤ) → most < nat_abs w → registers_of w ≡ S.Outside
+pub outside : (w : ℤ) → most < nat_abs w → registers_of w ≡ None
 unfolding registers_of
 outside w h = pick-f _ _ _ (lt-leb (nat_abs w) most h)
 
 -- no weight within the range is answered as outside
-pub never-outside : {Q : Type 0} (w : ℤ) → InRange w → S.Outside ≡ registers_of w → Q
+pub never-outside : {Q : Type 0} (w : ℤ) → InRange w → None ≡ registers_of w → Q
 never-outside w h e =
-    let o : S.Outside ≡ S.Words (words_of w) = e ∙ inside w h in
+    let o : None ≡ Some (words_of w) = e ∙ inside w h in
     let z : ◌≡◌ {A = ℕ} 0 1 = cc in
     let f : ⊥ = omega arith in
     absurd f

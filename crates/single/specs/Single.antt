@@ -1,12 +1,10 @@
 -- A weight as an IEEE single (binary32) in two registers (document 02, W2). Assumes nothing.
-use Rattle.std.specs.Prelude.{◌≡◌, ℕ, ◌+◌, ◌*◌, ◌/◌, ◌%◌, ◌≤◌, leb, ℤ, nat_abs, Float}
+use Rattle.std.specs.Prelude.{◌≡◌, ℕ, ◌+◌, ◌*◌, ◌/◌, ◌%◌, ◌≤◌, leb, ℤ, nat_abs, Float, Option, Some, None}
 use Rattle.std.specs.Float.{binary32}
 use Rattle.std.specs.Float.Ieee.{of_int, to_bits, of_bits, to_signed}
 use Rattle.laws.specs.Pick.{pick}
 use Rattle.paper.specs.Answer.{same}
 use Rattle.single.specs.declared.Words.{Words}
-use Rattle.single.specs.declared.Single.{Single}
-use Rattle.single.specs.declared.Single.TheVariants as S
 
 -- weights stay within 924,998
 abbrev pub most : ℕ
@@ -27,8 +25,8 @@ unfoldable pub words_of : ℤ → Words
 words_of w = record { high = bits_of w / 65536; low = bits_of w % 65536 }
 
 -- of any whole number: its words, or that it is no weight within the range
-unfoldable pub registers_of : ℤ → Single
-registers_of w = pick (leb (nat_abs w) most) (S.Words (words_of w)) S.Outside
+unfoldable pub registers_of : ℤ → Option Words
+registers_of w = pick (leb (nat_abs w) most) (Some (words_of w)) None
 
 -- what a reader of two registers takes for the weight: the f32 of those bits, as a whole number
 unfoldable pub weight_in : Words → ℤ
@@ -36,9 +34,9 @@ weight_in r = to_signed 31 (of_bits binary32 (r.high * 65536 + r.low))
 
 -- ---- the contract
 
-abbrev pub Gives : ℤ → Single → Type 0
+abbrev pub Gives : ℤ → Option Words → Type 0
 Gives w r = r ≡ registers_of w
 
 -- two results that both meet the call's contract are equal
-pub words-determined : (w : ℤ) (a b : Single) → Gives w a → Gives w b → a ≡ b
+pub words-determined : (w : ℤ) (a b : Option Words) → Gives w a → Gives w b → a ≡ b
 words-determined w a b p q = same p q

@@ -1,23 +1,22 @@
 -- What a frame makes of the box, and what is printed for it. Assumes nothing.
-use Rattle.std.specs.Prelude.{◌≡◌, refl, List, ℕ, ◌≤◌, length, take, drop}
+use Rattle.std.specs.Prelude.{◌≡◌, refl, List, ℕ, ◌≤◌, length, take, drop, Result, Ok, Err}
 use Rattle.std.proofs.Common.{sym, ap, ap₂, ◌∙◌, arith, length-append, take_at}
 use Rattle.laws.specs.Over.{over}
 use Rattle.paper.specs.Answer.{Answer, done, refused, fault, told, leaves, bytes_in, same}
 use Rattle.paper.specs.AnswerLaws.{refused-done, fault-done, done_refused}
 use Rattle.controller.specs.declared.Controller.{Controller}
 use Rattle.panel.specs.declared.Polled.{Polled}
-use Rattle.panel.specs.declared.PollAnswer.{PollAnswer}
-use Rattle.panel.specs.declared.PollAnswer.TheVariants as M
+use Rattle.panel.specs.declared.PollError.{PollError}
+use Rattle.panel.specs.declared.PollError.TheVariants as M
 use Rattle.panel.specs.Modbus.{modbus_of}
 use Rattle.panel.specs.Says.{says_poll, Polls}
 use Rattle.controller.specs.Sound.{Sound}
 use Rattle.slave.specs.declared.Replied.{Replied}
 
 -- how many bytes an answer has: none where the frame is silent
-unfoldable pub len_of : PollAnswer → ℕ
-len_of (M.Sent len) = len
-len_of M.R17 = 0
-len_of M.R8 = 0
+unfoldable pub len_of : Result ℕ PollError → ℕ
+len_of (Ok len) = len
+len_of (Err error) = 0
 
 -- the controller after a frame is the one of the rule, with so much room for a reply
 pub record Serves (c : Controller) (frame : List ℕ) (room : ℕ) (d : Controller) : Type 0 where
@@ -31,17 +30,17 @@ pub record Replies (c : Controller) (frame old new : List ℕ) (r : Replied) : T
   pub within : r.len ≤ length new
 
 -- what the box left in the buffer begins with the bytes of the reply, so many as its answer says
-pub printed : (a : PollAnswer) (rule : Answer (List ℕ)) (old : List ℕ) → says_poll a ≡ told length rule → (take (len_of a) (leaves rule old) ≡ bytes_in rule) × (len_of a ≤ length (leaves rule old))
+pub printed : (a : Result ℕ PollError) (rule : Answer (List ℕ)) (old : List ℕ) → says_poll a ≡ told length rule → (take (len_of a) (leaves rule old) ≡ bytes_in rule) × (len_of a ≤ length (leaves rule old))
 unfolding len_of told leaves over bytes_in
-printed (M.Sent n) (done bytes) old e = let p : n ≡ length bytes = cc in (take_at bytes (drop (length bytes) old) n (sym p), omega (arith, length-append bytes (drop (length bytes) old)))
-printed (M.Sent n) (refused m vs) old e = done_refused e
-printed (M.Sent n) (fault m vs) old e = fault-done (sym e)
-printed M.R17 (done bytes) old e = refused-done e
-printed M.R17 (refused m vs) old e = (refl, omega arith)
-printed M.R17 (fault m vs) old e = (refl, omega arith)
-printed M.R8 (done bytes) old e = refused-done e
-printed M.R8 (refused m vs) old e = (refl, omega arith)
-printed M.R8 (fault m vs) old e = (refl, omega arith)
+printed (Ok n) (done bytes) old e = let p : n ≡ length bytes = cc in (take_at bytes (drop (length bytes) old) n (sym p), omega (arith, length-append bytes (drop (length bytes) old)))
+printed (Ok n) (refused m vs) old e = done_refused e
+printed (Ok n) (fault m vs) old e = fault-done (sym e)
+printed (Err M.R17) (done bytes) old e = refused-done e
+printed (Err M.R17) (refused m vs) old e = (refl, omega arith)
+printed (Err M.R17) (fault m vs) old e = (refl, omega arith)
+printed (Err M.R8) (done bytes) old e = refused-done e
+printed (Err M.R8) (refused m vs) old e = (refl, omega arith)
+printed (Err M.R8) (fault m vs) old e = (refl, omega arith)
 
 -- so a call of the box gives what is printed
 pub replies : {c : Controller} {frame old new : List ℕ} {len : ℕ} (r : Polled) → Polls c frame old new r → len ≡ len_of r.answer → Replies c frame old new (record { next = r.next; len = len })

@@ -7,7 +7,7 @@ ghost use Rattle.slave.specs.Serves.{len_of, Replies, Serves};
 
 use controller::Controller;
 use lines::Intake;
-use panel::PollAnswer;
+use panel::PollError;
 use preset::Brought;
 use std::io::Read;
 use std::rt::Stdin;
@@ -41,31 +41,23 @@ fn set_up(stdin: Stdin, input: &mut [u8]) -> Brought
     ensures { Sound result.controller }
 {
     let mut brought = at_start();
-    let mut reads: u64 = MANY;
-    while 0 < reads {
-        let refilled = refill::refill(stdin, brought.intake, input);
-        if !refilled.more {
+    for _ in 0..MANY {
+        let Some(intake) = refill::refill(stdin, brought.intake, input) else {
             return brought;
-        }
-        let intake = refilled.intake;
+        };
         brought = preset::bring(brought.controller, intake, input);
         if brought.open {
             return brought;
         }
-        reads -= 1;
     }
     brought
 }
 
 // How many bytes a reply has: none where the frame is silent.
-fn len_of(answer: PollAnswer) -> usize
+fn len_of(answer: Result<usize, PollError>) -> usize
     ensures { result ≡ len_of answer }
 {
-    match answer {
-        PollAnswer::Sent(len) => len,
-        PollAnswer::R17 => 0,
-        PollAnswer::R8 => 0,
-    }
+    answer.unwrap_or(0)
 }
 
 // The reply to a frame, at the buffer's start.
@@ -74,11 +66,9 @@ fn reply_to(c: Controller, frame: &[u8], reply: &mut [u8]) -> Replied
     ensures { Replies c frame.now reply.old reply.new result }
 {
     let polled = panel::poll(c, frame, reply);
-    let next = polled.next;
-    let answer = polled.answer;
     Replied {
-        next,
-        len: len_of(answer),
+        next: polled.next,
+        len: len_of(polled.answer),
     }
 }
 
@@ -96,10 +86,8 @@ fn serve(c: Controller, frame: &[u8]) -> Controller
 {
     let mut reply = no_frame();
     let replied = reply_to(c, frame, &mut reply);
-    let next = replied.next;
-    let len = replied.len;
-    io::write_all(STDOUT_FILENO, &reply[..len]);
-    next
+    io::write_all(STDOUT_FILENO, &reply[..replied.len]);
+    replied.next
 }
 
 // Serves frame after frame to the end of the input.
@@ -107,17 +95,14 @@ fn serve_frames(mut stdin: Stdin, mut c: Controller)
     requires { Sound c }
 {
     let mut frame = no_frame();
-    let mut reads: u64 = MANY;
-    while 0 < reads {
-        let read = stdin.read(&mut frame);
-        let Ok(n) = read else {
+    for _ in 0..MANY {
+        let Ok(n) = stdin.read(&mut frame) else {
             return;
         };
         if n == 0 {
             return;
         }
         c = serve(c, &frame[..n]);
-        reads -= 1;
     }
 }
 

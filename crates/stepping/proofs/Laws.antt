@@ -22,19 +22,19 @@ use Rattle.stepping.specs.declared.Sampled.{Sampled}
 use Rattle.stepping.specs.declared.Stepped.{Stepped}
 
 -- the phases that are not Ready
-pub not-ready : (p : Phase) → p ≢ Ready → false ≡ at_ready p
+pub not_ready : (p : Phase) → p ≢ Ready → false ≡ at_ready p
 unfolding at_ready
-not-ready Ready h = absurd (h refl)
-not-ready (Coarse w0) h = refl
-not-ready (Fine w0) h = refl
-not-ready Hold h = refl
-not-ready (Settle w0 n) h = refl
-not-ready (Discharge w0 w_s settled) h = refl
-not-ready Load h = refl
-not-ready (Calm n) h = refl
-not-ready (DoseCoarse w_h) h = refl
-not-ready (DoseFine w_h) h = refl
-not-ready (DoseSettle w_h n) h = refl
+not_ready Ready h = absurd (h refl)
+not_ready (Coarse w0) h = refl
+not_ready (Fine w0) h = refl
+not_ready Hold h = refl
+not_ready (Settle w0 n) h = refl
+not_ready (Discharge w0 w_s settled) h = refl
+not_ready Load h = refl
+not_ready (Calm n) h = refl
+not_ready (DoseCoarse w_h) h = refl
+not_ready (DoseFine w_h) h = refl
+not_ready (DoseSettle w_h n) h = refl
 
 -- what the parts of steps 4 and 5 give
 pub samples-so : (set : Settings) (gates : Gates) (first : Bool) (samples : List ℤ) (held : ℕ) (previous : Units) (s : ℕ) {n calm : ℕ} {f : Units}

@@ -10,14 +10,14 @@ use dosing::{Dose, Gates, Phase, Units};
 use settings::Settings;
 
 // What steps 4 and 5 make of the samples held: F and S.
-#[derive(Clone, Copy)]
+#[derive(Clone, Copy, Debug, PartialEq, Eq)]
 pub struct Sampled {
     pub f: Units,
     pub s: u32,
 }
 
 // What steps 7 and 8 make of a tick.
-#[derive(Clone, Copy)]
+#[derive(Clone, Copy, Debug, PartialEq, Eq)]
 pub struct Stepped {
     pub phase: Phase,
     pub z: Units,
@@ -26,7 +26,7 @@ pub struct Stepped {
     pub alarm: bool,
     // The outputs, 1 to 4.
     pub outputs: u8,
-    pub dose: Dose,
+    pub dose: Option<Dose>,
     pub counters: Counters,
     // The tick began and ended in Ready with start off.
     pub unstarted: bool,
@@ -51,13 +51,11 @@ pub fn sample(
 }
 
 // The phase is Ready.
+#[tactic(auto, using(crate::proofs::Laws::not_ready), unfolding(crate::specs::Stepping::at_ready))]
 pub fn at_ready(phase: Phase) -> bool
     ensures { Rests phase result }
 {
-    match phase {
-        Phase::Ready => true,
-        _ => false,
-    }
+    matches!(phase, Phase::Ready)
 }
 
 // The tick began and ended in Ready with start off.
@@ -81,21 +79,16 @@ pub fn step(
     ensures { Steps set began f z s gates n start result }
 {
     let moved = dosing::step(set, began, scale::see(set, f, z, s, start));
-    let phase = moved.phase;
-    let zero = moved.z;
-    let opened = moved.gates;
-    let dose = moved.dose;
-    let unstarted = is_unstarted(began, start, phase);
-    let alarm = scale::over_capacity(set, f, zero);
+    let alarm = scale::over_capacity(set, f, moved.z);
     Stepped {
-        phase,
-        z: zero,
-        s: scale::calm_by_gates(gates, opened, s),
-        gates: opened,
+        phase: moved.phase,
+        z: moved.z,
+        s: scale::calm_by_gates(gates, moved.gates, s),
+        gates: moved.gates,
         alarm,
-        outputs: channels::outputs_of(opened, alarm),
-        dose,
-        counters: counters::counters_after(n, dose),
-        unstarted,
+        outputs: channels::outputs_of(moved.gates, alarm),
+        dose: moved.dose,
+        counters: counters::counters_after(n, moved.dose),
+        unstarted: is_unstarted(began, start, moved.phase),
     }
 }

@@ -1,9 +1,7 @@
 -- A number read at a place of some bytes, with a tab before it or without. Assumes nothing.
-use Rattle.std.specs.Prelude.{◌≡◌, Bool, List, [], ◌∷◌, ℕ, ◌≤◌, min, eqb, length, get_or, drop}
+use Rattle.std.specs.Prelude.{◌≡◌, Bool, Option, Some, None, List, [], ◌∷◌, ℕ, ◌≤◌, min, eqb, length, get_or, drop}
 use Rattle.laws.specs.Pick.{pick}
 use Rattle.laws.specs.Decimal.{Parsed, good, bad, is_digit, number_at}
-use Rattle.text.specs.declared.Num.{Num}
-use Rattle.text.specs.declared.Num.TheVariants.{Good, Bad}
 
 -- LF and the tab
 abbrev pub LF : ℕ
@@ -26,14 +24,18 @@ on_good bad next = bad
 unfoldable pub field_at : ℕ → List ℕ → Parsed ℕ
 field_at most l = expect TAB l (number_at most)
 
+-- a number that was read, its value and the place after it, or none
+abbrev pub Num : Type 0
+Num = Option (ℕ × ℕ)
+
 -- the value, and the bytes of s that follow it
 abbrev pub leads : List ℕ → Num → Parsed ℕ
-leads s (Good v next) = good v (drop next s)
-leads s Bad = bad
+leads s (Some (v, next)) = good v (drop next s)
+leads s None = bad
 
 abbrev pub place_after : Num → ℕ
-place_after (Good v next) = next
-place_after Bad = 0
+place_after (Some (v, next)) = next
+place_after None = 0
 
 -- a reader that answers what a rule reads somewhere in s, by a place of s
 pub record Scans (s : List ℕ) (rule : Parsed ℕ) (r : Num) : Type 0 where

@@ -1,14 +1,12 @@
 -- What stands at a place of some bytes, what a definition reads there, and that a reader's answer is determined. Assumes nothing.
-use Rattle.std.specs.Prelude.{◌≡◌, refl, Bool, List, [], ◌∷◌, ℕ, ◌+◌, ◌≤◌, ◌<◌, length, get_or, drop}
+use Rattle.std.specs.Prelude.{◌≡◌, Some, None, refl, Bool, List, [], ◌∷◌, ℕ, ◌+◌, ◌≤◌, ◌<◌, length, get_or, drop}
 use Rattle.std.proofs.Common.{sym, ap, ◌∙◌, arith, add-one, length-drop, drop_of_length-le, drop-cons, eq-eqb, ne_eqb}
 use Rattle.std.proofs.Math.Decide.{dec_lt}
 use Rattle.std.proofs.Math.ListN.{get_or-eq_default}
 use Rattle.laws.specs.Pick.{pick-t, pick-f}
 use Rattle.laws.specs.Decimal.{Parsed, good, bad}
 use Rattle.paper.specs.Answer.{same}
-use Rattle.text.specs.Scan.{expect, leads, place_after, Scans, IsLeast, StandsAt, TellsDigit, ReadsNumber, ReadsField}
-use Rattle.text.specs.declared.Num.{Num}
-use Rattle.text.specs.declared.Num.TheVariants.{Good, Bad}
+use Rattle.text.specs.Scan.{Num, expect, leads, place_after, Scans, IsLeast, StandsAt, TellsDigit, ReadsNumber, ReadsField}
 
 -- only a byte can be other than 0
 pub byte_inside : (s : List ℕ) (at : ℕ) → 0 < get_or s at 0 → at < length s
@@ -58,10 +56,10 @@ pub scans-determined : {s : List ℕ} {rule : Parsed ℕ} {a b : Num} → Scans 
 scans-determined {s} {rule} {a} {b} p q = go a b (sym p.reads ∙ q.reads) p.inside q.inside
   where
     go : (a b : Num) → leads s a ≡ leads s b → place_after a ≤ length s → place_after b ≤ length s → a ≡ b
-    go (Good v m) (Good w n) e h k = let o = good-one s m n e h k in rw (o.0, o.1)
-    go (Good v m) Bad e h k = bad-good (sym e)
-    go Bad (Good w n) e h k = bad-good e
-    go Bad Bad e h k = refl
+    go (Some (v, m)) (Some (w, n)) e h k = let o = good-one s m n e h k in rw (o.0, o.1)
+    go (Some (v, m)) None e h k = bad-good (sym e)
+    go None (Some (w, n)) e h k = bad-good e
+    go None None e h k = refl
 
 pub number-determined : (s : List ℕ) (at most : ℕ) {a b : Num} → ReadsNumber s at most a → ReadsNumber s at most b → a ≡ b
 number-determined s at most p q = scans-determined p q

@@ -7,13 +7,6 @@ ghost use Rattle.laws.specs.Decimal.{glyph, decimal, hex_of};
 ghost use Rattle.text.specs.Put.{CountsDigits, PutsDecimal, PutsHex, PutsByte};
 ghost use Rattle.text.specs.Scan.{IsLeast, StandsAt, TellsDigit, ReadsNumber, ReadsField};
 
-// A number read at a place: its value and the place after it, or none.
-#[derive(Clone, Copy)]
-pub enum Num {
-    Good(u32, usize),
-    Bad,
-}
-
 // Fields are parted by tabs, each line ends in LF.
 pub const TAB: u8 = 9;
 
@@ -23,17 +16,14 @@ pub const LF: u8 = 10;
 fn has_room(len: usize, at: usize, k: usize) -> bool
     ensures { result ≡ leb (at + k) len }
 {
-    if len < at {
-        return false;
-    }
-    k <= len - at
+    at <= len && k <= len - at
 }
 
 // The smaller of two.
 pub fn least(a: usize, b: usize) -> usize
     ensures { IsLeast a b result }
 {
-    if a < b { a } else { b }
+    a.min(b)
 }
 
 // How many decimal digits n has.
@@ -43,7 +33,7 @@ pub fn decimal_len(n: u64) -> usize
     let mut v = n;
     let mut k: usize = 1;
     while 10 <= v {
-        v = v / 10;
+        v /= 10;
         k += 1;
     }
     k
@@ -56,13 +46,10 @@ fn store_decimal(out: &mut [u8], at: usize, k: usize, n: u64)
     ensures { out.new ≡ sets out.old at (decimal n) }
 {
     let mut v = n;
-    let mut p = at + k - 1;
-    while 10 <= v {
+    for p in (at..at + k).rev() {
         out[p] = 48 + (v % 10) as u8;
-        v = v / 10;
-        p -= 1;
+        v /= 10;
     }
-    out[p] = 48 + v as u8;
 }
 
 // The decimal digits of n put at `at`, if they have room.
@@ -91,11 +78,9 @@ fn store_hex(out: &mut [u8], at: usize, digits: usize, n: u64)
     ensures { out.new ≡ sets out.old at (hex_of digits n) }
 {
     let mut v = n;
-    let mut k = digits;
-    while 0 < k {
-        k -= 1;
+    for k in (0..digits).rev() {
         out[at + k] = hex_digit(v % 16);
-        v = v / 16;
+        v /= 16;
     }
 }
 
@@ -125,46 +110,47 @@ pub fn put_byte(out: &mut [u8], at: usize, b: u8) -> usize
 pub fn byte_at(s: &[u8], at: usize) -> u8
     ensures { StandsAt s.now at result }
 {
-    if at < s.len() { s[at] } else { 0 }
+    s.get(at).copied().unwrap_or(0)
 }
 
 // Whether a byte is a digit.
 pub fn is_digit(b: u8) -> bool
     ensures { TellsDigit b result }
 {
-    if b < 48 { false } else { b <= 57 }
+    b.is_ascii_digit()
 }
 
-// The number at a place, each byte looked at once; it is refused as soon as it is above `most`.
-pub fn number_at(s: &[u8], at: usize, most: u32) -> Num
+// The number at a place and the place after it, each byte looked at once; it is refused as soon as it is above `most`.
+// A `for` would be no plainer: the place is part of the answer, and the end of the bytes ends a number as another byte does.
+pub fn number_at(s: &[u8], at: usize, most: u32) -> Option<(u32, usize)>
     ensures { ReadsNumber s.now at most result }
 {
     let first = byte_at(s, at);
     if !is_digit(first) {
-        return Num::Bad;
+        return None;
     }
     if first <= 48 {
-        return Num::Good(0, at + 1);
+        return Some((0, at + 1));
     }
     let mut v = (first - 48) as u64;
     let mut i = at + 1;
     while v <= most as u64 {
         let b = byte_at(s, i);
         if !is_digit(b) {
-            return Num::Good(v as u32, i);
+            return Some((v as u32, i));
         }
         v = v * 10 + (b - 48) as u64;
         i += 1;
     }
-    Num::Bad
+    None
 }
 
-// A tab and a number at a place.
-pub fn field_at(s: &[u8], at: usize, most: u32) -> Num
+// A tab and a number at a place: its value and the place after it.
+pub fn field_at(s: &[u8], at: usize, most: u32) -> Option<(u32, usize)>
     ensures { ReadsField s.now at most result }
 {
     if byte_at(s, at) != TAB {
-        return Num::Bad;
+        return None;
     }
     number_at(s, at + 1, most)
 }

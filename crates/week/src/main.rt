@@ -9,20 +9,18 @@ ghost use Rattle.sheet.specs.Says.{says_first};
 ghost use Rattle.heading.specs.Heading.{Inside, said_of};
 
 use heading::Found;
-use sheet::First;
 
 // Standard output.
 const STDOUT_FILENO: i32 = 1;
 
 // The first hour of the first line; R21 where it is none, and where there is no first line.
-fn first_in(found: Found, buffer: &[u8]) -> First
+fn first_in(found: Found, buffer: &[u8]) -> Option<u32>
     requires { Inside found (length buffer.now) }
     ensures { says_first result ≡ said_of first_line (refused R21 []) found buffer.now }
 {
     match found {
         Found::Line { from, to } => sheet::first_line(&buffer[from..to]),
-        Found::More => First::R21,
-        Found::Nothing => First::R21,
+        Found::More | Found::Nothing => None,
     }
 }
 
@@ -30,11 +28,8 @@ fn first_in(found: Found, buffer: &[u8]) -> First
 fn main(rt: HostRuntime) {
     let mut bytes = [0u8; journal::READ];
     let headed = heading::read_heading(rt.stdin(), &mut bytes);
-    let found = headed.found;
-    let first = first_in(found, &bytes);
+    let first = first_in(headed.found, &bytes);
     let n = heading::read_journal(&mut bytes, headed);
-    let made = sheet::report(first, &bytes, n);
-    let out = made.bytes;
-    let len = made.len;
-    io::write_all(STDOUT_FILENO, &out[..len]);
+    let out = sheet::report(first, &bytes, n);
+    io::write_all(STDOUT_FILENO, &out.bytes[..out.len]);
 }

@@ -34,8 +34,8 @@ record Passed (hs : List HourAnswer) (s : Seen) (k : ℕ) : Type 0 where
   covered-few : s.covered ≤ k
   idle-few : s.idle ≤ k
 
-passed_none : (hs : List HourAnswer) → length hs ≡ 24 → Passed hs (record { sum = 0; covered = 0; idle = 0 }) 0
-passed_none hs h =
+passed_none : (hs : List HourAnswer) (s : Seen) → length hs ≡ 24 → s.sum ≡ 0 → s.covered ≡ 0 → s.idle ≡ 0 → Passed hs s 0
+passed_none hs s h a b c =
     record { size = h; few = omega arith; sum = omega arith; covered = omega arith; idle = omega arith; covered-few = omega arith; idle-few = omega arith }
 
 -- one hour more of what is left
@@ -155,8 +155,8 @@ next-is row s k d p h =
     let n : length (map says_hour row) ≡ length row = simp length-map in
     at_map says_hour row k d missing (omega (arith, p.size))
 
-pub through-none : (row : List Hour) → length row ≡ 24 → Through row (record { sum = 0; covered = 0; idle = 0 }) 0
-through-none row h = record { passed = passed_none (map says_hour row) (rw length-map h) }
+pub through-none : (row : List Hour) (s : Seen) → length row ≡ 24 → s.sum ≡ 0 → s.covered ≡ 0 → s.idle ≡ 0 → Through row s 0
+through-none row s h a b c = record { passed = passed_none (map says_hour row) s (rw length-map h) a b c }
 
 pub through-room : (row : List Hour) (s : Seen) (k : ℕ) (d : Hour) → Through row s k → k < 24 → Each Whole (map says_hour row) → Room s (says_hour (get_or row k d))
 through-room row s k d t h w = passed-room (map says_hour row) s k (says_hour (get_or row k d)) t.passed h w (next-is row s k d t.passed h)

@@ -1,27 +1,21 @@
--- What the code keeps on its way: a day by its f64 sums, the hours seen so far, and the week in an answer's structs. Assumes nothing.
-use Rattle.std.specs.Prelude.{◌≡◌, Bool, true, false, List, [], ◌∷◌, map, ℕ, ◌+◌, ◌^◌, ◌≤◌, ◌<◌, T, ltb, eqb, replicate}
+-- What the code keeps on its way: a day by its f64 sums, the hours seen so far, and the week by an accepted journal's tallies. Assumes nothing.
+use Rattle.std.specs.Prelude.{◌≡◌, List, [], ◌∷◌, map, ℕ, ◌+◌, ◌^◌, ◌≤◌, ◌<◌, T, ltb, eqb, Result}
 use Rattle.std.specs.Float.{binary64}
 use Rattle.std.specs.Float.Ieee.{to_unsigned, in_unsigned}
 use Rattle.laws.specs.Pick.{pick}
-use Rattle.paper.specs.Answer.{Answer, told}
+use Rattle.paper.specs.Answer.{told}
 use Rattle.hourly.specs.Hours.{HourAnswer, measured, idle, missing, total}
 use Rattle.hourly.specs.Tally.{hour_among}
 use Rattle.hourly.specs.declared.Hour.{Hour}
-use Rattle.hourly.specs.declared.Hour.TheVariants as H
 use Rattle.hourly.specs.declared.Summary.{Summary}
 use Rattle.hourly.specs.declared.Tally.{Tally}
 use Rattle.weekly.specs.Week.{week_by, first_of}
 use Rattle.weekly.specs.Day.{kind_of, covered_of}
-use Rattle.weekly.specs.Says.{says_weekly, says_days}
-use Rattle.weekly.specs.declared.Said.{Said}
-use Rattle.weekly.specs.declared.Said.TheVariants as S
-use Rattle.weekly.specs.declared.Slot.{Slot}
-use Rattle.weekly.specs.declared.Slots.{Slots}
-use Rattle.weekly.specs.declared.Weekly.{Weekly}
+use Rattle.weekly.specs.Says.{says_weekly}
+use Rattle.weekly.specs.declared.WeekError.{WeekError}
 use Rattle.weekly.specs.declared.Kind.{Kind}
 use Rattle.weekly.specs.declared.Kind.TheVariants.{Worked, Holiday, Unknown}
 use Rattle.weekly.specs.declared.Day.{Day}
-use Rattle.weekly.specs.declared.Days.{Days}
 use Rattle.weekly.specs.declared.Seen.{Seen}
 
 -- each element of a list is so
@@ -42,10 +36,6 @@ abbrev pub Whole : HourAnswer → Type 0
 Whole (measured s l m) = T (in_unsigned binary64 64 s) × (to_unsigned 64 s ≤ 29491200000)
 Whole idle = Unit {0}
 Whole missing = Unit {0}
-
--- so it is of every hour by a table
-pub record Summed (table : List Tally) (found : Summary) : Type 0 where
-  pub whole : (h : ℕ) → Whole (hour_among table found h)
 
 unfoldable pub day_from : List HourAnswer → Day
 day_from hs = record { kind = kind_of hs; covered = covered_of hs; sum = total (map sum_in hs) }
@@ -68,44 +58,7 @@ pub record Room (s : Seen) (h : HourAnswer) : Type 0 where
 unfoldable pub kind_by : ℕ → ℕ → Kind
 kind_by c i = pick (ltb 0 c) Worked (pick (eqb i 24) Holiday Unknown)
 
--- ---- the week in an answer
+-- ---- the week of an accepted journal, by its tallies
 
-abbrev pub slot : Hour → Slot
-slot h = record { hour = h }
-
-unfoldable pub box_row : List Hour → Slots
-box_row hs = record { hours = map slot hs }
-
-unfoldable pub weekly_of : Said → List (List Hour) → Weekly
-weekly_of said week = record { said = said; rows = map box_row week }
-
--- where it is refused every hour is missing, and every day is unknown
-abbrev pub no_hours : List (List Hour)
-no_hours = replicate 7 (replicate 24 H.Missing)
-
-abbrev pub no_day : Day
-no_day = record { kind = Unknown; covered = 0; sum = 0 }
-
-abbrev pub no_days : List Day
-no_days = replicate 7 no_day
-
-unfoldable pub is_made : Said → Bool
-is_made S.Made = true
-is_made (S.Refused r) = false
-is_made S.R21 = false
-
--- an answer with hours or days in it: what it says, and what stands in it where it is refused
-pub record Week-is (rule : Answer (List (List HourAnswer))) (r : Weekly) : Type 0 where
-  pub says : says_weekly r ≡ rule
-  pub none : is_made r.said ≡ false → r ≡ weekly_of r.said no_hours
-
-pub record Days-are (rule : Answer (List Day)) (r : Days) : Type 0 where
-  pub says : says_days r ≡ rule
-  pub none : is_made r.said ≡ false → r.days ≡ no_days
-
--- of an accepted journal, by its tallies
-abbrev pub WeekBy : List Tally → Summary → ℕ → Weekly → Type 0
-WeekBy table found first r = Week-is (told (week_by (hour_among table found)) (first_of first)) r
-
-abbrev pub DaysBy : List Tally → Summary → ℕ → Days → Type 0
-DaysBy table found first r = Days-are (told (λ (f : ℕ). map day_from (week_by (hour_among table found) f)) (first_of first)) r
+abbrev pub WeekBy : List Tally → Summary → ℕ → Result (List (List Hour)) WeekError → Type 0
+WeekBy table found first r = says_weekly r ≡ told (week_by (hour_among table found)) (first_of first)

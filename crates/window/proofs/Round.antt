@@ -3,17 +3,12 @@ use mathlib.Core.Path.{◌≡◌, refl}
 use mathlib.Core.Bool.{true, false}
 use Prim.Native.Nat.{ℕ, suc, ◌+◌, ◌*◌, ◌^◌, ◌≤◌, ◌<◌}
 use native.Mathlib.Omega.{arith}
-use native.Mathlib.Nat.{div-le_self, zero-add}
+use native.Mathlib.Nat.{div-le_self}
 use lib.IntN.{ℤ, pos, negsuc, ◌-ℤ◌, neg_ℤ, nat_abs, +ℤ_idl}
 use lib.Signed.{lt_z}
 use borrow.Author.Tests.{ltb-true}
 use Rattle.laws.specs.Whole.{true-false}
 use Rattle.window.specs.Mean.{half_up, round_away}
-
--- the magnitude of a number below 0
-pub turned : (s : ℤ) → lt_z s (pos 0) ≡ true → pos 0 -ℤ s ≡ pos (nat_abs s)
-turned (pos m) t = let f : m < 0 = ltb-true m 0 t in absurd (omega arith)
-turned (negsuc m) t = rw (zero-add) refl
 
 -- its rounded magnitude with a minus
 pub round-below : (s : ℤ) (n : ℕ) → lt_z s (pos 0) ≡ true → pos 0 -ℤ pos (half_up (nat_abs s) n) ≡ round_away s n

@@ -1,11 +1,10 @@
 // The samples held, newest first, and their mean.
 #![tactic(auto)]
 
-ghost use Rattle.std.specs.Prelude.{◌≡◌, ◌+◌, ◌*◌, ◌%◌, ◌<◌, ◌≤◌, min, ltb, pos, nat_abs, length, take, get_or};
-ghost use Rattle.laws.specs.Pick.{pick};
-ghost use Rattle.window.specs.Mean.{half_up, round_away, greater, lesser, mean_of};
+ghost use Rattle.std.specs.Prelude.{◌≡◌, ◌+◌, ◌*◌, ◌<◌, ◌≤◌, pos, nat_abs, length, get_or};
+ghost use Rattle.window.specs.Mean.{half_up, round_away, mean_of};
 ghost use Rattle.window.specs.Range.{Total};
-ghost use Rattle.window.specs.Pass.{lifted, start_of, with_of, Passed, signed_of, left_sum, left_count};
+ghost use Rattle.window.specs.Pass.{start_of, with_of, Passed, left_sum, left_count};
 ghost use Rattle.window.specs.Window.{places};
 ghost use Rattle.window.specs.Calls.{IsEmpty, Pushes, Means};
 
@@ -34,16 +33,11 @@ impl Window {
     pub fn push(self, x: i32) -> Window
         ensures { Pushes self x result }
     {
-        let old = self.samples;
         let mut samples = [x; Window::PLACES];
-        let mut i: usize = 0;
-        while i < Window::PLACES - 1 {
-            samples[i + 1] = old[i];
-            i += 1;
-        }
+        samples[1..].copy_from_slice(&self.samples[..Window::PLACES - 1]);
         Window {
             samples,
-            held: grown(self.held),
+            held: self.held.min(Window::PLACES - 1) + 1,
         }
     }
 }
@@ -52,16 +46,15 @@ impl Window {
 pub fn mean_of(samples: &[i32], held: usize, n: usize) -> i32
     ensures { Means samples.now held n result }
 {
-    let there = fewest(held, samples.len());
-    let count = fewest(n, there);
+    let count = n.min(held).min(samples.len()).min(Window::PLACES);
     if count == 0 {
         return 0;
     }
-    mean_of_first(samples, count)
+    mean(&samples[..count])
 }
 
 // What a pass over samples tells.
-#[derive(Clone, Copy)]
+#[derive(Clone, Copy, Debug, PartialEq, Eq)]
 struct Seen {
     // The sum, modulo 2^32.
     sum: u32,
@@ -80,34 +73,34 @@ impl Seen {
         ensures { result ≡ with_of self x }
     {
         Seen {
-            sum: turned(self.sum, x),
-            high: higher(self.high, x),
-            low: lower(self.low, x),
+            sum: self.sum.wrapping_add_signed(x),
+            high: self.high.max(x),
+            low: self.low.min(x),
         }
     }
 }
 
 // A sum to divide, and by how many.
-#[derive(Clone, Copy)]
+#[derive(Clone, Copy, Debug, PartialEq, Eq)]
 struct Left {
     sum: i64,
     count: usize,
 }
 
-// The mean of the first n samples: of four or more without one largest and one smallest.
-fn mean_of_first(s: &[i32], n: usize) -> i32
-    requires { (0 < n) × (n ≤ places) × (n ≤ length s.now) }
-    ensures { result ≡ mean_of (take n s.now) }
+// The mean of samples: of four or more without one largest and one smallest.
+fn mean(s: &[i32]) -> i32
+    requires { (0 < length s.now) × (length s.now ≤ places) }
+    ensures { result ≡ mean_of s.now }
 {
-    let seen = pass(s, n);
-    let left = left_of(seen, whole(seen, s, n), n);
+    let seen = pass(s);
+    let left = left_of(seen, whole(seen, s), s.len());
     rounded(left.sum, left.count) as i32
 }
 
-// The first n samples, one after the other: sum, largest and smallest together.
-fn pass(s: &[i32], n: usize) -> Seen
-    requires { (0 < n) × (n ≤ length s.now) }
-    ensures { Passed (start_of (get_or s.now 0 (pos 0))) (take n s.now) result }
+// The samples, one after the other: sum, largest and smallest together.
+fn pass(s: &[i32]) -> Seen
+    requires { 0 < length s.now }
+    ensures { Passed (start_of (get_or s.now 0 (pos 0))) s.now result }
 {
     let first = s[0];
     let mut seen = Seen {
@@ -115,57 +108,21 @@ fn pass(s: &[i32], n: usize) -> Seen
         high: first,
         low: first,
     };
-    let mut k: usize = 0;
-    while k < n {
-        seen = seen.with(s[k]);
-        k += 1;
+    for x in s {
+        seen = seen.with(*x);
     }
     seen
 }
 
-// The sum and one sample more, modulo 2^32.
-fn turned(sum: u32, x: i32) -> u32
-    ensures { result ≡ (sum + lifted x) % 4294967296 }
+// The sum of the samples: the one seen, or where a sample is far, added up in an i64.
+fn whole(seen: Seen, s: &[i32]) -> i64
+    requires { (0 < length s.now) × (length s.now ≤ places) × Passed (start_of (get_or s.now 0 (pos 0))) s.now seen }
+    ensures { Total s.now result }
 {
-    let more = (x as i64 + 4294967296) as u64;
-    ((sum as u64 + more) % 4294967296) as u32
-}
-
-fn higher(a: i32, b: i32) -> i32
-    ensures { result ≡ greater a b }
-{
-    if a < b { b } else { a }
-}
-
-fn lower(a: i32, b: i32) -> i32
-    ensures { result ≡ lesser a b }
-{
-    if b < a { b } else { a }
-}
-
-// The sum of the first n samples: the one seen, or where a sample is far, added up in an i64.
-fn whole(seen: Seen, s: &[i32], n: usize) -> i64
-    requires { (0 < n) × (n ≤ places) × (n ≤ length s.now) × Passed (start_of (get_or s.now 0 (pos 0))) (take n s.now) seen }
-    ensures { Total (take n s.now) result }
-{
-    let high = seen.high;
-    let low = seen.low;
-    if high < Seen::FAR {
-        if 0 - Seen::FAR < low {
-            return signed(seen.sum);
-        }
-    }
-    total(s, n)
-}
-
-// The number whose remainder modulo 2^32 it is, from -2^31 on.
-fn signed(sum: u32) -> i64
-    ensures { result ≡ signed_of sum }
-{
-    if sum < 2147483648 {
-        sum as i64
+    if seen.high < Seen::FAR && seen.low > -Seen::FAR {
+        seen.sum.cast_signed() as i64
     } else {
-        sum as i64 - 4294967296
+        total(s)
     }
 }
 
@@ -177,55 +134,20 @@ fn left_of(seen: Seen, sum: i64, n: usize) -> Left
     if n < 4 {
         return Left { sum, count: n };
     }
-    let high = seen.high as i64;
-    let low = seen.low as i64;
     Left {
-        sum: sum - high - low,
+        sum: sum - seen.high as i64 - seen.low as i64,
         count: n - 2,
     }
 }
 
-// One more than held, at most 128.
-fn grown(held: usize) -> usize
-    ensures { result ≡ pick (ltb held places) (held + 1) places }
+// The sum of the samples.
+fn total(s: &[i32]) -> i64
+    requires { length s.now ≤ places }
+    ensures { Total s.now result }
 {
-    if held < Window::PLACES {
-        held + 1
-    } else {
-        Window::PLACES
-    }
-}
-
-// The least of n, held and 128.
-fn fewest(n: usize, held: usize) -> usize
-    ensures { result ≡ min n (min held places) }
-{
-    if n < held {
-        if n < Window::PLACES {
-            n
-        } else {
-            Window::PLACES
-        }
-    } else {
-        if held < Window::PLACES {
-            held
-        } else {
-            Window::PLACES
-        }
-    }
-}
-
-// The sum of the first n samples.
-fn total(s: &[i32], n: usize) -> i64
-    requires { (n ≤ places) × (n ≤ length s.now) }
-    ensures { Total (take n s.now) result }
-{
-    let mut sum: i64 = 0;
-    let mut k: usize = 0;
-    while k < n {
-        let x = s[k];
-        sum += x as i64;
-        k += 1;
+    let mut sum = 0;
+    for x in s {
+        sum += *x as i64;
     }
     sum
 }
@@ -244,9 +166,6 @@ fn rounded(s: i64, n: usize) -> i64
     requires { (0 < n) × (n ≤ places) × (nat_abs s ≤ (places + 2) * 2147483648) }
     ensures { result ≡ round_away s n }
 {
-    if s < 0 {
-        0 - half_up((0 - s) as u64, n) as i64
-    } else {
-        half_up(s as u64, n) as i64
-    }
+    let size = half_up(s.unsigned_abs(), n) as i64;
+    if s < 0 { -size } else { size }
 }

@@ -8,6 +8,6 @@ pub returns-then-known-parts : goal.returns-then-known-parts
 unfolding code_of known bare
 returns-then-known-parts c = sym (pick-t _ _ _ c.if-known-parts.true)
 
-pub returns : goal.returns
+pub returns-else-known-parts : goal.returns-else-known-parts
 unfolding code_of known bare
-returns c = sym (pick-f _ _ _ c.if-known-parts.false)
+returns-else-known-parts c = sym (pick-f _ _ _ c.if-known-parts.false)

@@ -1,21 +1,19 @@
 -- A body that the reader found stands in its array and splits.
-use mathlib.Core.Path.{sym, ap, ◌∙◌}
-use Rattle.frame.specs.Says.{says_found}
-use Rattle.asking.proofs.Laws.{found-body, heard-checked, heard-unread}
+use Rattle.std.proofs.lemmas.Result.{err_from_is_err_and}
+use Rattle.asking.proofs.Laws.{found-body, heard-parts, always-parts, heard-refused}
 use Rattle.asking.proofs.hear.Goals as goal
 
-pub parts_of-requires : goal.parts_of-requires
-parts_of-requires c = let r = c.read_frame-read in (found-body _ r.result r.ensures c.in-Body.is).fits
+-- R9, R6
+pub returns-in_err-found : goal.returns-in_err-found
+returns-in_err-found c =
+    let p = err_from_is_err_and c.from_residual.result c.from_residual.ensures.1 in
+    rw (p.1, p.2) (heard-refused _ _ c.in_err-found.ensures)
 
-pub returns-in-Body : goal.returns-in-Body
-returns-in-Body c = let r = c.read_frame-read in heard-checked (found-body _ r.result r.ensures c.in-Body.is) c.parts_of.result c.parts_of.ensures
+pub shared_ref_as_front-split_body : goal.shared_ref_as_front-split_body
+shared_ref_as_front-split_body c = (found-body _ _ c.in_ok-found.ensures).small
 
--- R9
-pub returns-in-R9 : goal.returns-in-R9
-returns-in-R9 c =
-    heard-unread _ (sym (ap says_found c.in-R9.is) ∙ c.read_frame-read.ensures.says)
+pub returns-in_default : goal.returns-in_default
+returns-in_default c = always-parts (found-body _ _ c.in_ok-found.ensures) _ c.in_default.ensures
 
--- R6
-pub returns-in-R6 : goal.returns-in-R6
-returns-in-R6 c =
-    heard-unread _ (sym (ap says_found c.in-R6.is) ∙ c.read_frame-read.ensures.says)
+pub returns : goal.returns
+returns c = heard-parts (found-body _ _ c.in_ok-found.ensures) c.in-Ok.parts c.in-Ok.ensures

@@ -17,8 +17,8 @@ returns-in_default c =
 pub loop-call-preserved : goal.loop-call-preserved
 loop-call-preserved c =
     let run = c.answer-run in
-    let pending = ran-pending run.result c.in-Call.is run.ensures in
+    let pending = ran-pending run.result c.in-Some.is run.ensures in
     brings-then c.loop-call.invariant (pending.made _ c.answer-answered.ensures)
 
 pub loop-call-smaller : goal.loop-call-smaller
-loop-call-smaller c = let run = c.answer-run in (ran-pending run.result c.in-Call.is run.ensures).less
+loop-call-smaller c = let run = c.answer-run in (ran-pending run.result c.in-Some.is run.ensures).less

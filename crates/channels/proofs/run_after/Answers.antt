@@ -7,5 +7,5 @@ returns-then-run-lt-MISMATCHES c = search picks
 pub returns-else-run-lt-MISMATCHES : goal.returns-else-run-lt-MISMATCHES
 returns-else-run-lt-MISMATCHES c = search picks
 
-pub returns-else-wrong : goal.returns-else-wrong
-returns-else-wrong c = search picks
+pub returns-then-not-wrong : goal.returns-then-not-wrong
+returns-then-not-wrong c = search picks

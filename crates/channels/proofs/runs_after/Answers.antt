@@ -2,8 +2,8 @@ use mathlib.Core.Path.{◌≡◌}
 use mathlib.Core.Bool.{false}
 use borrow.Author.Tests.{ne_eqb}
 use Rattle.laws.specs.Pick.{picks, pick-false}
-use Rattle.channels.specs.Channels.{input, run_after, runs_after}
-use Rattle.channels.proofs.Laws.{none-holds, matched}
+use Rattle.channels.specs.Channels.{no_runs, input, run_after, runs_after}
+use Rattle.channels.proofs.Laws.{all-zero, none-holds, matched}
 use Rattle.channels.proofs.runs_after.Goals as goal
 
 pub returns-then-set-eq0 : goal.returns-then-set-eq0
@@ -14,13 +14,15 @@ pub returns-then-not-one-two : goal.returns-then-not-one-two
 unfolding runs_after run_after input
 returns-then-not-one-two c =
     let none : (c.mismatch-one.result ≡ false) × (c.mismatch-two.result ≡ false) × (c.mismatch-three.result ≡ false) = none-holds _ _ _ c.if-not-one-two.true in
-    simp (
+    let z = c.default.ensures in
+    let fresh : c.default.result ≡ no_runs = all-zero z.0 z.1.0 z.1.1 in
+    rw fresh (simp (
       matched _ c.mismatch-one.ensures c.has_bit.ensures none.0,
       matched _ c.mismatch-two.ensures c.has_bit-2.ensures none.1,
       matched _ c.mismatch-three.ensures c.has_bit-3.ensures none.2,
       ne_eqb _ _ c.if-set-eq0.false,
       pick-false,
-    )
+    ))
 
 pub returns : goal.returns
 unfolding runs_after run_after input

@@ -1,15 +1,14 @@
-use mathlib.Core.Path.{sym, ap}
+use mathlib.Core.Path.{◌≡◌, refl, ◌∙◌}
+use Rattle.std.specs.Prelude.{Ok, Err}
+use Rattle.std.specs.Result.{result_unwrap_or}
+use Rattle.entry.specs.Says.{Wrote}
 use Rattle.clock.specs.Marking.{size_of}
 use Rattle.clock.proofs.size_of.Goals as goal
 
-pub returns-in-Line : goal.returns-in-Line
+none_else : (w : Wrote) → result_unwrap_or w 0 ≡ size_of w
 unfolding size_of
-returns-in-Line c = sym (ap size_of c.in-Line.is)
+none_else (Ok n) = refl
+none_else (Err e) = refl
 
-pub returns-in-R10 : goal.returns-in-R10
-unfolding size_of
-returns-in-R10 c = sym (ap size_of c.in-R10.is)
-
-pub returns-in-R8 : goal.returns-in-R8
-unfolding size_of
-returns-in-R8 c = sym (ap size_of c.in-R8.is)
+pub returns : goal.returns
+returns c = c.unwrap_or.ensures ∙ none_else c.args.wrote

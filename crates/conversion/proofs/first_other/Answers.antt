@@ -6,7 +6,7 @@ use native.Mathlib.Omega.{arith}
 use lib.ListN.{length, get_or, drop}
 use Rattle.laws.specs.Pick.{so}
 use Rattle.conversion.specs.Bytes.{tabs_after, is_other, line_after, other_from}
-use Rattle.conversion.proofs.Bytewise.{other-more, other-here, other_none, tabs-most, line-most}
+use Rattle.conversion.proofs.Bytewise.{other-more, other-here, other_none, tabs-most, line-most, line-least}
 use Rattle.conversion.proofs.first_other.Invariants.{Sought}
 use Rattle.conversion.proofs.first_other.Goals as goal
 
@@ -21,22 +21,26 @@ sought-more s line tabs i m t c h o e f =
           ∙ c.left;
       few = omega (arith, c.few, tabs-most tabs b);
       lines = omega (arith, c.lines, line-most line b);
+      least = omega (arith, c.least, line-least line b);
     }
 
-pub loop-i-init : goal.loop-i-init
-loop-i-init c = record { left = refl; few = omega arith; lines = omega arith }
+pub loop-b-init : goal.loop-b-init
+loop-b-init c = record { left = refl; few = omega arith; lines = omega arith; least = omega arith }
 
 pub returns-then-is_other : goal.returns-then-is_other
-returns-then-is_other c = sym (other-here _ _ _ _ c.loop-i-test.true (so c.is_other.ensures c.if-is_other.true)) ∙ c.loop-i.invariant.left
+returns-then-is_other c = record {
+  line = sym (other-here _ _ _ _ c.loop-b-test.true (so c.is_other.ensures c.if-is_other.true)) ∙ c.loop-b.invariant.left;
+  some = c.loop-b.invariant.least;
+}
 
 pub line_after-line-requires : goal.line_after-line-requires
-line_after-line-requires c = omega (arith, c.loop-i.invariant.lines, c.loop-i-test.true, c.requires)
+line_after-line-requires c = omega (arith, c.loop-b.invariant.lines, c.loop-b-test.true, c.requires)
 
 pub tabs_after-tabs-requires : goal.tabs_after-tabs-requires
-tabs_after-tabs-requires c = omega (arith, c.loop-i.invariant.few, c.loop-i-test.true, c.requires)
+tabs_after-tabs-requires c = omega (arith, c.loop-b.invariant.few, c.loop-b-test.true, c.requires)
 
-pub loop-i-preserved : goal.loop-i-preserved
-loop-i-preserved c = sought-more _ _ _ _ _ _ c.loop-i.invariant c.loop-i-test.true (so c.is_other.ensures c.if-is_other.false) c.line_after-line.ensures c.tabs_after-tabs.ensures
+pub loop-b-preserved : goal.loop-b-preserved
+loop-b-preserved c = sought-more _ _ _ _ _ _ c.loop-b.invariant c.loop-b-test.true (so c.is_other.ensures c.if-is_other.false) c.line_after-line.ensures c.tabs_after-tabs.ensures
 
 pub returns : goal.returns
-returns c = sym (other_none _ _ _ _ c.loop-i-test.false) ∙ c.loop-i.invariant.left
+returns c = record { line = sym (other_none _ _ _ _ c.loop-b-test.false) ∙ c.loop-b.invariant.left; some = tt }

@@ -1,8 +1,4 @@
-use mathlib.Core.Path.{◌≡◌, refl}
-use mathlib.Core.Bool.{false, not}
-use Prim.Native.Nat.{ℕ}
-use lib.Dec.{eqb}
-use borrow.Author.Tests.{eq-eqb, ne_eqb}
+use Rattle.std.proofs.Common.{◌≡◌, refl, sym, false, not, ℕ, ◌⊎◌, inl, inr, eqb, rules, eq-eqb, ne_eqb}
 use Rattle.conversion.specs.Bytes.{is_other}
 use Rattle.conversion.proofs.is_other.Goals as goal
 
@@ -18,11 +14,12 @@ outside : (t b : ℕ) → (t ≡ 5 → ⊥) → false ≡ is_other t b
 unfolding is_other
 outside t b e = rw (ne_eqb t 5 e) refl
 
-pub returns-then-b-eq-LF : goal.returns-then-b-eq-LF
-returns-then-b-eq-LF c = at-end _ _ c.if-tabs.true c.if-b-eq-LF.true
+none : (t b : ℕ) → (t ≡ 5 × b ≡ 10) ⊎ (t ≡ 5 → ⊥) → is_other t b ≡ false
+none t b (inl h) = sym (at-end t b h.0 h.1)
+none t b (inr h) = sym (outside t b h)
 
-pub returns-then-tabs : goal.returns-then-tabs
-returns-then-tabs c = digit _ _ c.if-tabs.true c.if-b-eq-LF.false
+pub returns-then-b-ne-LF : goal.returns-then-b-ne-LF
+returns-then-b-ne-LF c = let h = c.if-b-ne-LF.true in digit _ _ h.0 h.1
 
-pub returns : goal.returns
-returns c = outside _ _ c.if-tabs.false
+pub returns-else-b-ne-LF : goal.returns-else-b-ne-LF
+returns-else-b-ne-LF c = rw (none c.args.tabs c.args.b c.if-b-ne-LF.either) (search rules)

@@ -9,8 +9,8 @@ use Rattle.conversion.proofs.Bytewise.{rest_more, rest-none, tabs-most, piece-mo
 use Rattle.conversion.proofs.lines_len.Invariants.{Counted}
 use Rattle.conversion.proofs.lines_len.Goals as goal
 
-counted-more : (to : Form) (s : List ℕ) (from n tabs i k t : ℕ) → Counted to s from n tabs i → i < length s → k ≡ length (piece_of to tabs (get_or s i 0)) → t ≡ tabs_after tabs (get_or s i 0) → Counted to s from (n + k) t (i + 1)
-counted-more to s from n tabs i k t c h e f =
+counted-more : (to : Form) (s : List ℕ) (n tabs i k t : ℕ) → Counted to s n tabs i → i < length s → k ≡ length (piece_of to tabs (get_or s i 0)) → t ≡ tabs_after tabs (get_or s i 0) → Counted to s (n + k) t (i + 1)
+counted-more to s n tabs i k t c h e f =
     let b = get_or s i 0 in
     record {
       all =
@@ -24,20 +24,20 @@ counted-more to s from n tabs i k t c h e f =
       few = omega (arith, c.few, tabs-most tabs b);
     }
 
-pub loop-i-init : goal.loop-i-init
-loop-i-init c = record { all = omega arith; most = omega arith; few = omega arith }
+pub loop-b-init : goal.loop-b-init
+loop-b-init c = record { all = omega arith; most = omega arith; few = omega arith }
 
 pub piece_len-n-requires : goal.piece_len-n-requires
-piece_len-n-requires c = omega (arith, c.loop-i.invariant.few, c.loop-i-test.true, c.requires)
+piece_len-n-requires c = omega (arith, c.loop-b.invariant.few, c.loop-b-test.true, c.requires)
 
 pub overflow_add-n : goal.overflow_add-n
-overflow_add-n c = omega (arith, c.piece_len-n.ensures, piece-most c.args.to c.loop-i.tabs (get_or c.args.bytes.now c.loop-i.i 0), c.loop-i.invariant.most, c.loop-i-test.true, c.requires)
+overflow_add-n c = omega (arith, c.piece_len-n.ensures, piece-most c.args.to c.loop-b.tabs (get_or c.args.lines.now c.loop-b.b-index 0), c.loop-b.invariant.most, c.loop-b-test.true, c.requires)
 
 pub tabs_after-tabs-requires : goal.tabs_after-tabs-requires
-tabs_after-tabs-requires c = omega (arith, c.loop-i.invariant.few, c.loop-i-test.true, c.requires)
+tabs_after-tabs-requires c = omega (arith, c.loop-b.invariant.few, c.loop-b-test.true, c.requires)
 
-pub loop-i-preserved : goal.loop-i-preserved
-loop-i-preserved c = counted-more _ _ _ _ _ _ _ _ c.loop-i.invariant c.loop-i-test.true c.piece_len-n.ensures c.tabs_after-tabs.ensures
+pub loop-b-preserved : goal.loop-b-preserved
+loop-b-preserved c = counted-more _ _ _ _ _ _ _ c.loop-b.invariant c.loop-b-test.true c.piece_len-n.ensures c.tabs_after-tabs.ensures
 
 pub returns : goal.returns
-returns c = omega (arith, c.loop-i.invariant.all, ap length (rest-none c.args.to c.loop-i.tabs c.loop-i.i c.args.bytes.now c.loop-i-test.false))
+returns c = omega (arith, c.loop-b.invariant.all, ap length (rest-none c.args.to c.loop-b.tabs c.loop-b.b-index c.args.lines.now c.loop-b-test.false))

@@ -1,10 +1,11 @@
-use mathlib.Core.Path.{sym, ap, ◌∙◌}
-use lib.ListN.{length}
-use Rattle.conversion.proofs.Pieces.{piece-old, piece-new}
+use Rattle.std.proofs.Common.{ap, length}
 use Rattle.conversion.proofs.piece_len.Goals as goal
 
-pub returns-in-Old : goal.returns-in-Old
-returns-in-Old c = c.old_len.ensures ∙ sym (ap length (piece-old _ _ _ c.in-Old.is))
+pub returns-in-Gone : goal.returns-in-Gone
+returns-in-Gone c = ap length c.in-Gone.ensures
 
-pub returns-in-New : goal.returns-in-New
-returns-in-New c = c.new_len.ensures ∙ sym (ap length (piece-new _ _ _ c.in-New.is))
+pub returns-in-Kept : goal.returns-in-Kept
+returns-in-Kept c = ap length c.in-Kept.ensures
+
+pub returns-in-Ended : goal.returns-in-Ended
+returns-in-Ended c = ap length c.in-Ended.ensures

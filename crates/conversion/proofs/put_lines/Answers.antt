@@ -13,7 +13,7 @@ use Rattle.conversion.proofs.Bytewise.{rest_more, rest-none, tabs-most}
 use Rattle.conversion.proofs.put_lines.Invariants.{Stored}
 use Rattle.conversion.proofs.put_lines.Goals as goal
 
-module _ {to : Form} {s : List ℕ} {from at : ℕ} {old out : List ℕ} {tabs i p : ℕ} (c : Stored to s from at old out tabs i p) (h : i < length s) (room : at + length (bytes_to to 0 (drop from s)) ≤ length old) where
+module _ {to : Form} {s : List ℕ} {at : ℕ} {old out : List ℕ} {tabs i p : ℕ} (c : Stored to s at old out tabs i p) (h : i < length s) (room : at + length (bytes_to to 0 s) ≤ length old) where
   abbrev piece : List ℕ
   piece = piece_of to tabs (get_or s i 0)
 
@@ -23,7 +23,7 @@ module _ {to : Form} {s : List ℕ} {from at : ℕ} {old out : List ℕ} {tabs i
   piece-room : p + length piece ≤ length out
   piece-room = omega (arith, c.size, c.place, ap length (rest_more to tabs i s h) ∙ length-append piece rest)
 
-  stored_more : {new : List ℕ} {r t : ℕ} → Puts out p piece new r → t ≡ tabs_after tabs (get_or s i 0) → Stored to s from at old new t (i + 1) r
+  stored_more : {new : List ℕ} {r t : ℕ} → Puts out p piece new r → t ≡ tabs_after tabs (get_or s i 0) → Stored to s at old new t (i + 1) r
   stored_more {new} {r} {t} q e =
       let f = puts-fit (room-is out p piece piece-room) q in
       let turned = ap (λ (u : ℕ). bytes_to to u (drop (i + 1) s)) e in
@@ -40,19 +40,19 @@ module _ {to : Form} {s : List ℕ} {from at : ℕ} {old out : List ℕ} {tabs i
         few = omega (arith, e, c.few, tabs-most tabs (get_or s i 0));
       }
 
-pub loop-i-init : goal.loop-i-init
-loop-i-init c = record { size = refl; place = refl; left = refl; few = omega arith }
+pub loop-b-init : goal.loop-b-init
+loop-b-init c = record { size = refl; place = refl; left = refl; few = omega arith }
 
 pub put_piece-p-requires : goal.put_piece-p-requires
-put_piece-p-requires c = record { few = omega (arith, c.loop-i.invariant.few, c.loop-i-test.true, c.requires.short); room = piece-room c.loop-i.invariant c.loop-i-test.true c.requires.room }
+put_piece-p-requires c = record { few = omega (arith, c.loop-b.invariant.few, c.loop-b-test.true, c.requires.short); room = piece-room c.loop-b.invariant c.loop-b-test.true c.requires.room }
 
 pub tabs_after-tabs-requires : goal.tabs_after-tabs-requires
-tabs_after-tabs-requires c = omega (arith, c.loop-i.invariant.few, c.loop-i-test.true, c.requires.short)
+tabs_after-tabs-requires c = omega (arith, c.loop-b.invariant.few, c.loop-b-test.true, c.requires.short)
 
-pub loop-i-preserved : goal.loop-i-preserved
-loop-i-preserved c = stored_more c.loop-i.invariant c.loop-i-test.true c.requires.room c.put_piece-p.ensures c.tabs_after-tabs.ensures
+pub loop-b-preserved : goal.loop-b-preserved
+loop-b-preserved c = stored_more c.loop-b.invariant c.loop-b-test.true c.requires.room c.put_piece-p.ensures c.tabs_after-tabs.ensures
 
 pub returns : goal.returns
 returns c =
-    let l = c.loop-i in
-    ap (sets l.out l.p) (sym (rest-none c.args.to l.tabs l.i _ c.loop-i-test.false)) ∙ l.invariant.left
+    let l = c.loop-b in
+    ap (sets l.out l.p) (sym (rest-none c.args.to l.tabs l.b-index _ c.loop-b-test.false)) ∙ l.invariant.left

@@ -12,9 +12,10 @@ use Rattle.paper.specs.AnswerLaws.{refused-done}
 use Rattle.text.specs.Put.{Puts}
 use Rattle.text.specs.PutLaws.{room-is, fit-puts}
 use Rattle.journal.specs.Line.{version_text, write_version_of}
-use Rattle.entry.specs.Says.{says_wrote, WritesVersion}
-use Rattle.entry.specs.declared.Wrote.{Wrote}
-use Rattle.entry.specs.declared.Wrote.TheVariants as W
+use Rattle.std.specs.Prelude.{Ok, Err}
+use Rattle.entry.specs.Says.{Wrote, says_wrote, WritesVersion}
+use Rattle.entry.specs.declared.WriteError.{WriteError}
+use Rattle.entry.specs.declared.WriteError.TheVariants as E
 use Rattle.conversion.proofs.put_version.Goals as goal
 
 -- the V line has room, so it is written
@@ -23,11 +24,12 @@ unfolding write_version_of in_room
 written room h = pick-t _ _ _ (le-leb (length version_text) room h)
 
 -- and a writer that refuses has not met its contract
-always : {Q : Type 0} (old new : List ℕ) (w : Wrote) (n : ℕ) (vs : List ℕ) → length version_text ≤ length old → WritesVersion w old new → says_wrote w ≡ refused n vs → Q
+always : {Q : Type 0} (old new : List ℕ) (w : Wrote) (r : WriteError) → length version_text ≤ length old → WritesVersion w old new → w ≡ Err r → Q
 unfolding told
-always old new w n vs h f e = refused-done (sym e ∙ f.says ∙ ap (told length) (written (length old) h))
+always old new w E.R10 h f e = refused-done (sym (ap says_wrote e) ∙ f.says ∙ ap (told length) (written (length old) h))
+always old new w E.R8 h f e = refused-done (sym (ap says_wrote e) ∙ f.says ∙ ap (told length) (written (length old) h))
 
-wrote : (old new : List ℕ) (w : Wrote) (n : ℕ) → length version_text ≤ length old → WritesVersion w old new → w ≡ W.Line n → Puts old 0 version_text new n
+wrote : (old new : List ℕ) (w : Wrote) (n : ℕ) → length version_text ≤ length old → WritesVersion w old new → w ≡ Ok n → Puts old 0 version_text new n
 unfolding told leaves
 wrote old new w n h f e =
     let d = written (length old) h in
@@ -37,11 +39,8 @@ wrote old new w n h f e =
     (f.left ∙ ap (λ (a : Answer (List ℕ)). leaves a old) d ∙ sym (sets_over old version_text h))
     (same ∙ sym (zero-add (length version_text)))
 
-pub returns-in-Line : goal.returns-in-Line
-returns-in-Line c = wrote _ _ c.write_version.result _ c.requires c.write_version.ensures c.in-Line.is
+pub returns-in-Ok : goal.returns-in-Ok
+returns-in-Ok c = wrote _ _ c.write_version.result _ c.requires c.write_version.ensures c.in-Ok.is
 
-pub returns-in-R10 : goal.returns-in-R10
-returns-in-R10 c = always _ _ c.write_version.result _ _ c.requires c.write_version.ensures (ap says_wrote c.in-R10.is)
-
-pub returns-in-R8 : goal.returns-in-R8
-returns-in-R8 c = always _ _ c.write_version.result _ _ c.requires c.write_version.ensures (ap says_wrote c.in-R8.is)
+pub returns-in-Err : goal.returns-in-Err
+returns-in-Err c = always _ _ c.write_version.result _ c.requires c.write_version.ensures c.in-Err.is

@@ -1,10 +1,10 @@
 use Rattle.counters.specs.Counters.{counters_after, counted_of}
 use Rattle.counters.proofs.counters_after.Goals as goal
 
-pub returns-in-Nothing : goal.returns-in-Nothing
+pub returns-in-None : goal.returns-in-None
 unfolding counters_after
-returns-in-Nothing c = rw c.in-Nothing.is
+returns-in-None c = rw c.in-None.is
 
-pub returns-in-Complete : goal.returns-in-Complete
+pub returns-in-Some : goal.returns-in-Some
 unfolding counters_after counted_of
-returns-in-Complete c = rw c.in-Complete.is (simp (c.wrapped-total.ensures, c.wrapped-count.ensures))
+returns-in-Some c = rw c.in-Some.is (simp (c.wrapped-in-Some.ensures, c.wrapped.ensures))

@@ -1,11 +1,16 @@
-use Rattle.laws.specs.Pick.{pick_true, pick-false}
+use mathlib.Core.Path.{◌≡◌, refl}
+use mathlib.Core.Bool.{Bool, true, false}
+use mir.Val.{bool_byte}
+use Rattle.laws.specs.Pick.{pick}
 use Rattle.counters.specs.Counters.{record_of}
 use Rattle.counters.proofs.record_of.Goals as goal
 
-pub returns-then-settled : goal.returns-then-settled
-unfolding record_of
-returns-then-settled c = simp (c.if-settled.true, pick_true)
+-- 1 or 0 for a flag
+bit : (b : Bool) → bool_byte b ≡ pick b 1 0
+unfolding pick
+bit true = refl
+bit false = refl
 
 pub returns : goal.returns
 unfolding record_of
-returns c = simp (c.if-settled.false, pick-false)
+returns c = rw (c.from.ensures, bit c.args.settled)

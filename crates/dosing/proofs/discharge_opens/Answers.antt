@@ -3,4 +3,4 @@ use Rattle.dosing.proofs.discharge_opens.Goals as goal
 
 pub returns : goal.returns
 unfolding discharge_opens
-returns c = simp (c.outcome.ensures, c.outputs-g.ensures)
+returns c = c.outcome.ensures

@@ -1,11 +1,8 @@
-use mathlib.Core.Path.{ap, ◌∙◌}
-use Prim.Native.Nat.{ℕ}
-use lib.IntN.{pos}
-use lib.Signed.{le_z}
+use mir.Facts.{to_z-of_z}
 use Rattle.settings.specs.Table.{wf}
 use Rattle.dosing.specs.Rules.{reached_wf}
 use Rattle.dosing.proofs.reached_wf.Goals as goal
 
 pub returns : goal.returns
 unfolding reached_wf wf
-returns c = c.at_least.ensures ∙ ap (λ (n : ℕ). le_z (pos n) c.args.x.v) c.shuts_at-wf.ensures
+returns c = rw (to_z-of_z c.ranges.x, c.saturating_sub.ensures) at c.at_least.ensures

@@ -1,13 +1,17 @@
-use mathlib.Core.Path.{◌≡◌}
-use lib.IntN.{pos}
+use mathlib.Core.Path.{◌≡◌, ap, ◌∙◌}
+use lib.IntN.{ℤ, pos}
 use lib.Signed.{lt_z}
+use mir.Syntax.{w64}
+use mir.Val.{SFits}
+use borrow.Author.Rules.{rules}
 use Rattle.laws.specs.Pick.{pick_true, pick-false, so}
 use Rattle.dosing.specs.Rules.{ready_to_dose}
+use Rattle.dosing.proofs.Laws.{read_as}
 use Rattle.dosing.proofs.ready_to_dose.Goals as goal
 use Rattle.dosing.proofs.ready_to_dose.Goals.{After-below}
 
 below-d : (c : After-below) → c.below.result ≡ lt_z c.args.t.w.v (pos c.args.set.dose)
-below-d c = simp (c.below.ensures, c.widened.ensures)
+below-d c = let wide : SFits w64 c.widened.result = search rules in c.below.ensures ∙ ap (λ (x : ℤ). lt_z x (pos c.args.set.dose)) (read_as c.widened.ensures wide)
 
 pub returns-then-below : goal.returns-then-below
 unfolding ready_to_dose

@@ -1,28 +1,22 @@
-use mathlib.Core.Path.{sym, ap, ◌∙◌}
-use mathlib.Core.Bool.{and-true}
-use borrow.Author.Tests.{le-leb, lt-leb}
-use Rattle.journal.specs.Line.{in_range, within, most_of_d, most_of_h}
+use mathlib.Core.Path.{◌≡◌, refl, sym, ap, ◌∙◌}
+use lib.Dec.{leb}
+use mathlib.Core.Bool.{Bool, true, false, ◌&&◌, and-true}
+use Rattle.journal.specs.Line.{in_range, within, product_most, most_of_d, most_of_h}
 use Rattle.entry.proofs.in_range.Goals as goal
 
-pub returns-then-hour-gt-HOUR_MOST : goal.returns-then-hour-gt-HOUR_MOST
-unfolding in_range within most_of_d
-returns-then-hour-gt-HOUR_MOST c = sym (ap (in_range _) c.in-Dose.is ∙ rw (lt-leb _ _ c.if-hour-gt-HOUR_MOST.true))
+-- five tests, from the left and as the fields of a line with its product last
+fields : (h c a s p : Bool) → ((((h && c) && a) && s) && p) ≡ ((h && (c && (a && (s && true)))) && p)
+fields true true true true p = refl
+fields true true true false p = refl
+fields true true false s p = refl
+fields true false a s p = refl
+fields false c a s p = refl
 
-pub returns-then-count-gt-COUNT_MOST : goal.returns-then-count-gt-COUNT_MOST
+pub returns-in-Dose : goal.returns-in-Dose
 unfolding in_range within most_of_d
-returns-then-count-gt-COUNT_MOST c = sym (ap (in_range _) c.in-Dose.is ∙ rw (le-leb _ _ c.if-hour-gt-HOUR_MOST.false, lt-leb _ _ c.if-count-gt-COUNT_MOST.true))
-
-pub returns-then-amount-gt-AMOUNT_MOST : goal.returns-then-amount-gt-AMOUNT_MOST
-unfolding in_range within most_of_d
-returns-then-amount-gt-AMOUNT_MOST c = sym (ap (in_range _) c.in-Dose.is ∙ rw (le-leb _ _ c.if-hour-gt-HOUR_MOST.false, le-leb _ _ c.if-count-gt-COUNT_MOST.false, lt-leb _ _ c.if-amount-gt-AMOUNT_MOST.true))
-
-pub returns-then-settled-gt-SETTLED_MOST : goal.returns-then-settled-gt-SETTLED_MOST
-unfolding in_range within most_of_d
-returns-then-settled-gt-SETTLED_MOST c = sym (ap (in_range _) c.in-Dose.is ∙ rw (le-leb _ _ c.if-hour-gt-HOUR_MOST.false, le-leb _ _ c.if-count-gt-COUNT_MOST.false, le-leb _ _ c.if-amount-gt-AMOUNT_MOST.false, lt-leb _ _ c.if-settled-gt-SETTLED_MOST.true))
-
-pub returns-else-settled-gt-SETTLED_MOST : goal.returns-else-settled-gt-SETTLED_MOST
-unfolding in_range within most_of_d
-returns-else-settled-gt-SETTLED_MOST c = sym (ap (in_range _) c.in-Dose.is ∙ rw (le-leb _ _ c.if-hour-gt-HOUR_MOST.false, le-leb _ _ c.if-count-gt-COUNT_MOST.false, le-leb _ _ c.if-amount-gt-AMOUNT_MOST.false, le-leb _ _ c.if-settled-gt-SETTLED_MOST.false, c.product_most.ensures))
+returns-in-Dose c =
+    let d = c.in-Dose in
+    rw c.product_most.ensures (fields (leb d.hour 9999999) (leb d.count 999999) (leb d.amount 1800000) (leb d.settled 1) (leb d.product (product_most c.args.form)) ∙ sym (ap (in_range _) d.is))
 
 pub returns-in-On : goal.returns-in-On
 unfolding in_range within most_of_h

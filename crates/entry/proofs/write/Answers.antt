@@ -32,7 +32,7 @@ returns c =
     let a = c.args in
     let h : length (text_of a.form a.line) ≤ length a.out.now = omega (arith, c.text_len.ensures, c.if-out-text_len.false) in
     let e = write-fits a.form a.line (length a.out.now) (so c.in_range.ensures (not-false _ c.if-not-in_range.false-raw)) h in
-    let s = c.store_line-written.ensures in
+    let s = c.store_line.ensures in
     record {
       says = ap (λ (n : ℕ). done n) (s.next ∙ zero-add _) ∙ sym (ap (told length) e);
       left = s.left ∙ sets_over a.out.now (text_of a.form a.line) h ∙ sym (ap (λ (w : Answer (List ℕ)). leaves w a.out.now) e);

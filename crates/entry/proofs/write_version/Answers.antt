@@ -34,7 +34,7 @@ returns c =
     let a = c.args in
     let h : 4 ≤ length a.out.now = omega (arith, c.if-out-lt-VERSION_LEN.false) in
     let e = long-enough (length a.out.now) h in
-    let s = c.store_version-written.ensures in
+    let s = c.store_version.ensures in
     record {
       says = ap (λ (n : ℕ). done n) (s.next ∙ zero-add _) ∙ sym (ap (told length) e);
       left = s.left ∙ sets_over a.out.now version_text (omega (arith, four)) ∙ sym (ap (λ (w : Answer (List ℕ)). leaves w a.out.now) e);

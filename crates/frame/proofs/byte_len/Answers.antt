@@ -6,5 +6,5 @@ use Rattle.frame.proofs.byte_len.Goals as goal
 pub returns-then-b-eq255 : goal.returns-then-b-eq255
 returns-then-b-eq255 c = sym (ap length (sent-FF _ c.if-b-eq255.true))
 
-pub returns : goal.returns
-returns c = sym (ap length (sent-plain _ c.if-b-eq255.false))
+pub returns-else-b-eq255 : goal.returns-else-b-eq255
+returns-else-b-eq255 c = sym (ap length (sent-plain _ c.if-b-eq255.false))

@@ -1,18 +1,23 @@
-use mathlib.Core.Path.{sym}
-use borrow.Author.Tests.{le-ltb, eq-eqb, ne_eqb}
-use Rattle.laws.specs.Pick.{pick_true, pick-false}
-use Rattle.frame.specs.Frame.{extended}
+-- At most the fewest bytes before the check, which then has no place.
+use mathlib.Core.Path.{◌≡◌, ◌∙◌, sym, ap}
+use Prim.Native.Nat.{ℕ, suc, ◌≤◌, ◌<◌}
+use lib.ListN.{length}
+use Rattle.laws.specs.Pick.{pick-map}
+use Rattle.frame.specs.Frame.{fewest, extended}
 use Rattle.frame.specs.Read.{too_short}
-use Rattle.frame.specs.ReadLaws.{short-three}
 use Rattle.frame.proofs.too_short.Goals as goal
+use lib.Dec.{ltb, leb}
+use native.Mathlib.Omega.{arith}
+use native.Mathlib.Decide.{dec_le}
+use borrow.Author.Tests.{le-leb, le-ltb, lt-leb, lt-ltb}
 
-pub returns-then-body-lt3 : goal.returns-then-body-lt3
-returns-then-body-lt3 c = sym (short-three _ c.if-body-lt3.true)
-
-pub returns-then-body-eq0 : goal.returns-then-body-eq0
-unfolding too_short extended
-returns-then-body-eq0 c = simp (eq-eqb _ _ c.if-body-eq0.true, pick_true)
+at-most : (n m : ℕ) → leb n m ≡ ltb n (suc m)
+at-most n m =
+    elim (dec_le n m) [
+      | yes h ↦ le-leb n m h ∙ sym (lt-ltb n (suc m) (omega arith))
+      | no h ↦ let k : m < n = omega arith in lt-leb n m k ∙ sym (le-ltb n (suc m) (omega arith))
+    ]
 
 pub returns : goal.returns
-unfolding too_short extended
-returns c = simp (ne_eqb _ _ c.if-body-eq0.false, pick-false, le-ltb _ _ c.if-body-lt3.false)
+unfolding too_short fewest
+returns c = rw c.fewest.ensures (at-most _ _ ∙ ap (λ (n : ℕ). ltb (length c.args.body.now) n) (pick-map suc (extended c.args.body.now) 5 2))

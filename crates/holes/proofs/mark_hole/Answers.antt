@@ -19,7 +19,7 @@ returns-in_default-before c = ends-told _ _ c.in_default-before.is c.in-Dose.is 
 
 pub returns-then-in_turn : goal.returns-then-in_turn
 returns-then-in_turn c =
-    ends-told _ _ c.in-At.is c.in-Dose.is
+    ends-told _ _ c.in-Some.is c.in-Dose.is
     (ends-turn _ _ _ _ _ _ _ _ _ (so c.in_turn.ensures c.if-in_turn.true))
 
 pub returns-then-hour-first : goal.returns-then-hour-first
@@ -29,7 +29,7 @@ returns-then-hour-first c =
 pub returns : goal.returns
 returns c =
     let line = c.in-Dose.is in
-    let earlier = c.in-At.is in
+    let earlier = c.in-Some.is in
     ends-told _ _ earlier line
     (ends-hole _ _ _ _ _ _ _ _ _ _ (so c.in_turn.ensures c.if-in_turn.false) c.if-hour-first.false
     (placed c.place_of.ensures c.place_of-2.ensures c.mark.ensures))

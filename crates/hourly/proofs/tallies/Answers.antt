@@ -20,8 +20,7 @@ use Rattle.journal.specs.declared.Form.{Form}
 use Rattle.journal.specs.declared.Head.{Head}
 use Rattle.journal.specs.declared.Line.{Line}
 use Rattle.journal.specs.declared.Past.{Past}
-use Rattle.holes.specs.declared.Before.{Before}
-use Rattle.hourly.specs.Promises.{Counts}
+use Rattle.holes.specs.Holes.{Before}
 use Rattle.hourly.specs.declared.Products.{Products}
 use Rattle.hourly.specs.declared.Tally.{Tally}
 use Rattle.hourly.proofs.Passing.{Passed, Turn, passed_none, counts-refused, counts_all, malformed, late, distant, turn}
@@ -75,7 +74,7 @@ turned c st =
 pub returns-then-size-gt-ROOM : goal.returns-then-size-gt-ROOM
 returns-then-size-gt-ROOM c =
     let s = c.args.bytes.now in
-    counts-refused _ s c.refused.result _ c.refused.ensures (journal-long s (omega (arith, c.if-size-gt-ROOM.true)))
+    counts-refused _ s _ (journal-long s (omega (arith, c.if-size-gt-ROOM.true)))
 
 pub lines-init : goal.lines-init
 lines-init c =
@@ -111,15 +110,9 @@ offset_bounds-got-k c = let f = c.fields.invariant in omega (arith, c.fields-tes
 pub bounds-got-k : goal.bounds-got-k
 bounds-got-k c = let f = c.fields.invariant in omega (arith, c.fields-test.true, f.most, f.size)
 
-pub overflow_add-k : goal.overflow_add-k
-overflow_add-k c = let f = c.fields.invariant in omega (arith, c.fields-test.true, f.most)
-
-pub fields-smaller : goal.fields-smaller
-fields-smaller c = omega (arith, c.fields-test.true)
-
 pub fields-preserved : goal.fields-preserved
 unfolding most_of
-fields-preserved c = fielded-more c.fields.invariant c.fields-test.true c.field_at.ensures c.in-Good.is
+fields-preserved c = fielded-more c.fields.invariant c.fields-test.true c.field_at.ensures c.in-Some.is
 
 pub overflow_sub-place : goal.overflow_sub-place
 overflow_sub-place c = omega (arith, (turned (goal.at.overflow_sub-place c).After-past_after-past (stands (goal.at.overflow_sub-place c).After-line_from-line)).low)
@@ -154,37 +147,37 @@ lines-smaller c = let st = stands (goal.at.lines-smaller c).After-line_from-line
 pub lines-preserved : goal.lines-preserved
 lines-preserved c = rw c.with_line.ensures ((turned (goal.at.lines-preserved c).After-past_after-past (stands (goal.at.lines-preserved c).After-line_from-line)).again _ _ c.mark_hole.ensures c.before_next-last.ensures)
 
-pub returns-then-at-size : goal.returns-then-at-size
-returns-then-at-size c = subst (Counts c.args.products c.args.bytes.now) (sym c.accepted.ensures) (counts_all c.lines.invariant (omega (arith, c.if-at-size.true)) _ c.with_holes.ensures)
-
 pub returns-then-fields-eq0 : goal.returns-then-fields-eq0
 returns-then-fields-eq0 c =
     let s = c.args.bytes.now in
-    counts-refused _ s c.refused-then-fields-eq0.result _ c.refused-then-fields-eq0.ensures
+    counts-refused _ s _
     (broken c.head_of-head.result c.head_of-head.ensures c.lines.invariant (omega (arith, c.if-at-size.false))
     (letter-none _ s c.lines.at _ (asked c.args.bytes.now c.head_of-head.result c.lines.at c.fields_after-fields.result c.head_of-head.ensures c.fields_after-fields.ensures) c.if-fields-eq0.true))
 
 pub returns-in_default : goal.returns-in_default
 unfolding most_of
 returns-in_default c =
-    counts-refused _ c.args.bytes.now c.refused-in_default.result _ c.refused-in_default.ensures
+    counts-refused _ c.args.bytes.now _
     (broken c.head_of-head.result c.head_of-head.ensures c.lines.invariant (omega (arith, c.if-at-size.false))
     (fielded-bad c.fields.invariant _ (asked c.args.bytes.now c.head_of-head.result c.lines.at c.fields_after-fields.result c.head_of-head.ensures c.fields_after-fields.ensures) c.fields-test.true c.field_at.ensures c.in_default.is))
 
 pub returns-then-byte_at-ne-LF : goal.returns-then-byte_at-ne-LF
 returns-then-byte_at-ne-LF c =
-    counts-refused _ c.args.bytes.now c.refused-then-byte_at-ne-LF.result _ c.refused-then-byte_at-ne-LF.ensures
+    counts-refused _ c.args.bytes.now _
     (broken c.head_of-head.result c.head_of-head.ensures c.lines.invariant (omega (arith, c.if-at-size.false))
     (fielded-torn c.fields.invariant _ (asked c.args.bytes.now c.head_of-head.result c.lines.at c.fields_after-fields.result c.head_of-head.ensures c.fields_after-fields.ensures) c.fields-test.false (λ e. c.if-byte_at-ne-LF.true (c.byte_at.ensures ∙ e))))
 
 pub returns-then-out_of_order : goal.returns-then-out_of_order
 returns-then-out_of_order c =
-    counts-refused _ c.args.bytes.now c.refused-then-out_of_order.result _ c.refused-then-out_of_order.ensures
+    counts-refused _ c.args.bytes.now _
     (numbered c.args.bytes.now c.head_of-head.result c.lines.lines R11 c.head_of-head.ensures
     (late c.lines.invariant c.line_from-line.result (c.fields.p + 1) (stands (goal.at.returns-then-out_of_order c).After-line_from-line) (order_is c.lines.past c.line_from-line.result c.hour_in-hour.ensures c.out_of_order.ensures true c.if-out_of_order.true)))
 
 pub returns-then-too_far : goal.returns-then-too_far
 returns-then-too_far c =
-    counts-refused _ c.args.bytes.now c.refused-then-too_far.result _ c.refused-then-too_far.ensures
+    counts-refused _ c.args.bytes.now _
     (numbered c.args.bytes.now c.head_of-head.result c.lines.lines R12 c.head_of-head.ensures
     (distant c.lines.invariant c.line_from-line.result (c.fields.p + 1) (stands (goal.at.returns-then-too_far c).After-line_from-line) (order_is c.lines.past c.line_from-line.result c.hour_in-hour.ensures c.out_of_order.ensures false c.if-out_of_order.false) (far-is c.lines.past c.line_from-line.result c.hour_in-hour.ensures c.too_far.ensures true c.if-too_far.true)))
+
+pub returns-then-at-size : goal.returns-then-at-size
+returns-then-at-size c = rw c.accepted.ensures (counts_all c.lines.invariant (omega (arith, c.if-at-size.true)) _ c.with_holes.ensures)

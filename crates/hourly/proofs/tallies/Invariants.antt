@@ -8,9 +8,6 @@ use Rattle.hourly.proofs.tallies.Given as goal
 abbrev pub invariant-fields : goal.invariant-fields
 invariant-fields l = Fielded l.bytes l.at l.fields l.got l.k l.p
 
-abbrev pub decreases-fields : goal.decreases-fields
-decreases-fields l = l.fields - l.k
-
 abbrev pub invariant-lines : goal.invariant-lines
 invariant-lines l = Passed l.products l.bytes l.past l.at l.lines l.table l.holed l.last
 

@@ -4,4 +4,4 @@ use Rattle.hourly.proofs.with_dose.Goals as goal
 
 pub returns : goal.returns
 unfolding with_dose as_f64
-returns c = rw c.larger.ensures
+returns c = rw c.max.ensures

@@ -1,41 +1,29 @@
-use mathlib.Core.Path.{◌≡◌, sym, ◌∙◌}
-use mathlib.Core.Bool.{true, false}
+use mathlib.Core.Path.{◌≡◌, refl, sym, ap, ◌∙◌}
+use mathlib.Core.Bool.{Bool, true, false, and-true}
+use mathlib.Core.List.{List, [], ◌∷◌}
 use Prim.Native.Nat.{ℕ}
 use lib.Dec.{eqb}
 use borrow.Author.Tests.{eq-eqb, ne_eqb}
+use Rattle.std.specs.List.{starts_with}
+use Rattle.std.proofs.lemmas.Bool.{eqb-true, eqb-false}
 use Rattle.journal.specs.Line.{versioned}
 use Rattle.journal.proofs.has_version.Goals as goal
 
--- a byte that was read is the one looked for, or it is not
-is-there : (r x b : ℕ) → r ≡ x → r ≡ b → eqb x b ≡ true
-is-there r x b p q = eq-eqb x b (sym p ∙ q)
+turned : (a b : ℕ) → eqb a b ≡ eqb b a
+turned a b = go (eqb a b) refl
+  where
+    go : (t : Bool) → eqb a b ≡ t → eqb a b ≡ eqb b a
+    go true e = e ∙ sym (eq-eqb b a (sym (eqb-true a b e)))
+    go false e = e ∙ sym (ne_eqb b a (λ q. eqb-false a b e (sym q)))
 
-is-not : (r x b : ℕ) → r ≡ x → (r ≡ b → ⊥) → eqb x b ≡ false
-is-not r x b p n = ne_eqb x b (λ e. n (p ∙ e))
-
-pub returns-then-byte_at-ne-V : goal.returns-then-byte_at-ne-V
+-- the four bytes, one after another; past the end there is none of them
+begins : (s : List ℕ) → starts_with eqb s (86 ∷ 9 ∷ 50 ∷ 10 ∷ []) ≡ versioned s
 unfolding versioned
-returns-then-byte_at-ne-V c = rw (is-not _ _ _ c.byte_at.ensures c.if-byte_at-ne-V.true)
-
-pub returns-then-byte_at-ne-TAB : goal.returns-then-byte_at-ne-TAB
-unfolding versioned
-returns-then-byte_at-ne-TAB c = rw (is-there _ _ _ c.byte_at.ensures c.if-byte_at-ne-V.false, is-not _ _ _ c.byte_at-2.ensures c.if-byte_at-ne-TAB.true)
-
-pub returns-then-byte_at-ne-TWO : goal.returns-then-byte_at-ne-TWO
-unfolding versioned
-returns-then-byte_at-ne-TWO c =
-    rw (
-      is-there _ _ _ c.byte_at.ensures c.if-byte_at-ne-V.false,
-      is-there _ _ _ c.byte_at-2.ensures c.if-byte_at-ne-TAB.false,
-      is-not _ _ _ c.byte_at-3.ensures c.if-byte_at-ne-TWO.true,
-    )
+begins [] = refl
+begins (a ∷ []) = rw (turned 86 a)
+begins (a ∷ b ∷ []) = rw (turned 86 a, turned 9 b)
+begins (a ∷ b ∷ d ∷ []) = rw (turned 86 a, turned 9 b, turned 50 d)
+begins (a ∷ b ∷ d ∷ e ∷ s) = rw (turned 86 a, turned 9 b, turned 50 d, turned 10 e, and-true (eqb e 10))
 
 pub returns : goal.returns
-unfolding versioned
-returns c =
-    rw (
-      is-there _ _ _ c.byte_at.ensures c.if-byte_at-ne-V.false,
-      is-there _ _ _ c.byte_at-2.ensures c.if-byte_at-ne-TAB.false,
-      is-there _ _ _ c.byte_at-3.ensures c.if-byte_at-ne-TWO.false,
-      c.byte_at-4.ensures,
-    )
+returns c = c.starts_with.ensures.value ∙ begins c.args.bytes.now

@@ -6,6 +6,6 @@ pub returns-then-bytes-eq-VERSION_LEN : goal.returns-then-bytes-eq-VERSION_LEN
 unfolding is_version
 returns-then-bytes-eq-VERSION_LEN c = rw (eq-eqb _ _ c.if-bytes-eq-VERSION_LEN.true, c.has_version.ensures)
 
-pub returns : goal.returns
+pub returns-else-bytes-eq-VERSION_LEN : goal.returns-else-bytes-eq-VERSION_LEN
 unfolding is_version
-returns c = rw (ne_eqb _ _ c.if-bytes-eq-VERSION_LEN.false)
+returns-else-bytes-eq-VERSION_LEN c = rw (ne_eqb _ _ c.if-bytes-eq-VERSION_LEN.false)

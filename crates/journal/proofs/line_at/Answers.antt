@@ -31,30 +31,18 @@ overflow_add-p c = let a = c.args in omega (arith, letter-inside a.form a.bytes.
 pub loop-k-init : goal.loop-k-init
 loop-k-init c = let a = c.args in fielded-none a.form a.bytes.now a.at _ _ (asked a.form a.bytes.now a.at c.byte_at.ensures c.fields_after-fields.ensures) c.if-fields-eq0.false refl
 
-pub offset_bounds-k : goal.offset_bounds-k
-offset_bounds-k c = let l = c.loop-k.invariant in omega (arith, c.loop-k-test.true, l.most)
-
 pub returns-in_default : goal.returns-in_default
 unfolding most_of
 returns-in_default c =
     let a = c.args in
     none a.form a.bytes.now a.at (fielded-bad c.loop-k.invariant a.form (asked a.form a.bytes.now a.at c.byte_at.ensures c.fields_after-fields.ensures) c.loop-k-test.true c.field_at.ensures c.in_default.is)
 
-pub offset_bounds-got-k : goal.offset_bounds-got-k
-offset_bounds-got-k c = let l = c.loop-k.invariant in omega (arith, c.loop-k-test.true, l.most, l.size)
-
 pub bounds-got-k : goal.bounds-got-k
 bounds-got-k c = let l = c.loop-k.invariant in omega (arith, c.loop-k-test.true, l.most, l.size)
 
-pub overflow_add-k : goal.overflow_add-k
-overflow_add-k c = let l = c.loop-k.invariant in omega (arith, c.loop-k-test.true, l.most)
-
-pub loop-k-smaller : goal.loop-k-smaller
-loop-k-smaller c = omega (arith, c.loop-k-test.true)
-
 pub loop-k-preserved : goal.loop-k-preserved
 unfolding most_of
-loop-k-preserved c = fielded-more c.loop-k.invariant c.loop-k-test.true c.field_at.ensures c.in-Good.is
+loop-k-preserved c = fielded-more c.loop-k.invariant c.loop-k-test.true c.field_at.ensures c.in-Some.is
 
 pub returns-then-byte_at-ne-LF : goal.returns-then-byte_at-ne-LF
 returns-then-byte_at-ne-LF c =

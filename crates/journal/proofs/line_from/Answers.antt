@@ -11,4 +11,4 @@ returns-then-n-eq1 c = sym (pick-t _ _ _ (eq-eqb _ _ c.if-n-eq1.true))
 
 pub returns : goal.returns
 unfolding line_from
-returns c = rw c.product_from-product.ensures (sym (pick-f _ _ _ (ne_eqb _ _ c.if-n-eq1.false)))
+returns c = rw c.product_from.ensures (sym (pick-f _ _ _ (ne_eqb _ _ c.if-n-eq1.false)))

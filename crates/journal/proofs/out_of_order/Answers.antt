@@ -6,9 +6,6 @@ pub returns-then-past-2 : goal.returns-then-past-2
 unfolding out_of_order pick
 returns-then-past-2 c = rw (c.if-past.true, c.if-past-2.true)
 
-pub returns-then-past : goal.returns-then-past
+pub returns-else-past-2 : goal.returns-else-past-2
 unfolding out_of_order pick
-returns-then-past c = rw (c.if-past.true, c.if-past-2.false)
-
-pub returns : goal.returns
-returns c = rw c.if-past.false
+returns-else-past-2 c = rw (c.if-past.true, c.if-past-2.false)

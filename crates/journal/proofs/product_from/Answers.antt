@@ -6,6 +6,6 @@ pub returns-then-n-eq5 : goal.returns-then-n-eq5
 unfolding product_from
 returns-then-n-eq5 c = search picks
 
-pub returns : goal.returns
+pub returns-else-n-eq5 : goal.returns-else-n-eq5
 unfolding product_from
-returns c = search picks
+returns-else-n-eq5 c = search picks

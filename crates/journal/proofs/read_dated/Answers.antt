@@ -12,7 +12,7 @@ use Rattle.journal.specs.Line.{holds, line_at, line_of, dated, whole, placed}
 use Rattle.journal.specs.Says.{says_at}
 use Rattle.journal.specs.LineLaws.{line-shorter, placed-none, placed-good}
 use Rattle.journal.proofs.read_dated.Goals as goal
-use Rattle.journal.proofs.read_dated.Goals.{In-Line}
+use Rattle.journal.proofs.read_dated.Goals.{In-Some}
 
 -- a line by itself has nothing behind it
 read_more : (f : Form) (s : List ℕ) (k : ℕ) (l : Line) → holds l k ≡ placed (length s) (line_of f s) → k < length s → whole (line_of f s) ≡ refused R10 (1 ∷ [])
@@ -33,22 +33,22 @@ read_all f s k l e h =
     go [] h = refl
     go (b ∷ bs) h = absurd (omega arith)
 
-abbrev S : In-Line → List ℕ
+abbrev S : In-Some → List ℕ
 S c = c.args.bytes.now
 
-abbrev F : In-Line → Form
+abbrev F : In-Some → Form
 F c = c.args.form
 
-abbrev line : In-Line → Line
-line c = c.in-Line.line
+abbrev line : In-Some → Line
+line c = c.in-Some.line
 
-abbrev next : In-Line → ℕ
-next c = c.in-Line.next
+abbrev next : In-Some → ℕ
+next c = c.in-Some.next
 
 -- what the reader at a place answered
-at-line : (c : In-Line) → holds (line c) (next c) ≡ placed (length (S c)) (line_of (F c) (S c))
+at-line : (c : In-Some) → holds (line c) (next c) ≡ placed (length (S c)) (line_of (F c) (S c))
 unfolding line_at
-at-line c = ap says_at (sym c.in-Line.is) ∙ c.line_at.ensures
+at-line c = ap says_at (sym c.in-Some.is) ∙ c.line_at.ensures
 
 pub returns-in_default : goal.returns-in_default
 unfolding whole line_at
@@ -58,7 +58,7 @@ returns-in_default c =
     sym (ap whole (placed-none (length s) (line_of f s) (sym c.line_at.ensures ∙ ap says_at c.in_default.is)))
 
 pub returns-then-next-bytes : goal.returns-then-next-bytes
-returns-then-next-bytes c = sym (read_more (F (goal.at.returns-then-next-bytes c).In-Line) (S (goal.at.returns-then-next-bytes c).In-Line) (next (goal.at.returns-then-next-bytes c).In-Line) (line (goal.at.returns-then-next-bytes c).In-Line) (at-line (goal.at.returns-then-next-bytes c).In-Line) (omega (arith, c.if-next-bytes.true)))
+returns-then-next-bytes c = sym (read_more (F (goal.at.returns-then-next-bytes c).In-Some) (S (goal.at.returns-then-next-bytes c).In-Some) (next (goal.at.returns-then-next-bytes c).In-Some) (line (goal.at.returns-then-next-bytes c).In-Some) (at-line (goal.at.returns-then-next-bytes c).In-Some) (omega (arith, c.if-next-bytes.true)))
 
 pub returns : goal.returns
-returns c = sym (read_all (F (goal.at.returns c).In-Line) (S (goal.at.returns c).In-Line) (next (goal.at.returns c).In-Line) (line (goal.at.returns c).In-Line) (at-line (goal.at.returns c).In-Line) (omega (arith, c.if-next-bytes.false)))
+returns c = sym (read_all (F (goal.at.returns c).In-Some) (S (goal.at.returns c).In-Some) (next (goal.at.returns c).In-Some) (line (goal.at.returns c).In-Some) (at-line (goal.at.returns c).In-Some) (omega (arith, c.if-next-bytes.false)))

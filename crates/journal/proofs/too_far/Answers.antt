@@ -4,6 +4,3 @@ use Rattle.journal.proofs.too_far.Goals as goal
 pub returns-then-past : goal.returns-then-past
 unfolding too_far
 returns-then-past c = rw c.if-past.true
-
-pub returns : goal.returns
-returns c = rw c.if-past.false

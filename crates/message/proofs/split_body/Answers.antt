@@ -26,4 +26,4 @@ pub returns : goal.returns
 unfolding split_of parts_of form_of address_length too_short extended
 returns c =
     let d = (goal.at.returns c).Else-body-lt6 in
-    simp (eq-eqb _ _ d.if-body-ne0.false, pick_true, le-ltb _ _ d.if-body-lt6.false, pick-false, c.serial_of-serial.ensures)
+    simp (eq-eqb _ _ d.if-body-ne0.false, pick_true, le-ltb _ _ d.if-body-lt6.false, pick-false, c.serial_of.ensures)

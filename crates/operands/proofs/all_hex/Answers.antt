@@ -18,4 +18,4 @@ more s at k good a b h inv ea eb e p place =
     omega (arith, inv (and_left good a both) (at + 2 * k) refl, two, ap (standing s) z)
 
 pub loop-k-preserved : goal.loop-k-preserved
-loop-k-preserved c = (omega arith, more _ _ _ _ _ _ (omega arith) c.loop-k.invariant.1 c.is_hex.ensures c.is_hex-in-loop-k.ensures)
+loop-k-preserved c = more _ _ _ _ _ _ (omega arith) c.loop-k.invariant c.is_hex.ensures c.is_hex-in-loop-k.ensures

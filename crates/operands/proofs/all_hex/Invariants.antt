@@ -1,12 +1,9 @@
 -- As long as all were digits, k bytes stand at the place, and the others behind them.
 use mathlib.Core.Path.{◌≡◌}
 use mathlib.Core.Bool.{true}
-use Prim.Native.Nat.{ℕ, ◌+◌, ◌*◌, ◌-◌, ◌≤◌}
+use Prim.Native.Nat.{ℕ, ◌+◌, ◌*◌}
 use Rattle.operands.specs.Bytes.{standing}
 use Rattle.operands.proofs.all_hex.Given as goal
 
 abbrev pub invariant-loop-k : goal.invariant-loop-k
-invariant-loop-k l = (l.k ≤ 4) × (l.good ≡ true → (p : ℕ) → p ≡ l.at + 2 * l.k → standing l.s l.at ≡ l.k + standing l.s p)
-
-abbrev pub decreases-loop-k : goal.decreases-loop-k
-decreases-loop-k l = 4 - l.k
+invariant-loop-k l = l.good ≡ true → (p : ℕ) → p ≡ l.at + 2 * l.k → standing l.s l.at ≡ l.k + standing l.s p

@@ -28,10 +28,10 @@ unticked C.Unknown h = tt
 pub returns-in-Tick : goal.returns-in-Tick
 returns-in-Tick c =
     let fits : SFits w32 c.in-Tick.sample = search rules in
-    made-read c.read-call.ensures c.requires.room c.requires.line (made-ticked _ c.tick-ticked.result c.in-Tick.is (to_z-of_z fits) c.tick-ticked.ensures)
+    made-read c.read-call.ensures c.requires.room c.requires.line (made-ticked _ c.tick.result c.in-Tick.is (to_z-of_z fits) c.tick.ensures)
 
 pub returns : goal.returns
 returns c =
     let read = c.read-call in
     let heard = heard-as _ read.result (unticked read.result c.in_default.not-Tick) read.ensures.within in
-    made-read read.ensures c.requires.room c.requires.line (subst (λ (q : Parsed Call). Made c.args.c q c.other-acted.result.next) heard c.other-acted.ensures.made)
+    made-read read.ensures c.requires.room c.requires.line (subst (λ (q : Parsed Call). Made c.args.c q c.other.result.next) heard c.other.ensures.made)

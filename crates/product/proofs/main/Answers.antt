@@ -1,5 +1,7 @@
-use mathlib.Core.Path.{sym}
-use lib.Seq.{length-take-le}
+use mathlib.Core.Path.{◌≡◌}
+use native.Mathlib.Omega.{arith}
+use borrow.Author.Rules.{rules}
+use lib.ListN.{length}
 use Rattle.report.specs.Promises.{holds-inside}
 use Rattle.heading.specs.Heading.{heading-inside}
 use Rattle.product.proofs.main.Goals as goal
@@ -7,10 +9,8 @@ use Rattle.product.proofs.main.Goals as goal
 pub choice_in-choice-requires : goal.choice_in-choice-requires
 choice_in-choice-requires c = heading-inside _ _ c.read_heading-headed.ensures
 
-pub slice_bounds-out-end : goal.slice_bounds-out-end
-slice_bounds-out-end c = holds-inside _ c.report-made.result c.report-made.ensures.holds
-
-pub slice_bounds-write_all-end : goal.slice_bounds-write_all-end
-slice_bounds-write_all-end c =
-    let r = c.report-made in
-    sym (length-take-le r.result.len r.result.bytes (holds-inside _ r.result r.ensures.holds))
+pub shared_ref_as_front-write_all : goal.shared_ref_as_front-write_all
+shared_ref_as_front-write_all c =
+    let r = c.report-out in
+    let size : length r.result.bytes ≡ 33480 = search rules in
+    omega (arith, size, holds-inside _ r.result r.ensures.holds)

@@ -1,9 +1,10 @@
 -- A weight that can be written is shown, and its field is written.
-use mathlib.Core.Path.{◌≡◌, ap, ◌∙◌}
+use mathlib.Core.Path.{◌≡◌, ap, sym, ◌∙◌}
 use mathlib.Core.Bool.{true}
 use Rattle.paper.specs.Answer.{done}
 use Rattle.paper.specs.AnswerLaws.{refused-done}
 use Rattle.field.specs.Field.{writable, field_of, write_of}
+use Rattle.field.specs.Says.{says-err}
 use Rattle.field.specs.declared.Field.{Field}
 use Rattle.field.specs.declared.Weight.{Weight}
 use Rattle.asking.specs.declared.Reply.TheVariants as R
@@ -23,10 +24,10 @@ shown v w f p e =
     rw (weight-in v p.0, same)
 
 pub returns-in_default : goal.returns-in_default
-returns-in_default c = no-weight _ c.in_default.ensures
+returns-in_default c = no-weight _ (sym (says-err _) ∙ c.in_default.ensures)
 
 pub returns-in_default-write : goal.returns-in_default-write
-returns-in_default-write c = refused-done (c.in_default-write.ensures ∙ given _ _ (is-writable _ c.in-Weight.v c.in-Weight.ensures))
+returns-in_default-write c = refused-done (sym (says-err _) ∙ c.in_default-write.ensures ∙ given _ _ (is-writable _ c.in-Ok.v c.in-Ok.ensures))
 
 pub returns : goal.returns
-returns c = shown _ _ c.in-Bytes.f (is-writable _ c.in-Weight.v c.in-Weight.ensures) c.in-Bytes.ensures
+returns c = shown _ _ c.in-Ok-write.f (is-writable _ c.in-Ok.v c.in-Ok.ensures) c.in-Ok-write.ensures

@@ -19,15 +19,15 @@ returns-in-Coarse c = rw c.in-Coarse.is
 
 pub returns-in-Fine : goal.returns-in-Fine
 unfolding phase_cause settling_or lead_or name_of wc wf
-returns-in-Fine c = c.at_wc.ensures ∙ rw (c.shuts_at-wc.ensures, c.in-Fine.is)
+returns-in-Fine c = c.at_wc.ensures ∙ rw (c.saturating_sub-wc.ensures, c.in-Fine.is)
 
 pub returns-in-Hold : goal.returns-in-Hold
 unfolding phase_cause settling_or lead_or name_of wc wf
-returns-in-Hold c = c.at_wf.ensures ∙ rw (c.shuts_at-wf.ensures, c.in-Hold.is)
+returns-in-Hold c = c.at_wf.ensures ∙ rw (c.saturating_sub-wf.ensures, c.in-Hold.is)
 
 pub returns-in-Settle : goal.returns-in-Settle
 unfolding phase_cause settling_or lead_or name_of wc wf
-returns-in-Settle c = c.in_settle.ensures ∙ rw (c.shuts_at-wf.ensures, c.in-Settle.is)
+returns-in-Settle c = c.in_settle.ensures ∙ rw (c.saturating_sub-wf.ensures, c.in-Settle.is)
 
 pub returns-in-Discharge : goal.returns-in-Discharge
 unfolding phase_cause settling_or lead_or name_of wc wf
@@ -48,9 +48,9 @@ returns-in-DoseCoarse c = rw c.in-DoseCoarse.is
 pub returns-in-DoseFine : goal.returns-in-DoseFine
 unfolding phase_cause settling_or lead_or name_of wc wf
 returns-in-DoseFine c =
-    c.at_wc-in-DoseFine.ensures ∙ rw (c.minus.ensures, c.shuts_at-wc.ensures, c.in-DoseFine.is)
+    c.at_wc-in-DoseFine.ensures ∙ rw (c.minus.ensures, c.saturating_sub-wc.ensures, c.in-DoseFine.is)
 
 pub returns-in-DoseSettle : goal.returns-in-DoseSettle
 unfolding phase_cause settling_or lead_or name_of wc wf
 returns-in-DoseSettle c =
-    c.at_wf-in-DoseSettle.ensures ∙ rw (c.minus-in-DoseSettle.ensures, c.shuts_at-wf.ensures, c.in-DoseSettle.is)
+    c.at_wf-in-DoseSettle.ensures ∙ rw (c.minus-in-DoseSettle.ensures, c.saturating_sub-wf.ensures, c.in-DoseSettle.is)

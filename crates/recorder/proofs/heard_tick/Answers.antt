@@ -1,21 +1,14 @@
-use mathlib.Core.Path.{sym, ap, ◌∙◌}
-use Rattle.controller.specs.declared.TickAnswer.{TickAnswer}
-use Rattle.controller.specs.Says.{says_tick}
-use Rattle.recorder.specs.Recording.{heard_doses, heard_tick}
-use Rattle.recorder.proofs.Listening.{fault-heard}
+use Rattle.recorder.proofs.Listening.{heard-none, heard-dose, heard-fault, heard-r1}
 use Rattle.recorder.proofs.heard_tick.Goals as goal
 
-pub returns-in-Outputs : goal.returns-in-Outputs
-unfolding heard_tick heard_doses
-returns-in-Outputs c = sym (ap (λ (a : TickAnswer). heard_tick (says_tick a)) c.in-Outputs.is)
+pub returns-in-None : goal.returns-in-None
+returns-in-None c = heard-none _ _ c.in-Ok.is c.in-None.is
 
-pub returns-in-Dose : goal.returns-in-Dose
-unfolding heard_tick heard_doses
-returns-in-Dose c = sym (ap (λ (a : TickAnswer). heard_tick (says_tick a)) c.in-Dose.is)
+pub returns-in-Some : goal.returns-in-Some
+returns-in-Some c = heard-dose _ _ _ c.in-Ok.is c.in-Some.is
 
 pub returns-in-Fault : goal.returns-in-Fault
-returns-in-Fault c = sym (ap (λ (a : TickAnswer). heard_tick (says_tick a)) c.in-Fault.is ∙ fault-heard c.in-Fault.field-0)
+returns-in-Fault c = heard-fault _ _ _ c.in-Err.is c.in-Fault.is
 
 pub returns-in-R1 : goal.returns-in-R1
-unfolding heard_tick
-returns-in-R1 c = sym (ap (λ (a : TickAnswer). heard_tick (says_tick a)) c.in-R1.is)
+returns-in-R1 c = heard-r1 _ _ c.in-Err.is c.in-R1.is

@@ -1,10 +1,12 @@
-use mathlib.Core.Path.{refl, sym, ap, ◌∙◌}
+use mathlib.Core.Path.{◌≡◌, refl, sym, ap, ◌∙◌}
 use mathlib.Core.List.{List, ◌++◌}
 use Prim.Native.Nat.{ℕ, ◌+◌}
 use native.Mathlib.Omega.{arith}
 use lib.Dec.{ltb}
 use lib.ListN.{take, drop, length-drop}
 use lib.Seq.{length-take-le, take-add}
+use Rattle.std.specs.Prelude.{Option}
+use Rattle.std.specs.Bool.{then_some}
 use Rattle.lines.specs.declared.Intake.{Intake}
 use Rattle.lines.specs.Places.{Carries, carry-inside}
 use Rattle.lines.specs.Intake.{pending, carry-pending}
@@ -12,13 +14,15 @@ use Rattle.refill.specs.Refills.{Keeps, Refills}
 use Rattle.refill.proofs.refill.Goals as goal
 
 -- n bytes were read behind those that were carried to the start
-refills : (i : Intake) (old mid new : List ℕ) (held n : ℕ) → Carries i.at i.have old mid held → Keeps held mid new n
-    → Refills i old new (record { intake = record { at = 0; have = held + n; long = i.long }; more = ltb 0 n })
+refills : {i : Intake} {old mid new : List ℕ} {held n : ℕ} {r : Option Intake} → Carries i.at i.have old mid held → Keeps held mid new n
+    → r ≡ then_some (ltb 0 n) (record { at = 0; have = held + n; long = i.long }) → Refills i old new r
 unfolding pending
-refills i old mid new held n p k = record {
+refills {i} {old} {mid} {new} {held} {n} p k e = record {
   got = take n (drop held new);
+  held = record { at = 0; have = held + n; long = i.long };
+  at = refl;
   brought = take-add held n new ∙ ap (λ (l : List ℕ). l ++ take n (drop held new)) (k.first ∙ carry-pending i p);
-  more = ap (ltb 0) (sym (length-take-le n (drop held new) (omega (arith, k.within, length-drop held new))));
+  more = e ∙ ap (λ (m : ℕ). then_some (ltb 0 m) (record { at = 0; have = held + n; long = i.long })) (sym (length-take-le n (drop held new) (omega (arith, k.within, length-drop held new))));
   long = refl;
   within = k.within;
 }
@@ -27,4 +31,4 @@ pub read_behind-n-requires : goal.read_behind-n-requires
 read_behind-n-requires c = omega (arith, carry-inside c.carry-held.ensures)
 
 pub returns : goal.returns
-returns c = refills _ _ _ _ _ _ c.carry-held.ensures c.read_behind-n.ensures
+returns c = refills c.carry-held.ensures c.read_behind-n.ensures c.then_some.ensures

@@ -1,12 +1,12 @@
-use mathlib.Core.Path.{sym}
-use lib.Seq.{length-take-le}
-use Rattle.archive.specs.Promises.{holds-inside}
+use mathlib.Core.Path.{◌≡◌}
+use native.Mathlib.Omega.{arith}
+use borrow.Author.Rules.{rules}
+use lib.ListN.{length}
+use Rattle.report.specs.Promises.{holds-inside}
 use Rattle.renew.proofs.main.Goals as goal
 
-pub slice_bounds-out-end : goal.slice_bounds-out-end
-slice_bounds-out-end c = holds-inside _ c.renewed-made.result c.renewed-made.ensures.holds
-
-pub slice_bounds-write_all-end : goal.slice_bounds-write_all-end
-slice_bounds-write_all-end c =
+pub shared_ref_as_front-write_all : goal.shared_ref_as_front-write_all
+shared_ref_as_front-write_all c =
     let r = c.renewed-made in
-    sym (length-take-le r.result.len r.result.bytes (holds-inside _ r.result r.ensures.holds))
+    let size : length r.result.bytes ≡ 65536 = search rules in
+    omega (arith, size, holds-inside _ r.result r.ensures.holds)

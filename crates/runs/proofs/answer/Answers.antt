@@ -2,6 +2,7 @@ use mathlib.Core.Path.{◌≡◌, refl, sym, ap, ◌∙◌, subst}
 use mathlib.Core.List.{List}
 use Prim.Native.Nat.{ℕ, ◌-◌, ◌≤◌}
 use native.Mathlib.Omega.{arith}
+use Rattle.std.specs.Prelude.{Some}
 use lib.ListN.{length, take, drop}
 use lib.Seq.{length-take-le}
 use Rattle.controller.specs.declared.Controller.{Controller}
@@ -12,7 +13,6 @@ use Rattle.calls.specs.declared.Call.TheVariants as C
 use Rattle.calls.specs.Reads.{as_call, Unticked, Within, ReadsCall, read-call}
 use Rattle.lines.specs.declared.Intake.{Intake}
 use Rattle.lines.specs.declared.Taken.{Taken}
-use Rattle.lines.specs.declared.Next.TheVariants.{Line}
 use Rattle.lines.specs.Intake.{next_of}
 use Rattle.lines.specs.Places.{part_of}
 use Rattle.script.specs.Told.{no-tick}
@@ -38,7 +38,7 @@ roomy e w = subst Within e w
 
 -- the lines behind it find that controller
 step : (input : List ℕ) (held : Intake) (t : Taken) → t ≡ next_of held input → {first c d : Controller} {start : Intake} {from to : ℕ} {call : read.Call} {old new : List ℕ}
-    → Brings first start input c held → t.next ≡ Line from to → ReadsCall (take (to - from) (drop from input)) old new call → 2048 ≤ length old → Made c (as_call new call) d → Brings first start input d t.intake
+    → Brings first start input c held → t.next ≡ Some (from, to) → ReadsCall (take (to - from) (drop from input)) old new call → 2048 ≤ length old → Made c (as_call new call) d → Brings first start input d t.intake
 step input held t e g n r h m = brings-line input held t e g n (made-read r h (line-short input held t e n) m)
 
 -- no tick and no line request: it is answered as it is
@@ -55,13 +55,13 @@ answered-as s C.Unknown h u w = refl
 -- ---- the line that was found, and a line request's bytes and reply
 
 pub slice_bounds-read-count : goal.slice_bounds-read-count
-slice_bounds-read-count c = (line-behind _ _ _ c.next_line-taken.ensures c.in-Line.is).order
+slice_bounds-read-count c = (line-behind _ _ _ c.next_line-taken.ensures c.in-Some.is).order
 
 pub slice_bounds-read-start : goal.slice_bounds-read-start
-slice_bounds-read-start c = (line-behind _ _ _ c.next_line-taken.ensures c.in-Line.is).order
+slice_bounds-read-start c = (line-behind _ _ _ c.next_line-taken.ensures c.in-Some.is).order
 
 pub slice_bounds-read-end : goal.slice_bounds-read-end
-slice_bounds-read-end c = let b = line-behind _ _ _ c.next_line-taken.ensures c.in-Line.is in omega (arith, b.inside)
+slice_bounds-read-end c = let b = line-behind _ _ _ c.next_line-taken.ensures c.in-Some.is in omega (arith, b.inside)
 
 pub slice_bounds-request-end : goal.slice_bounds-request-end
 slice_bounds-request-end c = omega (arith, (roomy c.in-Request.is c.read-call.ensures.within).0, c.read-call.auto.bytes, c.loop-from.auto.bytes, c.if-bytes-lt-BYTES.false)
@@ -78,18 +78,18 @@ slice_bounds-request-end-in-loop-from-2 c = let whole : 64 ≡ length c.loop-fro
 
 pub loop-from-smaller : goal.loop-from-smaller
 loop-from-smaller c =
-    let b = line-behind _ _ _ c.next_line-taken.ensures c.in-Line.is in
+    let b = line-behind _ _ _ c.next_line-taken.ensures c.in-Some.is in
     omega (arith, b.place, b.ahead, b.inside, c.ticks-reached.ensures.less)
 
 pub loop-from-preserved : goal.loop-from-preserved
 loop-from-preserved c =
     let inv = c.loop-from.invariant in
     let next = c.next_line-taken.ensures in
-    let b = line-behind _ _ _ next c.in-Line.is in
+    let b = line-behind _ _ _ next c.in-Some.is in
     let ticked = brings-then inv.0 c.ticks-reached.ensures.brings in
     let whole : 64 ≡ length c.loop-from.reply = search rules in
     let room : c.in-Request.room ≤ length c.lend.new.spare = omega (arith, whole, (roomy c.in-Request.is c.read-call.ensures.within).1, c.lend.auto.spare) in (
-      step _ _ _ next ticked c.in-Line.is c.read-call.ensures (omega (arith, c.loop-from.auto.bytes, c.if-bytes-lt-BYTES.false))
+      step _ _ _ next ticked c.in-Some.is c.read-call.ensures (omega (arith, c.loop-from.auto.bytes, c.if-bytes-lt-BYTES.false))
           (asked _ c.request-asked.result c.in-Request.is (length-take-le _ _ room) c.request-asked.ensures),
       omega (arith, inv.1, b.place, b.ahead, b.inside, c.ticks-reached.ensures.less),
     )
@@ -115,7 +115,7 @@ returns-in_default-call c =
     let inv = c.loop-from.invariant in
     let ticks = c.ticks-reached in
     let read = c.read-call in
-    let line = c.in-Line.is in
+    let line = c.in-Some.is in
     let next = c.next_line-taken.ensures in
     let b = line-behind _ _ _ next line in
     let ticked = brings-then inv.0 ticks.ensures.brings in

@@ -9,4 +9,4 @@ use Rattle.scale.proofs.mean_lent.Goals as goal
 
 pub returns : goal.returns
 unfolding filtered_lent
-returns c = let f : SFits w32 c.mean_of-v.result = search rules in ap units (to_z-of_z f ∙ c.mean_of-v.ensures)
+returns c = let f : SFits w32 c.mean_of.result = search rules in ap units (to_z-of_z f ∙ c.mean_of.ensures)

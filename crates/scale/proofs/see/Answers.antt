@@ -3,4 +3,4 @@ use Rattle.scale.proofs.see.Goals as goal
 
 pub returns : goal.returns
 unfolding seen_by
-returns c = rw (c.stable_of-stable.ensures, c.narrow_net-w.ensures)
+returns c = rw (c.stable_of.ensures, c.narrow_net.ensures)

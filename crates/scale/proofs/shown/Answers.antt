@@ -1,39 +1,21 @@
-use mathlib.Core.Path.{◌≡◌}
-use mathlib.Core.Bool.{true, false}
-use Prim.Native.Nat.{◌≤◌}
-use lib.IntN.{nat_abs}
-use mir.Syntax.{w64}
+use mathlib.Core.Path.{sym, ◌∙◌}
+use borrow.Author.Rules.{rules}
+use mir.Syntax.{w32}
 use mir.Val.{SFits}
 use mir.Facts.{to_z-of_z}
-use borrow.Author.Rules.{rules}
-use Rattle.scale.proofs.Laws.{beyond, beyond-size, six-digits, narrow-fits, narrow-is, too-great, no-point, shows}
+use Rattle.scale.proofs.Laws.{six-ok, six-err, weighed-err, too-great, no-point, shows}
 use Rattle.scale.proofs.shown.Goals as goal
-use Rattle.scale.proofs.shown.Goals.{After-struct_told-1}
 
-told : (c : After-struct_told-1) → SFits w64 c.args.w.v
-told c = search rules
-
-pub returns-then-v : goal.returns-then-v
-returns-then-v c =
-    let t = (goal.at.returns-then-v c).After-struct_told-1 in
-    let w = t.args.w.v in
-    let h : beyond w ≡ true = rw (to_z-of_z (told t)) at c.if-v.true in
-    too-great _ (beyond-size w h)
+pub returns-in_err-value : goal.returns-in_err-value
+returns-in_err-value c =
+    weighed-err _ c.from_residual.ensures.0
+    ∙ too-great _ (six-err c.args.w.v c.six_digits.ensures (sym c.ok_or.ensures.value ∙ c.in_err-value.was))
 
 pub returns-then-point-gt-POINT_MOST : goal.returns-then-point-gt-POINT_MOST
 returns-then-point-gt-POINT_MOST c = no-point _ c.if-point-gt-POINT_MOST.true
 
-pub overflow_cast-result : goal.overflow_cast-result
-overflow_cast-result c =
-    let t = (goal.at.overflow_cast-result c).After-struct_told-1 in
-    let w = t.args.w.v in
-    let h : beyond w ≡ false = rw (to_z-of_z (told t)) at c.if-v.false in
-    narrow-fits (told t) (six-digits w h)
-
 pub returns : goal.returns
 returns c =
-    let t = (goal.at.returns c).After-struct_told-1 in
-    let w = t.args.w.v in
-    let h : beyond w ≡ false = rw (to_z-of_z (told t)) at c.if-v.false in
-    let small : nat_abs w ≤ 999999 = six-digits w h in
-    rw (narrow-is (told t) small) (shows _ small c.if-point-gt-POINT_MOST.false)
+    let f : SFits w32 c.in_ok-value.value = search rules in
+    let p = six-ok c.args.w.v c.six_digits.ensures (sym c.ok_or.ensures.value ∙ c.in_ok-value.was) in
+    rw (to_z-of_z f, p.1) (shows _ p.0 c.if-point-gt-POINT_MOST.false)

@@ -17,4 +17,4 @@ returns c =
     let a = c.args in
     let mean = c.mean_lent-f.ensures ∙ ap units (as-filtered _ _ _) in
     c.shown-2.ensures
-    ∙ ap showable (weighed a.set (as_window a.samples.now a.held) a.z a.s a.n (so c.holds_none.ensures c.if-holds_none.false) mean c.net-w.ensures c.stable_of-stable.ensures c.over_capacity-over.ensures)
+    ∙ ap showable (weighed a.set (as_window a.samples.now a.held) a.z a.s a.n (so c.holds_none.ensures c.if-holds_none.false) mean c.net.ensures c.stable_of.ensures c.over_capacity.ensures)

@@ -1,7 +1,6 @@
-use mathlib.Core.Path.{refl}
 use Rattle.setup.specs.Setup.{taken}
 use Rattle.setup.proofs.taken.Goals as goal
 
 pub returns : goal.returns
 unfolding taken
-returns c = (simp c.new-emptied.ensures, refl)
+returns c = simp c.new-c.ensures

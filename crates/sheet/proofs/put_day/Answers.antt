@@ -4,7 +4,7 @@ use Rattle.sheet.proofs.put_day.Goals as goal
 pub returns : goal.returns
 returns c =
     let a = c.args in
-    day-put a.d _ a.day c.letter_of-letter.ensures c.requires
+    day-put a.d _ a.day c.letter_of.ensures c.requires
     c.put_decimal-p.ensures
     c.put_byte-p.ensures
     c.put_byte-p-2.ensures

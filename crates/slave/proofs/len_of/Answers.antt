@@ -1,15 +1,15 @@
-use mathlib.Core.Path.{sym, ap}
+use mathlib.Core.Path.{◌≡◌, refl, ◌∙◌}
+use Prim.Native.Nat.{ℕ}
+use Rattle.std.specs.Prelude.{Result, Ok, Err}
+use Rattle.std.specs.Result.{result_unwrap_or}
+use Rattle.panel.specs.declared.PollError.{PollError}
 use Rattle.slave.specs.Serves.{len_of}
 use Rattle.slave.proofs.len_of.Goals as goal
 
-pub returns-in-Sent : goal.returns-in-Sent
+none-or-len : (a : Result ℕ PollError) → result_unwrap_or a 0 ≡ len_of a
 unfolding len_of
-returns-in-Sent c = sym (ap len_of c.in-Sent.is)
+none-or-len (Ok len) = refl
+none-or-len (Err error) = refl
 
-pub returns-in-R17 : goal.returns-in-R17
-unfolding len_of
-returns-in-R17 c = sym (ap len_of c.in-R17.is)
-
-pub returns-in-R8 : goal.returns-in-R8
-unfolding len_of
-returns-in-R8 c = sym (ap len_of c.in-R8.is)
+pub returns : goal.returns
+returns c = c.unwrap_or.ensures ∙ none-or-len c.args.answer

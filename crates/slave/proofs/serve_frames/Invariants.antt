@@ -1,8 +1,5 @@
 use Rattle.controller.specs.Sound.{Sound}
 use Rattle.slave.proofs.serve_frames.Given as goal
 
-abbrev pub invariant-loop-reads : goal.invariant-loop-reads
-invariant-loop-reads l = Sound l.c
-
-abbrev pub decreases-loop-reads : goal.decreases-loop-reads
-decreases-loop-reads l = l.reads
+abbrev pub invariant-loop : goal.invariant-loop
+invariant-loop l = Sound l.c

@@ -1,10 +1,6 @@
-use Prim.Native.Nat.{◌-◌}
 use Rattle.weekly.proofs.Filled.{Mapped}
 use Rattle.weekly.proofs.Passed.{day_in}
 use Rattle.weekly.proofs.days_from.Given as goal
 
 abbrev pub invariant-loop-d : goal.invariant-loop-d
 invariant-loop-d l = Mapped day_in l.week 7 l.d l.days
-
-abbrev pub decreases-loop-d : goal.decreases-loop-d
-decreases-loop-d l = 7 - l.d

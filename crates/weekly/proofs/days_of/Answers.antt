@@ -1,20 +1,20 @@
-use mathlib.Core.Path.{ap, sym, ◌∙◌}
-use native.Mathlib.Omega.{arith}
-use Rattle.hourly.specs.Says.{says_judged}
-use Rattle.hourly.specs.TallyLaws.{Found, found_of, found-accepted, counts-tell}
-use Rattle.weekly.proofs.Made.{sums-whole, days-made, days-refused}
+use Rattle.std.proofs.Common.{◌≡◌, List, rules, ap, sym, ◌∙◌, subst}
+use Rattle.std.specs.Prelude.{Result, Err}
+use Rattle.paper.specs.Answer.{done}
+use Rattle.weekly.specs.Promises.{MakesDays}
+use Rattle.weekly.specs.declared.WeekError.{WeekError}
+use Rattle.weekly.specs.declared.Day.{Day}
+use Rattle.weekly.proofs.Made.{week-holds, days-refused}
 use Rattle.weekly.proofs.days_of.Goals as goal
-use Rattle.weekly.proofs.days_of.Goals.{In-Lines}
 
--- the journal is accepted
-found : (c : In-Lines) → Found c.args.bytes.now c.in-Lines.found
-found c = found_of c.args.bytes.now c.in-Lines.found (sym c.tallies-counted.ensures.judged ∙ ap says_judged c.in-Lines.is)
+pub returns-in_err-week : goal.returns-in_err-week
+returns-in_err-week c =
+    let a = c.args in
+    let e : c.from_residual.result ≡ Err c.in_err-week.field-0.0 = search rules in
+    subst (λ (r : Result (List Day) WeekError). MakesDays a.bytes.now a.first r) (sym e) (days-refused _ _ _ c.in_err-week.ensures)
 
-pub days_at-requires : goal.days_at-requires
-days_at-requires c = let f = found c in record { span = omega (arith, f.first, f.last, (found-accepted f).span); whole = sums-whole f (counts-tell f c.tallies-counted.ensures) }
+pub days_from-requires : goal.days_from-requires
+days_from-requires c = (week-holds _ _ _ c.in_ok-week.ensures).whole
 
-pub returns-in-Lines : goal.returns-in-Lines
-returns-in-Lines c = let f = found (goal.at.returns-in-Lines c).In-Lines in days-made f (counts-tell f c.tallies-counted.ensures) _ c.days_at.ensures
-
-pub returns-in-Refused : goal.returns-in-Refused
-returns-in-Refused c = days-refused _ _ _ _ (sym (ap says_judged c.in-Refused.is) ∙ c.tallies-counted.ensures.judged) c.no_days.ensures
+pub returns : goal.returns
+returns c = ap (λ (ds : List Day). done ds) c.days_from.ensures ∙ (week-holds _ _ _ c.in_ok-week.ensures).days

@@ -1,14 +1,11 @@
-use borrow.Author.Rules.{rules}
+use Rattle.std.proofs.Common.{ap, sym}
 use Rattle.weekly.specs.Says.{hours_in}
-use Rattle.weekly.proofs.Filled.{mapped-none, mapped-more, mapped-all}
 use Rattle.weekly.proofs.hours_in.Goals as goal
 
-pub loop-d-init : goal.loop-d-init
-loop-d-init c = mapped-none _ _ 7 _ (search rules) (search rules)
-
-pub loop-d-preserved : goal.loop-d-preserved
-loop-d-preserved c = mapped-more _ _ 7 _ _ _ _ c.loop-d.invariant (search rules) c.row_in.ensures
-
-pub returns : goal.returns
+pub returns-in-Ok : goal.returns-in-Ok
 unfolding hours_in
-returns c = mapped-all _ _ 7 _ _ c.loop-d.invariant c.loop-d-test.false
+returns-in-Ok c = ap hours_in (sym c.in-Ok.is)
+
+pub returns-in-Err : goal.returns-in-Err
+unfolding hours_in
+returns-in-Err c = ap hours_in (sym c.in-Err.is)

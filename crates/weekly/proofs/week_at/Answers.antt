@@ -1,4 +1,4 @@
-use borrow.Author.Rules.{rules}
+use Rattle.std.proofs.Common.{rules, arith}
 use Rattle.weekly.specs.Week.{week_by}
 use Rattle.weekly.specs.Says.{says_hours}
 use Rattle.weekly.proofs.Filled.{filled_none, filled_more, filled-all}
@@ -8,8 +8,8 @@ pub loop-d-init : goal.loop-d-init
 loop-d-init c = filled_none _ _ 7 _ (search rules)
 
 pub loop-d-preserved : goal.loop-d-preserved
-loop-d-preserved c = filled_more _ _ 7 _ _ _ c.loop-d.invariant (search rules) c.row_at.ensures
+loop-d-preserved c = filled_more _ _ 7 _ _ _ c.loop-d.invariant (omega arith) c.row_at.ensures
 
 pub returns : goal.returns
 unfolding week_by says_hours
-returns c = filled-all _ _ 7 _ _ c.loop-d.invariant c.loop-d-test.false
+returns c = filled-all _ _ 7 _ _ c.loop-d.invariant (omega arith)

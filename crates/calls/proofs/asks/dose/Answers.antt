@@ -3,23 +3,23 @@ use native.Mathlib.Omega.{arith}
 use Rattle.calls.specs.Call.{dose_at}
 use Rattle.calls.specs.Reads.{as_call, size_of, Within}
 use Rattle.operands.specs.Parsing.{on-good, on-bad, num}
-use Rattle.calls.proofs.Steps.{row, no_row, unasked, asked}
+use Rattle.calls.proofs.Steps.{row, passed, asked}
 use Rattle.calls.proofs.asks.dose.Goals as goal
 
 pub returns : goal.returns
 unfolding dose_at as_call size_of Within
 returns c =
-    let room = num c.field_at.ensures c.in-Good.is in
+    let room = num c.field_at.ensures c.in_ok-room.was in
     asked c.ended.ensures
-    (on-good _ (row c.numbers_at-numbers.ensures c.if-not-numbers.false) ∙ on-good _ room)
+    (on-good _ (row c.numbers_at.ensures c.in_ok-v.was) ∙ on-good _ room)
     refl
     (omega arith)
     tt
 
-pub returns-then-not-numbers : goal.returns-then-not-numbers
+pub returns-in_err-v : goal.returns-in_err-v
 unfolding dose_at
-returns-then-not-numbers c = unasked (on-bad _ (no_row c.numbers_at-numbers.ensures c.if-not-numbers.true))
+returns-in_err-v c = passed c.from_residual.ensures (on-bad _ (row c.numbers_at.ensures c.in_err-v.was))
 
-pub returns-in_default : goal.returns-in_default
+pub returns-in_err-room : goal.returns-in_err-room
 unfolding dose_at
-returns-in_default c = unasked (on-good _ (row c.numbers_at-numbers.ensures c.if-not-numbers.false) ∙ on-bad _ (num c.field_at.ensures c.in_default.is))
+returns-in_err-room c = passed c.from_residual-in_err-room.ensures (on-good _ (row c.numbers_at.ensures c.in_ok-v.was) ∙ on-bad _ (num c.field_at.ensures c.in_err-room.was))

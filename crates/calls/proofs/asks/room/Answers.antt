@@ -4,38 +4,34 @@ use Prim.Native.Nat.{ℕ}
 use native.Mathlib.Omega.{arith}
 use Rattle.operands.specs.Parsing.{on-good, on-bad, good-as, num, field-most}
 use Rattle.calls.specs.Call.{room_at}
-use Rattle.calls.specs.Reading.{room_call}
-use Rattle.calls.proofs.Steps.{unasked, asked, some_bytes, no_bytes, whole, few}
+use Rattle.calls.proofs.Steps.{unasked, passed, asked, some_bytes, no_bytes, whole, few}
 use Rattle.calls.proofs.asks.room.Goals as goal
 
 pub returns : goal.returns
 unfolding room_at
-returns c =
+returns g c = λ call made.
     let n = c.count-n.ensures in
-    let e = c.room_call.ensures in
+    let e = made _ _ _ (omega (arith, few _ c.count-n.ensures c.requires.line)) (field-most _ _ (num c.field_at.ensures c.in_ok-number.was)) c.call.ensures in
     let a = c.args in
     asked c.ended.ensures
-    (on-good _ (some_bytes a.line.now (sym c.byte_at.ensures ∙ c.if-byte_at-ne-TAB.false) n) ∙ on-good _ (num c.field_at.ensures c.in-Good.is))
-    (good-as (ap (λ (l : List ℕ). room_call a.letter l c.in-Good.number) (whole n)) ∙ e.reads _)
+    (on-good _ (some_bytes a.line.now (sym c.byte_at.ensures ∙ c.if-byte_at-ne-TAB.false) n) ∙ on-good _ (num c.field_at.ensures c.in_ok-number.was))
+    (good-as (ap (λ (l : List ℕ). call l c.in_ok-number.number) (whole n)) ∙ e.reads _)
     (omega (arith, e.size, n))
     e.within
 
 pub returns-then-byte_at-ne-TAB : goal.returns-then-byte_at-ne-TAB
 unfolding room_at
-returns-then-byte_at-ne-TAB c = unasked (on-bad _ (no_bytes c.args.line.now (λ e. c.if-byte_at-ne-TAB.true (c.byte_at.ensures ∙ e))))
+returns-then-byte_at-ne-TAB g c = λ call made. unasked (on-bad _ (no_bytes c.args.line.now (λ e. c.if-byte_at-ne-TAB.true (c.byte_at.ensures ∙ e))))
 
 pub overflow_mul-n : goal.overflow_mul-n
-overflow_mul-n c = omega (arith, few _ c.count-n.ensures c.requires.line)
+overflow_mul-n g c = omega (arith, few _ c.count-n.ensures c.requires.line)
 
 pub overflow_add-n : goal.overflow_add-n
-overflow_add-n c = omega (arith, few _ c.count-n.ensures c.requires.line)
+overflow_add-n g c = omega (arith, few _ c.count-n.ensures c.requires.line)
 
-pub returns-in_default : goal.returns-in_default
+pub returns-in_err-number : goal.returns-in_err-number
 unfolding room_at
-returns-in_default c = unasked (on-good _ (some_bytes c.args.line.now (sym c.byte_at.ensures ∙ c.if-byte_at-ne-TAB.false) c.count-n.ensures) ∙ on-bad _ (num c.field_at.ensures c.in_default.is))
+returns-in_err-number g c = λ call made. passed c.from_residual.ensures (on-good _ (some_bytes c.args.line.now (sym c.byte_at.ensures ∙ c.if-byte_at-ne-TAB.false) c.count-n.ensures) ∙ on-bad _ (num c.field_at.ensures c.in_err-number.was))
 
 pub overflow_cast-n : goal.overflow_cast-n
-overflow_cast-n c = omega (arith, few _ c.count-n.ensures c.requires.line)
-
-pub room_call-requires : goal.room_call-requires
-room_call-requires c = (omega (arith, few _ c.count-n.ensures c.requires.line), omega (arith, field-most _ _ (num c.field_at.ensures c.in-Good.is), c.requires.most))
+overflow_cast-n g c = omega (arith, few _ c.count-n.ensures c.requires.line)

@@ -3,11 +3,11 @@ use mathlib.Core.List.{List}
 use Prim.Native.Nat.{ℕ, suc, ◌+◌, ◌-◌, ◌≤◌, ◌<◌}
 use native.Mathlib.Omega.{arith}
 use lib.ListN.{drop, set, replicate, length-set}
-use Rattle.laws.specs.Pick.{pick_true, pick-false}
 use Rattle.laws.specs.Decimal.{good}
 use Rattle.text.specs.Scan.{on_good, field_at}
 use Rattle.operands.specs.Parsing.{on-good, on-bad, num}
 use Rattle.calls.specs.Call.{greatest32, row_from, numbers_field}
+use Rattle.calls.specs.Reading.{leads_row}
 use borrow.Author.Rules.{rules}
 use Rattle.calls.proofs.fields.numbers_at.Goals as goal
 
@@ -26,23 +26,23 @@ unfolding numbers_field
 loop-k-init c =
     let a = c.args in
     let z : a.n - 0 ≡ a.n = omega arith in
-    (omega arith, search rules, ap (λ (m : ℕ). row_from (replicate 19 0) 0 m (drop a.at a.s.now)) z)
+    (search rules, ap (λ (m : ℕ). row_from (replicate 19 0) 0 m (drop a.at a.s.now)) z)
 
-pub returns-in_default : goal.returns-in_default
-returns-in_default c =
+pub returns-in_err-v : goal.returns-in_err-v
+returns-in_err-v c =
     let a = c.args in
     let h = c.loop-k in
-    record { reads = sym (next_of a.s.now a.at a.n h.values h.k h.p h.invariant.2 c.loop-k-test.true) ∙ on-bad _ (num c.field_at.ensures c.in_default.is) ∙ sym (pick-false _ _) }
+    record { reads = sym (next_of a.s.now a.at a.n h.values h.k h.p h.invariant.1 c.loop-k-test.true) ∙ on-bad _ (num c.field_at.ensures c.in_err-v.was) ∙ ap (leads_row a.s.now) (sym c.from_residual.ensures) }
 
 pub loop-k-preserved : goal.loop-k-preserved
 loop-k-preserved c =
     let a = c.args in
     let h = c.loop-k in
     let t = c.loop-k-test.true in
-    (omega (arith, t), length-set h.values h.k _ ∙ h.invariant.1, sym (on-good _ (num c.field_at.ensures c.in-Good.is)) ∙ next_of a.s.now a.at a.n h.values h.k h.p h.invariant.2 t)
+    (length-set h.values h.k _ ∙ h.invariant.0, sym (on-good _ (num c.field_at.ensures c.in_ok-v.was)) ∙ next_of a.s.now a.at a.n h.values h.k h.p h.invariant.1 t)
 
 pub returns : goal.returns
 returns c =
     let a = c.args in
     let h = c.loop-k in
-    record { reads = all a.s.now a.at a.n h.values h.k h.p h.invariant.2 c.loop-k-test.false ∙ sym (pick_true _ _) }
+    record { reads = all a.s.now a.at a.n h.values h.k h.p h.invariant.1 c.loop-k-test.false }

@@ -24,10 +24,10 @@ loop-k-preserved c =
     let a = c.args in
     let h = c.loop-k in
     let b = carried a.s.now in
-    (omega arith, length-set h.out h.k _ ∙ h.invariant.1, ap (set h.out h.k) c.byte_of.ensures ∙ ap (λ (l : List ℕ). set l h.k (get_or b h.k 0)) h.invariant.2 ∙ store-more a.out.now b h.k (omega (arith, c.loop-k-test.true, c.requires)))
+    (length-set h.out h.k _ ∙ h.invariant.0, ap (set h.out h.k) c.byte_of.ensures ∙ ap (λ (l : List ℕ). set l h.k (get_or b h.k 0)) h.invariant.1 ∙ store-more a.out.now b h.k (omega (arith, c.loop-k-test.true, c.requires)))
 
 pub returns : goal.returns
 returns c =
     let h = c.loop-k in
-    let z : h.k ≡ c.args.n = omega (arith, c.loop-k-test.false, h.invariant.0) in
-    h.invariant.2 ∙ ap (λ (i : ℕ). sets c.args.out.now 0 (take i (carried c.args.s.now))) z
+    let z : h.k ≡ c.args.n = omega (arith, c.loop-k-test.false) in
+    h.invariant.1 ∙ ap (λ (i : ℕ). sets c.args.out.now 0 (take i (carried c.args.s.now))) z

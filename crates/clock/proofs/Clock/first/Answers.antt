@@ -20,7 +20,7 @@ pub returns-then-end-line : goal.returns-then-end-line
 unfolding first_of
 returns-then-end-line c =
     let a = c.args in
-    let num = c.in-Good in
+    let num = c.in-Some in
     opens a.self a.line.now c.requires c.if-out-lt-ENOUGH.false c.number_at.ensures num.is
     (ap (λ (l : List ℕ). first_of a.self (good num.hour l)) (drop-cons a.line.now num.end 0 c.if-end-line.true)) c.refuse-then-end-line.ensures
 
@@ -29,7 +29,7 @@ pub returns : goal.returns
 unfolding first_of with_stage with_hour
 returns c =
     let a = c.args in
-    let num = c.in-Good in
+    let num = c.in-Some in
     let room = c.if-out-lt-ENOUGH.false in
     opens a.self a.line.now c.requires room c.number_at.ensures num.is
     (ap (λ (l : List ℕ). first_of a.self (good num.hour l)) (drop_of_length-le a.line.now {i = num.end} c.if-end-line.false))

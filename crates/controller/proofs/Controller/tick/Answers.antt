@@ -10,9 +10,9 @@ pub returns-then-inputs-gt-INPUTS_MOST : goal.returns-then-inputs-gt-INPUTS_MOST
 returns-then-inputs-gt-INPUTS_MOST c =
     tick-refused c.args.self _ c.args.inputs c.requires (omega arith) (record { next = refl; says = refl })
 
-pub returns-in-Faulted : goal.returns-in-Faulted
-returns-in-Faulted c =
-    tick-fault c.args.self _ c.args.inputs _ c.requires (omega arith) c.in-Faulted.is (record { next = refl; says = refl })
+pub returns-in-Some : goal.returns-in-Some
+returns-in-Some c =
+    tick-fault c.args.self _ c.args.inputs _ c.requires (omega arith) c.in-Some.is (record { next = refl; says = refl })
 
 pub returns-then-is_outside : goal.returns-then-is_outside
 returns-then-is_outside c =

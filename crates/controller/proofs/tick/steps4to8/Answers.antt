@@ -23,10 +23,10 @@ steps7and8-requires c =
     mean-small c.args.c c.args.inputs c.kept-c.ensures c.requires.sound c.args.x c.requires.inside (sampled (goal.at.steps7and8-requires c).After-sample-to)
 
 -- F14
-pub returns-in-F14 : goal.returns-in-F14
-returns-in-F14 c =
-    reached c.args.c c.args.x.v c.args.inputs c.reached.result c.requires.inside c.kept-c.ensures (sampled (goal.at.returns-in-F14 c).After-sample-to) c.start_of-start.ensures c.runs_after-runs.ensures c.reached.ensures c.in-F14.is c.faulted.ensures
+pub returns-in-Some : goal.returns-in-Some
+returns-in-Some c =
+    reached c.args.c c.args.x.v c.args.inputs c.reached.result c.requires.inside c.kept-c.ensures (sampled (goal.at.returns-in-Some c).After-sample-to) c.start_of-start.ensures c.runs_after-runs.ensures c.reached.ensures c.in-Some.is c.faulted.ensures
 
-pub returns-in-Clear : goal.returns-in-Clear
-returns-in-Clear c =
-    not-reached c.args.c c.args.x.v c.args.inputs c.reached.result c.requires.inside c.kept-c.ensures (sampled (goal.at.returns-in-Clear c).After-sample-to) c.start_of-start.ensures c.runs_after-runs.ensures c.reached.ensures c.in-Clear.is c.steps7and8.ensures
+pub returns-in-None : goal.returns-in-None
+returns-in-None c =
+    not-reached c.args.c c.args.x.v c.args.inputs c.reached.result c.requires.inside c.kept-c.ensures (sampled (goal.at.returns-in-None c).After-sample-to) c.start_of-start.ensures c.runs_after-runs.ensures c.reached.ensures c.in-None.is c.steps7and8.ensures

@@ -1,27 +1,20 @@
 use mathlib.Core.Path.{refl, sym, ap, ◌∙◌}
-use Prim.Native.Nat.{ℕ, ◌+◌, ◌≤◌}
-use native.Mathlib.Omega.{arith}
-use lib.ListN.{length, drop, drop_of_length-le}
+use Prim.Native.Nat.{ℕ, ◌+◌}
+use lib.ListN.{drop, drop_of_length-le}
 use Rattle.modbus.specs.Crc.{enter_all, crc}
 use Rattle.modbus.proofs.Laws.{enter_all-step}
 use Rattle.modbus.proofs.crc.crc16.Goals as goal
-use Rattle.modbus.proofs.crc.crc16.Goals.{At-loop-i}
 
-pub loop-i-init : goal.loop-i-init
+pub loop-b-init : goal.loop-b-init
 unfolding crc
-loop-i-init c = (omega arith, refl)
+loop-b-init c = refl
 
-pub loop-i-preserved : goal.loop-i-preserved
-loop-i-preserved c =
-    let at-loop = (goal.at.loop-i-preserved c).At-loop-i in
-    let bytes = at-loop.args.bytes.now in
-    let i = at-loop.loop-i.i in
-    (omega arith, ap (λ (s : ℕ). enter_all s (drop (i + 1) bytes)) c.enter-c.ensures ∙ sym (enter_all-step bytes i at-loop.loop-i.c (omega arith)) ∙ at-loop.loop-i.invariant.1)
+pub loop-b-preserved : goal.loop-b-preserved
+loop-b-preserved c =
+    let bytes = c.args.bytes.now in
+    let i = c.loop-b.b-index in
+    ap (λ (s : ℕ). enter_all s (drop (i + 1) bytes)) c.enter-c.ensures ∙ sym (enter_all-step bytes i c.loop-b.c c.loop-b-test.true) ∙ c.loop-b.invariant
 
 pub returns : goal.returns
 unfolding enter_all
-returns c =
-    let at-loop = (goal.at.returns c).At-loop-i in
-    let bytes = at-loop.args.bytes.now in
-    let all : length bytes ≤ at-loop.loop-i.i = omega arith in
-    rw (drop_of_length-le bytes all) at at-loop.loop-i.invariant.1
+returns c = rw (drop_of_length-le c.args.bytes.now c.loop-b-test.false) at c.loop-b.invariant

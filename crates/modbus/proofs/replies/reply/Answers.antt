@@ -11,8 +11,8 @@ unfolding reply_of reply_body
 returns-in-Registers c =
     let words = c.args.words in
     let size : length words ≡ 11 = search rules in
-    let from = c.before-from in
-    let to = c.before-to in
+    let from = c.min-from in
+    let to = c.min-to in
     let first = c.in-Registers.start in
     let quantity = c.in-Registers.quantity in
     let part : take (to.result - from.result) (drop from.result words) ≡ take quantity (drop first words) =

@@ -8,23 +8,24 @@ use Rattle.settings.proofs.Settings.check.Goals as goal
 
 pub loop-i-init : goal.loop-i-init
 unfolding first_bad
-loop-i-init c = (omega arith, λ s v r. refl)
+loop-i-init c = refl
 
 pub returns-then-value-range : goal.returns-then-value-range
 returns-then-value-range c =
     let s = c.args.self in
     let i = c.loop-i.i in
-    let below : i < 18 = c.loop-i-test.true in
+    let below : i < 18 = omega arith in
     let v = c.values-values.ensures in
     let r = c.ranges-ranges.ensures in
-    sym (c.loop-i.invariant.1 s v r ∙ named s i below (out_at s i below v r c.if-value-range.true))
+    sym (c.loop-i.invariant ∙ named s i below (out_at s i below v r c.if-value-range.true))
 
 pub loop-i-preserved : goal.loop-i-preserved
 loop-i-preserved c =
     let i = c.loop-i.i in
-    let h : i < 18 = c.loop-i-test.true in
-    (omega arith, λ s v r. rw add-one (c.loop-i.invariant.1 s v r ∙ passed s i h (in-at s i h v r c.if-value-range.false)))
+    let h : i < 18 = omega arith in
+    let s = c.args.self in
+    rw add-one (c.loop-i.invariant ∙ passed s i h (in-at s i h c.values-values.ensures c.ranges-ranges.ensures c.if-value-range.false))
 
 pub returns : goal.returns
 returns c =
-    sym (c.loop-i.invariant.1 c.args.self c.values-values.ensures c.ranges-ranges.ensures ∙ ended _ c.loop-i.i c.loop-i-test.false)
+    sym (c.loop-i.invariant ∙ ended _ c.loop-i.i (omega arith))
