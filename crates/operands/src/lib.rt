@@ -76,16 +76,22 @@ fn all_hex(s: &[u8], at: usize) -> bool
 }
 
 // How many bytes stand behind the letter and the tab, where `had` of them stand before place `at`.
+// It and `count` go by `while`: a range by steps takes a fifth more instructions (docs/SPEED.md).
 fn count_from(s: &[u8], at: usize, had: usize) -> usize
     requires { (had ≤ at) × (at ≤ length s.now + 2) × (had + standing s.now at ≡ standing s.now 2) }
     ensures { CountsBytes s.now result }
 {
+    let mut p = at;
     let mut n = had;
-    for p in (at..s.len().saturating_sub(1)).step_by(2) {
-        if !is_hex(s[p]) || !is_hex(s[p + 1]) {
+    while p + 1 < s.len() {
+        if !is_hex(s[p]) {
+            return n;
+        }
+        if !is_hex(s[p + 1]) {
             return n;
         }
         n += 1;
+        p += 2;
     }
     n
 }
@@ -94,12 +100,14 @@ fn count_from(s: &[u8], at: usize, had: usize) -> usize
 pub fn count(s: &[u8]) -> usize
     ensures { CountsBytes s.now result }
 {
-    let mut n = 0;
-    for p in (2..s.len().saturating_sub(7)).step_by(8) {
+    let mut p: usize = 2;
+    let mut n: usize = 0;
+    while p + 8 <= s.len() {
         if !all_hex(s, p) {
             return count_from(s, p, n);
         }
         n += 4;
+        p += 8;
     }
-    count_from(s, 2 + 2 * n, n)
+    count_from(s, p, n)
 }

@@ -25,7 +25,6 @@ pub fn no_reply() -> [u8; 64]
 }
 
 // A tab and a number.
-#[inline]
 fn field(out: &mut [u8], at: usize, n: u64) -> usize {
     let after = text::put_byte(out, at, text::TAB);
     text::put_decimal(out, after, n)
@@ -47,7 +46,6 @@ pub fn bits(out: &mut [u8], at: usize, n: u64) -> usize {
 }
 
 // The numbers of an answer, a tab before each.
-#[inline]
 pub fn numbers(out: &mut [u8], at: usize, numbers: &[u64]) -> usize {
     let mut p = at;
     for &n in numbers {
@@ -57,7 +55,6 @@ pub fn numbers(out: &mut [u8], at: usize, numbers: &[u64]) -> usize {
 }
 
 // The letter of an answer and its numbers.
-#[inline]
 pub fn put_words(out: &mut [u8], at: usize, letter: u8, values: &[u64]) -> usize {
     let after = text::put_byte(out, at, letter);
     numbers(out, after, values)
@@ -73,7 +70,6 @@ pub fn word(out: &mut [u8], at: usize, letters: &[u8]) -> usize {
 }
 
 // The end of the line.
-#[inline]
 pub fn end(out: &mut [u8], at: usize) -> usize {
     text::put_byte(out, at, text::LF)
 }
@@ -86,7 +82,6 @@ fn digit(d: u8) -> u8
 }
 
 // Bytes stored from the start of `out`, two digits a byte.
-#[inline]
 fn store(out: &mut [u8], bytes: &[u8]) {
     for (two, &b) in out.chunks_exact_mut(2).zip(bytes) {
         two[0] = digit(b / 16);
@@ -95,7 +90,6 @@ fn store(out: &mut [u8], bytes: &[u8]) {
 }
 
 // Bytes, two digits a byte.
-#[inline]
 fn digits(out: &mut [u8], at: usize, bytes: &[u8]) -> usize {
     if out.len() < at || (out.len() - at) / 2 < bytes.len() {
         return at;
@@ -105,7 +99,6 @@ fn digits(out: &mut [u8], at: usize, bytes: &[u8]) -> usize {
 }
 
 // A tab, bytes, and the end of the line.
-#[inline]
 pub fn bytes(out: &mut [u8], at: usize, bytes: &[u8]) -> usize {
     let start = text::put_byte(out, at, text::TAB);
     let after = digits(out, start, bytes);
@@ -113,14 +106,12 @@ pub fn bytes(out: &mut [u8], at: usize, bytes: &[u8]) -> usize {
 }
 
 // A line of an answer's letter and its numbers.
-#[inline]
 pub fn line(out: &mut [u8], at: usize, letter: u8, values: &[u64]) -> usize {
     let after = put_words(out, at, letter, values);
     end(out, after)
 }
 
 // A line of an answer's letter, its numbers and a buffer.
-#[inline]
 pub fn shown(out: &mut [u8], at: usize, letter: u8, values: &[u64], buffer: &[u8]) -> usize {
     let after = put_words(out, at, letter, values);
     bytes(out, after, buffer)
