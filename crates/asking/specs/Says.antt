@@ -1,5 +1,5 @@
 -- What the stages say in the paper's words, the contract of each call, and that two results that both meet it are equal. Assumes nothing.
-use Rattle.std.specs.Prelude.{◌≡◌, refl, Bool, List, [], ◌∷◌, ℕ, eqb, length, get_or, Result, Ok, Err}
+use Rattle.std.specs.Prelude.{◌≡◌, refl, Bool, List, [], ◌∷◌, ℕ, ◌≤◌, eqb, length, take, get_or, Option, Some, None, Result, Ok, Err}
 use Rattle.std.proofs.Common.{sym, ap, ◌∙◌}
 use Rattle.laws.specs.Pick.{pick}
 use Rattle.paper.specs.Answer.{Answer, done, refused, fault, Fills, same, fills_one}
@@ -7,8 +7,8 @@ use Rattle.paper.specs.Numbers.{R3, R4, R5, R6, R7, R8, R9, R14}
 use Rattle.message.specs.declared.Form.{Form}
 use Rattle.message.specs.declared.Parts.{Parts}
 use Rattle.asking.specs.Asking.{heard_of, address_of, code_of, time_of, zero_of, reply_of}
-use Rattle.frame.specs.declared.ReadError.{ReadError}
-use Rattle.frame.specs.declared.ReadError.TheVariants as F
+use Rattle.message.specs.declared.SplitError.{SplitError}
+use Rattle.message.specs.declared.SplitError.TheVariants as P
 use Rattle.frame.specs.declared.WriteError.{WriteError}
 use Rattle.frame.specs.declared.WriteError.TheVariants as W
 use Rattle.message.specs.declared.BuildError.{BuildError}
@@ -32,9 +32,16 @@ says_error (E.R3 place) = refused R3 (place ∷ [])
 says_error (E.R4 place) = refused R4 (place ∷ [])
 says_error (E.R8 place) = refused R8 (place ∷ [])
 
-abbrev pub says_heard : Result Heard RequestError → Answer (ℕ × Parts)
-says_heard (Ok h) = done (h.place, h.parts)
-says_heard (Err e) = says_error e
+abbrev pub says_parts : ℕ → Result Parts SplitError → Answer (ℕ × Parts)
+says_parts place (Ok p) = done (place, p)
+says_parts place (Err P.R6) = refused R6 (place ∷ [])
+
+abbrev pub says_body : ℕ → Option (Result Parts SplitError) → Answer (ℕ × Parts)
+says_body place (Some r) = says_parts place r
+says_body place None = refused R9 (place ∷ [])
+
+abbrev pub says_heard : Heard → Answer (ℕ × Parts)
+says_heard h = says_body h.place h.body
 
 abbrev pub says_stage : Result (Unit {0}) RequestError → Answer (Unit {0})
 says_stage (Ok u) = done u
@@ -46,11 +53,7 @@ says_sent (Err S.Improper) = refused improper []
 says_sent (Err S.R14) = refused R14 []
 says_sent (Err S.R8) = refused R8 []
 
--- a refusal of the reader, of building and of the writer, as one of the request or of the reply
-abbrev pub read_as : ReadError → RequestError
-read_as (F.R9 place) = E.R9 place
-read_as (F.R6 place) = E.R6 place
-
+-- a refusal of building and of the writer, as one of the reply
 abbrev pub built_as : BuildError → SendError
 built_as B.Improper = S.Improper
 built_as B.R14 = S.R14
@@ -59,9 +62,15 @@ abbrev pub wrote_as : WriteError → SendError
 wrote_as W.R14 = S.R14
 wrote_as W.R8 = S.R8
 
+-- the bytes are the first of the array of 4
+pub record Holds (bytes : List ℕ) (r : List ℕ × ℕ) : Type 0 where
+  pub full : length r.0 ≡ 4
+  pub small : r.1 ≤ 4
+  pub front : take r.1 r.0 ≡ bytes
+
 -- ---- the contracts
 
-abbrev pub Hears : List ℕ → Result Heard RequestError → Type 0
+abbrev pub Hears : List ℕ → Heard → Type 0
 Hears s r = says_heard r ≡ heard_of s
 
 abbrev pub Addresses : ℕ → Form → ℕ → ℕ → Result (Unit {0}) RequestError → Type 0
@@ -93,21 +102,16 @@ error_back n vs =
     (pick (eqb n R5) (E.R5 place)
     (pick (eqb n R7) (E.R7 place) (pick (eqb n R3) (E.R3 place) (pick (eqb n R4) (E.R4 place) (E.R8 place))))))
 
-heard_back : Answer (ℕ × Parts) → Result Heard RequestError
-heard_back (done t) = Ok (record { place = t.0; parts = t.1 })
-heard_back (refused n vs) = Err (error_back n vs)
-heard_back (fault n vs) = Err (E.R9 0)
+heard_back : Answer (ℕ × Parts) → Heard
+heard_back (done t) = record { place = t.0; body = Some (Ok t.1) }
+heard_back (refused n vs) = record { place = get_or vs 0 0; body = pick (eqb n R9) None (Some (Err P.R6)) }
+heard_back (fault n vs) = record { place = 0; body = None }
 
-heard-back : (a : Result Heard RequestError) → heard_back (says_heard a) ≡ a
-unfolding heard_back error_back pick
-heard-back (Ok h) = refl
-heard-back (Err (E.R9 place)) = refl
-heard-back (Err (E.R6 place)) = refl
-heard-back (Err (E.R5 place)) = refl
-heard-back (Err (E.R7 place)) = refl
-heard-back (Err (E.R3 place)) = refl
-heard-back (Err (E.R4 place)) = refl
-heard-back (Err (E.R8 place)) = refl
+body-back : (place : ℕ) (b : Option (Result Parts SplitError)) → heard_back (says_body place b) ≡ record { place = place; body = b }
+unfolding heard_back pick
+body-back place (Some (Ok p)) = refl
+body-back place (Some (Err P.R6)) = refl
+body-back place None = refl
 
 stage_back : Answer (Unit {0}) → Result (Unit {0}) RequestError
 stage_back (done u) = Ok u
@@ -137,8 +141,8 @@ sent_back_lem (Err S.Improper) = refl
 sent_back_lem (Err S.R14) = refl
 sent_back_lem (Err S.R8) = refl
 
-pub heard-one : (a b : Result Heard RequestError) → says_heard a ≡ says_heard b → a ≡ b
-heard-one = back_one says_heard heard_back heard-back
+pub heard-one : (a b : Heard) → says_heard a ≡ says_heard b → a ≡ b
+heard-one = back_one says_heard heard_back (λ h. body-back h.place h.body)
 
 pub stage-one : (a b : Result (Unit {0}) RequestError) → says_stage a ≡ says_stage b → a ≡ b
 stage-one = back_one says_stage stage_back stage-back
@@ -158,7 +162,7 @@ zeroing-one = stage-one
 pub sent-one : (a b : Result ℕ SendError) → says_sent a ≡ says_sent b → a ≡ b
 sent-one = back_one says_sent sent_back sent_back_lem
 
-pub hear-determined : (s : List ℕ) (a b : Result Heard RequestError) → Hears s a → Hears s b → a ≡ b
+pub hear-determined : (s : List ℕ) (a b : Heard) → Hears s a → Hears s b → a ≡ b
 hear-determined s a b p q = heard-one a b (same p q)
 
 pub address-determined : (place : ℕ) (form : Form) (address serial : ℕ) (a b : Result (Unit {0}) RequestError) → Addresses place form address serial a → Addresses place form address serial b → a ≡ b

@@ -3,12 +3,12 @@
 
 ghost use Rattle.std.specs.Prelude.{◌≡◌, length};
 ghost use Rattle.paper.specs.Answer.{Fills};
-ghost use Rattle.asking.specs.Asking.{ours, framed_of};
-ghost use Rattle.asking.specs.Says.{Hears, Addresses, Codes, Times, Zeroes, Sends, says_sent, read_as, built_as, wrote_as};
+ghost use Rattle.asking.specs.Asking.{ours, reply_bytes, framed_of};
+ghost use Rattle.asking.specs.Says.{Hears, Addresses, Codes, Times, Zeroes, Sends, Holds, says_sent, built_as, wrote_as};
 
 use field::Field;
 use frame::{ReadError, WriteError};
-use message::{BuildError, Form, Parts};
+use message::{BuildError, Form, Parts, SplitError};
 
 // The operation code that zeroes.
 pub const C0: u8 = 0xC0;
@@ -33,22 +33,11 @@ pub enum RequestError {
     R8(usize),
 }
 
-impl From<ReadError> for RequestError {
-    ghost from_gives = { λ e r. r ≡ read_as e };
-
-    fn from(e: ReadError) -> RequestError {
-        match e {
-            ReadError::R9(place) => RequestError::R9(place),
-            ReadError::R6(place) => RequestError::R6(place),
-        }
-    }
-}
-
-// The parts of the first finished body, and the place of the second closing FF.
+// What stands in the bytes offered: the first finished body, taken apart or R6, with the place of the second closing FF; or none, with R9's place.
 #[derive(Clone, Copy, Debug, PartialEq, Eq)]
 pub struct Heard {
     pub place: usize,
-    pub parts: Parts,
+    pub body: Option<Result<Parts, SplitError>>,
 }
 
 // What a reply holds beside the address form and the operation code.
@@ -90,15 +79,20 @@ impl From<WriteError> for SendError {
 }
 
 // The first finished body in the bytes offered, taken apart.
-pub fn hear(bytes: &[u8]) -> Result<Heard, RequestError>
+pub fn hear(bytes: &[u8]) -> Heard
     ensures { Hears bytes.now result }
 {
-    let found = frame::read_frame(bytes)?;
-    let place = found.place;
-    let Ok(parts) = message::split_body(&found.body[..found.len]) else {
-        return Err(RequestError::R6(place));
-    };
-    Ok(Heard { place, parts })
+    match frame::read_frame(bytes) {
+        Ok(found) => Heard {
+            place: found.place,
+            body: Some(message::split_body(&found.body[..found.len])),
+        },
+        Err(ReadError::R6(place)) => Heard {
+            place,
+            body: Some(Err(SplitError::R6)),
+        },
+        Err(ReadError::R9(place)) => Heard { place, body: None },
+    }
 }
 
 // The address or serial is matched with its setting.
@@ -162,8 +156,18 @@ pub fn zero_stage(place: usize, zeroable: bool) -> Result<(), RequestError>
     }
 }
 
+// A reply's data, the first so many of four bytes: none, one, or the weight's three bytes and CON.
+fn data_of(holds: Reply) -> ([u8; 4], usize)
+    ensures { Holds (reply_bytes holds) result }
+{
+    match holds {
+        Reply::Nothing => ([0; 4], 0),
+        Reply::Byte(byte) => ([byte, 0, 0, 0], 1),
+        Reply::Weight(f) => ([f.low, f.middle, f.high, f.con], 4),
+    }
+}
+
 // Frames a body of address, operation code and data into the lent buffer.
-#[inline]
 fn frame_reply(
     form: Form,
     operation: u8,
@@ -172,12 +176,13 @@ fn frame_reply(
 ) -> Result<usize, SendError>
     ensures { Fills (says_sent result) (framed_of form operation values.now (length reply.old)) reply.old reply.new }
 {
-    let body = message::build_body(form, operation, values)?;
-    let len = frame::write_frame(&body.bytes[..body.len], reply)?;
-    Ok(len)
+    match message::build_body(form, operation, values) {
+        Ok(body) => Ok(frame::write_frame(&body.bytes[..body.len], reply)?),
+        Err(error) => Err(SendError::from(error)),
+    }
 }
 
-// Frames a reply: no data, one byte, or the weight's three bytes and CON.
+// Frames a reply into the lent buffer: the request's address form, its operation code and the data.
 pub fn write_reply(
     form: Form,
     operation: u8,
@@ -186,9 +191,6 @@ pub fn write_reply(
 ) -> Result<usize, SendError>
     ensures { Sends form operation holds reply.old reply.new result }
 {
-    match holds {
-        Reply::Nothing => frame_reply(form, operation, &[], reply),
-        Reply::Byte(byte) => frame_reply(form, operation, &[byte], reply),
-        Reply::Weight(f) => frame_reply(form, operation, &[f.low, f.middle, f.high, f.con], reply),
-    }
+    let (values, len) = data_of(holds);
+    frame_reply(form, operation, &values[..len], reply)
 }

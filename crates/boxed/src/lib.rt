@@ -93,7 +93,7 @@ fn request(out: &mut [u8], at: usize, said: Result<Sent, RequestError>, buffer: 
         Err(RequestError::R4(place)) => (b'R', 4, place),
         Err(RequestError::R8(place)) => (b'R', 8, place),
     };
-    pieces::shown(out, at, letter, &[first as u64, second as u64], buffer)
+    pieces::reply(out, at, letter, first as u64, second as u64, buffer)
 }
 
 // The line of a line request's answer with the buffer that it was lent, so many of the first bytes of `spare`, put at `at`; it answers the place after it.

@@ -9,7 +9,7 @@ use lib.ListN.{length}
 use Rattle.laws.specs.Pick.{pick, pick-t, pick-f, pick-map}
 use Rattle.paper.specs.Answer.{Answer, done, refused, told, on_done, in_room, leaves, Fills}
 use Rattle.paper.specs.AnswerLaws.{done_refused, passed}
-use Rattle.paper.specs.Numbers.{R3, R4, R5, R7, R8}
+use Rattle.paper.specs.Numbers.{R3, R4, R5, R6, R7, R8, R9}
 use Rattle.settings.specs.Good.{good-ranges}
 use Rattle.window.specs.declared.Window.{Window}
 use Rattle.dosing.specs.declared.Units.{Units}
@@ -22,15 +22,17 @@ use Rattle.asking.specs.declared.RequestError.{RequestError}
 use Rattle.asking.specs.declared.RequestError.TheVariants as E
 use Rattle.message.specs.declared.Form.{Form}
 use Rattle.message.specs.declared.Parts.{Parts}
+use Rattle.asking.specs.declared.Heard.{Heard}
+use Rattle.message.specs.declared.SplitError.{SplitError}
+use Rattle.message.specs.declared.SplitError.TheVariants as B
 use Rattle.asking.specs.Asking.{Asked, asked_by, heard_of, ours, address_of, known, bare, code_of, time_of, zero_of, ask_of, reply_bytes}
 use Rattle.asking.specs.Laws.{reply-framed}
-use Rattle.asking.specs.Says.{Sends, says_error, says_stage, says_sent, stage-one, sent-one}
+use Rattle.asking.specs.Says.{Sends, says_error, says_body, says_heard, says_parts, says_stage, says_sent, stage-one, sent-one}
 use Rattle.asking.specs.declared.Reply.{Reply}
 use Rattle.readout.specs.Readout.{may_zero, zero_to, reply_for}
 use Rattle.readout.specs.Says.{Zeroed}
 use Rattle.readout.specs.Laws.{reply-bytes, zeroing-may, zeroing-to}
-use Rattle.std.specs.Prelude.{Option, Some}
-use Rattle.std.specs.Option.{is_some, unwrap_or}
+use Rattle.std.specs.Result.{is_ok, result_unwrap_or}
 use Rattle.controller.specs.State.{with_z}
 use Rattle.controller.specs.Tick.{Result, still}
 use Rattle.controller.specs.Ready.{is_ready}
@@ -62,10 +64,25 @@ unfolding pick
 refusal true n vs r never e = absurd (never tt (stage-one r (Ok tt) e))
 refusal false n vs r never e = refl
 
+-- what is heard of a finished body
+pub heard-body : (s : List ℕ) (h : Heard) {r : P.Result Parts SplitError} → says_heard h ≡ heard_of s → h.body ≡ P.Some r → says_parts h.place r ≡ heard_of s
+heard-body s h e i = rw i at e
+
+pub heard-parts : (s : List ℕ) (h : Heard) {r : P.Result Parts SplitError} {p : Parts} → says_heard h ≡ heard_of s → h.body ≡ P.Some r → r ≡ Ok p → done (h.place, p) ≡ heard_of s
+heard-parts s h e i k = sym (ap (says_parts h.place) k) ∙ heard-body s h e i
+
 -- R9, R6
-pub not-heard : (c : Controller) (s : List ℕ) (e : RequestError) → says_error e ≡ heard_of s → asked_of c s ≡ says_error e
+unheard : (c : Controller) (s : List ℕ) (e : RequestError) → says_error e ≡ heard_of s → asked_of c s ≡ says_error e
 unfolding asked_of ask_of
-not-heard c s e h = rw (← h) (simp on-error)
+unheard c s e h = rw (← h) (simp on-error)
+
+pub unfinished : (c : Controller) (s : List ℕ) {place : ℕ} (b : P.Option (P.Result Parts SplitError)) → ((r : P.Result Parts SplitError) → b ≢ P.Some r) → says_body place b ≡ heard_of s → asked_of c s ≡ refused R9 (place ∷ [])
+unfinished c s (P.Some r) never h = absurd (never r refl)
+unfinished c s {place} P.None never h = unheard c s (E.R9 place) h
+
+pub unfit : (c : Controller) (s : List ℕ) {place : ℕ} (r : P.Result Parts SplitError) → ((p : Parts) → r ≢ Ok p) → says_parts place r ≡ heard_of s → asked_of c s ≡ refused R6 (place ∷ [])
+unfit c s (Ok p) never h = absurd (never p refl)
+unfit c s {place} (P.Err B.R6) never h = unheard c s (E.R6 place) h
 
 module _ (c : Controller) (s : List ℕ) {place : ℕ} {p : Parts} (heard : done (place, p) ≡ heard_of s) where
   by-stages : asked_of c s
@@ -119,15 +136,15 @@ module _ (c : Controller) (s : Sound c) where
   own = lent-window c.window s.places
 
   -- Z is given where the samples allow the request
-  pub may-zero : (op : ℕ) {r : Option Units} → Zeroed op c.set lent c.z r → is_some r ≡ may_zero op c.set c.window
-  may-zero op e = ap is_some (rw own at e) ∙ zeroing-may op c.set c.window c.z
+  pub may-zero : (op : ℕ) {r : P.Result Units Units} → Zeroed op c.set lent c.z r → is_ok r ≡ may_zero op c.set c.window
+  may-zero op e = ap is_ok (rw own at e) ∙ zeroing-may op c.set c.window c.z
 
   -- Z after a request that is answered
-  pub zeroed-so : (op place : ℕ) {r : Option Units} {z : Units} → done tt ≡ zero_of place (may_zero op c.set c.window) → Zeroed op c.set lent c.z r → z ≡ unwrap_or r c.z → with_z z c ≡ zeroed_by c op
+  pub zeroed-so : (op place : ℕ) {r : P.Result Units Units} {z : Units} → done tt ≡ zero_of place (may_zero op c.set c.window) → Zeroed op c.set lent c.z r → z ≡ result_unwrap_or r c.z → with_z z c ≡ zeroed_by c op
   unfolding zero_of zero_to zeroed_by
   zeroed-so op place {r} m e g =
       let may = (passed (may_zero op c.set c.window) (done tt) R4 (place ∷ []) tt (sym m)).0 in
-      let given : r ≡ Some (zero_to op c.set c.window c.z) = (rw own at e) ∙ zeroing-to op c.set c.window c.z may in
+      let given : r ≡ Ok (zero_to op c.set c.window c.z) = (rw own at e) ∙ zeroing-to op c.set c.window c.z may in
       ap (λ (z : Units). with_z z c) (rw given at g) ∙ pick-map (λ (z : Units). with_z z c) (eqb op 0xC0) _ c.z
 
   -- the data of a sound controller's reply

@@ -12,15 +12,13 @@ impl Controller {
         requires { Sound self }
         ensures { Replies self bytes.now reply.old reply.new result }
     {
-        match self.replied(bytes, reply) {
-            Ok((z, sent)) => Requested {
-                next: Controller { z, ..self },
-                answer: Ok(sent),
-            },
-            Err(e) => Requested {
-                next: self,
-                answer: Err(e),
-            },
+        let (z, answer) = match self.replied(bytes, reply) {
+            Ok((z, sent)) => (z, Ok(sent)),
+            Err(error) => (self.z, Err(error)),
+        };
+        Requested {
+            next: Controller { z, ..self },
+            answer,
         }
     }
 
@@ -29,10 +27,14 @@ impl Controller {
         requires { Sound self }
         ensures { Replies self bytes.now reply.old reply.new (requested self result) }
     {
-        // R9 and R6 come in one Result, which a let .. else could not tell apart.
-        let heard = asking::hear(bytes)?;
+        let heard = asking::hear(bytes);
         let place = heard.place;
-        let parts = heard.parts;
+        let Some(body) = heard.body else {
+            return Err(RequestError::R9(place));
+        };
+        let Ok(parts) = body else {
+            return Err(RequestError::R6(place));
+        };
         let form = parts.form;
         let operation = parts.operation;
         let Ok(()) = asking::address_stage(place, form, self.set.address, self.set.serial) else {
@@ -49,7 +51,7 @@ impl Controller {
         let Ok(()) = asking::ready_stage(place, timely) else {
             return Err(RequestError::R3(place));
         };
-        let Ok(()) = asking::zero_stage(place, zero.is_some()) else {
+        let Ok(()) = asking::zero_stage(place, zero.is_ok()) else {
             return Err(RequestError::R4(place));
         };
         let holds = readout::reply_of(

@@ -1,4 +1,5 @@
 -- A MODBUS frame, put together from what its stages give. Assumes nothing.
+use Rattle.std.proofs.Common.{◌≢◌}
 use mathlib.Core.Path.{◌≡◌, refl, sym, ap, subst, ◌∙◌}
 use mathlib.Core.Bool.{Bool}
 use mathlib.Core.List.{List, []}
@@ -28,11 +29,9 @@ use Rattle.panel.specs.Modbus.{values_of, linked_by, served_by, modbus_of}
 use Rattle.panel.specs.Laws.{silent-so, heard-so, modbus-refused, modbus-sound, weight-held}
 use Rattle.controller.specs.Promises.{weight-writable}
 use Rattle.controller.specs.Sound.{Sound}
-use Rattle.panel.specs.Says.{says_poll, says_reply, link_left, Polls, Replies}
+use Rattle.panel.specs.Says.{says_poll, Polls}
 use Rattle.controller.specs.declared.Controller.{Controller}
-use Rattle.panel.specs.declared.PollError.{PollError}
 use Rattle.panel.specs.declared.PollError.TheVariants as M
-use Rattle.panel.specs.declared.Reply.{Reply}
 use Rattle.panel.specs.declared.Polled.{Polled}
 
 -- the registers of a sound controller
@@ -63,12 +62,24 @@ served-next c ask (done bytes) e = linked-so c ask
 served-next c ask (refused n vs) e = done_refused e
 served-next c ask (fault n vs) e = fault-done (sym e)
 
-module _ (c : Controller) (frame old : List ℕ) (hearing : Result Asked HearError) (heard : Hears c.set.address frame hearing) where
+-- what is no Ok is an Err
+not-ok : {A E : Type 0} {Q : Type 0} (r : Result A E) → ((x : A) → r ≢ Ok x) → ((e : E) → r ≡ Err e → Q) → Q
+not-ok (Ok x) never go = absurd (never x refl)
+not-ok (Err e) never go = go e refl
+
+module _ (c : Controller) (frame old : List ℕ) (s : Sound c) (hearing : Result Asked HearError) (heard : Hears c.set.address frame hearing) where
   -- R17
-  pub silent : (e : HearError) → hearing ≡ Err e → Replies c frame old old (Err M.R17)
-  silent H.R17 h =
+  silent-as : {r : Polled} (e : HearError) → hearing ≡ Err e → r.next ≡ c → r.answer ≡ Err M.R17 → Polls c frame old old r
+  silent-as {r} H.R17 h n a =
       let so = silent-so c frame (length old) R17 [] (sym heard ∙ ap says_hearing h) in
-      record { fills = fills-refused (ap (λ (x : Given (List ℕ)). x.answer) so) old; next = ap (λ (x : Given (List ℕ)). x.next) so }
+      record {
+        next = n ∙ sym (ap (λ (x : Given (List ℕ)). x.next) so);
+        fills = rw a (fills-refused (ap (λ (x : Given (List ℕ)). x.answer) so) old);
+        sound = subst Sound (sym n) s;
+      }
+
+  pub silent : {r : Polled} → ((asked : Asked) → hearing ≢ Ok asked) → r.next ≡ c → r.answer ≡ Err M.R17 → Polls c frame old old r
+  silent never n a = not-ok hearing never (λ e h. silent-as e h n a)
 
   module _ (asked : Asked) (h : hearing ≡ Ok asked) {words : List ℕ} (table : words ≡ table_of (values_of c)) (w : Result ℕ SendError) {new : List ℕ} (serves : Serves c.set.address words asked old new w) where
     abbrev rule : Answer (List ℕ)
@@ -83,27 +94,24 @@ module _ (c : Controller) (frame old : List ℕ) (hearing : Result Asked HearErr
     filled : Fills (says_sent w) rule old new
     filled = subst (λ (t : List ℕ). Fills (says_sent w) (served_of c.set.address t (heard_as asked) (length old)) old new) table serves
 
-    fills : {a : Answer ℕ} → a ≡ says_sent w → Fills a (modbus_of c frame (length old)).answer old new
-    fills e = record { says = e ∙ filled.says ∙ ap (told length) (sym answers); left = filled.left ∙ rw answers }
+    polls : {r : Polled} → says_poll r.answer ≡ says_sent w → r.next ≡ (modbus_of c frame (length old)).next → Polls c frame old new r
+    polls e n =
+        record {
+          next = n;
+          fills = record { says = e ∙ filled.says ∙ ap (told length) (sym answers); left = filled.left ∙ rw answers };
+          sound = subst Sound (sym n) (modbus-sound c frame (length old) s);
+        }
 
     -- R8
-    pub too_short : (e : SendError) → w ≡ Err e → Replies c frame old new (Err M.R8)
-    too_short S.R8 k =
+    too_short-as : {r : Polled} (e : SendError) → w ≡ Err e → r.next ≡ c → r.answer ≡ Err M.R8 → Polls c frame old new r
+    too_short-as S.R8 k n a =
         let none : rule ≡ refused R8 [] = told-refused length rule R8 [] (sym filled.says ∙ ap says_sent k) in
-        record { fills = fills (sym (ap says_sent k)); next = modbus-refused c frame (length old) R8 [] (answers ∙ none) }
+        polls (ap says_poll a ∙ sym (ap says_sent k)) (n ∙ sym (modbus-refused c frame (length old) R8 [] (answers ∙ none)))
 
-    pub replied-to : {len : ℕ} {on : Bool} → w ≡ Ok len → on ≡ link_after (heard_as asked).ask c.link → Replies c frame old new (Ok (record { link = on; len = len }))
-    replied-to e l =
+    pub too_short : {r : Polled} → ((len : ℕ) → w ≢ Ok len) → r.next ≡ c → r.answer ≡ Err M.R8 → Polls c frame old new r
+    too_short never n a = not-ok w never (λ e k. too_short-as e k n a)
+
+    pub replied-to : {r : Polled} {len : ℕ} {on : Bool} → w ≡ Ok len → on ≡ link_after (heard_as asked).ask c.link → r.next ≡ with_link on c → r.answer ≡ Ok len → Polls c frame old new r
+    replied-to e l n a =
         let next = ap (λ (x : Given (List ℕ)). x.next) so ∙ served-next c (heard_as asked).ask rule (sym (ap says_sent e) ∙ filled.says) in
-        record { fills = fills (sym (ap says_sent e)); next = next ∙ ap (λ (b : Bool). with_link b c) (sym l) }
-
--- the controller with the link start that a reply leaves, and its answer
-pub polls : {c : Controller} {frame old new : List ℕ} {r : Polled} → Sound c → (a : Result Reply PollError) → Replies c frame old new a
-    → r.next ≡ with_link (link_left a c.link) c → says_poll r.answer ≡ says_reply a → Polls c frame old new r
-polls {c} {frame} {old} {new} {r} s a p n e =
-    let m = n ∙ sym p.next in
-    record {
-      next = m;
-      fills = record { says = e ∙ p.fills.says; left = p.fills.left };
-      sound = subst Sound (sym m) (modbus-sound c frame (length old) s);
-    }
+        polls (ap says_poll a ∙ sym (ap says_sent e)) (n ∙ ap (λ (b : Bool). with_link b c) l ∙ sym next)

@@ -1,35 +1,19 @@
 -- What the answer to a MODBUS frame says in the paper's words, and the contract. Assumes nothing.
-use Rattle.std.specs.Prelude.{◌≡◌, Bool, List, [], ℕ, length, Result, Ok, Err}
+use Rattle.std.specs.Prelude.{◌≡◌, List, [], ℕ, length, Result, Ok, Err}
 use Rattle.paper.specs.Answer.{Answer, done, refused, Fills}
 use Rattle.paper.specs.Numbers.{R8, R17}
-use Rattle.controller.specs.State.{with_link}
 use Rattle.controller.specs.Sound.{Sound}
 use Rattle.controller.specs.declared.Controller.{Controller}
 use Rattle.panel.specs.Modbus.{modbus_of}
 use Rattle.panel.specs.declared.PollError.{PollError}
 use Rattle.panel.specs.declared.PollError.TheVariants as M
 use Rattle.panel.specs.declared.Polled.{Polled}
-use Rattle.panel.specs.declared.Reply.{Reply}
 
 -- the reply's length; R17 and R8 have no place
 abbrev pub says_poll : Result ℕ PollError → Answer ℕ
 says_poll (Ok len) = done len
 says_poll (Err M.R17) = refused R17 []
 says_poll (Err M.R8) = refused R8 []
-
--- the same of a reply, and the link start that it leaves
-abbrev pub says_reply : Result Reply PollError → Answer ℕ
-says_reply (Ok served) = done served.len
-says_reply (Err error) = says_poll (Err error)
-
-abbrev pub link_left : Result Reply PollError → Bool → Bool
-link_left (Ok served) now = served.link
-link_left (Err error) now = now
-
--- the reply and the lent memory are the rule's, which sets or clears the link start at most
-pub record Replies (c : Controller) (frame old new : List ℕ) (r : Result Reply PollError) : Type 0 where
-  pub fills : Fills (says_reply r) (modbus_of c frame (length old)).answer old new
-  pub next : (modbus_of c frame (length old)).next ≡ with_link (link_left r c.link) c
 
 -- the next controller, the answer and the lent memory are the rule's, and the next controller is sound
 pub record Polls (c : Controller) (frame old new : List ℕ) (r : Polled) : Type 0 where

@@ -4,33 +4,15 @@
 ghost use Rattle.std.specs.Prelude.{◌≡◌};
 ghost use Rattle.controller.specs.State.{with_link};
 ghost use Rattle.controller.specs.Sound.{Sound};
-ghost use Rattle.panel.specs.Says.{Polls, Replies};
-ghost use Rattle.panel.specs.declared.PollError.{PollError};
+ghost use Rattle.panel.specs.Says.{Polls};
 
 use controller::Controller;
-use modbus::{HearError, SendError};
 
 // Why a MODBUS frame is refused: nothing is heard in it, or its reply has no room.
 #[derive(Clone, Copy, Debug, PartialEq, Eq)]
 pub enum PollError {
     R17,
     R8,
-}
-
-impl From<HearError> for PollError {
-    ghost from_gives = { λ _ e. e ≡ PollError.R17 };
-
-    fn from(_e: HearError) -> PollError {
-        PollError::R17
-    }
-}
-
-impl From<SendError> for PollError {
-    ghost from_gives = { λ _ e. e ≡ PollError.R8 };
-
-    fn from(_e: SendError) -> PollError {
-        PollError::R8
-    }
 }
 
 // The controller after a MODBUS frame, and the answer: the reply's length, 0 where there is none.
@@ -40,31 +22,16 @@ pub struct Polled {
     pub answer: Result<usize, PollError>,
 }
 
-// What a frame that is served leaves: the link start after it, and the reply's length.
-#[derive(Clone, Copy)]
-struct Reply {
-    link: bool,
-    len: usize,
-}
-
 // A MODBUS frame, with a lent reply buffer.
 pub fn poll(c: Controller, frame: &[u8], reply: &mut [u8]) -> Polled
     requires { Sound c }
     ensures { Polls c frame.now reply.old reply.new result }
 {
-    match reply_to(c, frame, reply) {
-        Ok(served) => linked(c, served.link, Ok(served.len)),
-        Err(error) => linked(c, c.link, Err(error)),
-    }
-}
-
-// The reply to a frame, at the buffer's start; a refusal leaves the buffer as it was.
-fn reply_to(c: Controller, frame: &[u8], reply: &mut [u8]) -> Result<Reply, PollError>
-    requires { Sound c }
-    ensures { Replies c frame.now reply.old reply.new result }
-{
     let address = c.set.address as u8;
-    let asked = modbus::hear(address, frame)?;
+    let Ok(asked) = modbus::hear(address, frame) else {
+        return linked(c, c.link, Err(PollError::R17));
+    };
+    let link = modbus::link_after(asked, c.link);
     let window = c.window;
     let words = readout::table(
         c.set,
@@ -78,9 +45,10 @@ fn reply_to(c: Controller, frame: &[u8], reply: &mut [u8]) -> Result<Reply, Poll
         c.counters,
         c.link,
     );
-    let len = modbus::serve(address, words, asked, reply)?;
-    let link = modbus::link_after(asked, c.link);
-    Ok(Reply { link, len })
+    let Ok(len) = modbus::serve(address, words, asked, reply) else {
+        return linked(c, c.link, Err(PollError::R8));
+    };
+    linked(c, link, Ok(len))
 }
 
 // A frame sets or clears the link start at most.

@@ -3,6 +3,7 @@
 
 ghost use Rattle.std.specs.Prelude.{◌≡◌, ◌+◌, ◌*◌, ◌<◌, ◌≤◌, length};
 ghost use Rattle.io.specs.Counts.{IsPrefixLen};
+ghost use Rattle.pieces.specs.Signed.{PutsSigned};
 
 // So many bytes of a buffer, at most all.
 pub fn within(n: usize, buffer: &[u8]) -> usize
@@ -31,7 +32,9 @@ fn field(out: &mut [u8], at: usize, n: u64) -> usize {
 }
 
 // A tab, a minus where the number is below 0, and its size.
-pub fn signed(out: &mut [u8], at: usize, v: i32) -> usize {
+pub fn signed(out: &mut [u8], at: usize, v: i32) -> usize
+    ensures { PutsSigned out.old at v out.new result }
+{
     let mut p = text::put_byte(out, at, text::TAB);
     if v < 0 {
         p = text::put_byte(out, p, b'-');
@@ -115,4 +118,19 @@ pub fn line(out: &mut [u8], at: usize, letter: u8, values: &[u64]) -> usize {
 pub fn shown(out: &mut [u8], at: usize, letter: u8, values: &[u64], buffer: &[u8]) -> usize {
     let after = put_words(out, at, letter, values);
     bytes(out, after, buffer)
+}
+
+// The same of two numbers, put without a list of them, which costs a line request less.
+pub fn reply(
+    out: &mut [u8],
+    at: usize,
+    letter: u8,
+    first: u64,
+    second: u64,
+    buffer: &[u8],
+) -> usize {
+    let after_letter = text::put_byte(out, at, letter);
+    let after_first = field(out, after_letter, first);
+    let after_second = field(out, after_first, second);
+    bytes(out, after_second, buffer)
 }

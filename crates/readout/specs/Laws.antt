@@ -1,6 +1,6 @@
 -- A weight that can be written is the one replied, and within the range its words are the f32's. Assumes nothing.
-use Rattle.std.specs.Prelude.{◌≡◌, refl, Bool, true, false, [], ◌∷◌, ℕ, eqb, Option, Some}
-use Rattle.std.specs.Option.{is_some}
+use Rattle.std.specs.Prelude.{◌≡◌, refl, Bool, true, false, [], ◌∷◌, ℕ, eqb, Result, Ok}
+use Rattle.std.specs.Result.{is_ok}
 use Rattle.std.proofs.Common.{ap, sym, ◌∙◌}
 use Rattle.laws.specs.Pick.{pick, pick-t, pick-if}
 use Rattle.settings.specs.declared.Settings.{Settings}
@@ -63,12 +63,12 @@ module _ (set : Settings) (window : Window) (z : Units) (s inputs : ℕ) (gates 
   unfolding values_for
   values-in n link a b = rw (words-in _ fine a, words-in _ coarse b)
 
--- Z is given where the samples allow the request, and there only
+-- the samples allow the request, and then Z is so
 module _ (op : ℕ) (set : Settings) (window : Window) (z : Units) where
-  pub zeroing-may : is_some (zeroing op set window z) ≡ may_zero op set window
+  pub zeroing-may : is_ok (zeroing op set window z) ≡ may_zero op set window
   unfolding zeroing
-  zeroing-may = pick-if (λ (o : Option Units). is_some o ≡ may_zero op set window) (may_zero op set window) sym sym
+  zeroing-may = pick-if (λ (o : Result Units Units). is_ok o ≡ may_zero op set window) (may_zero op set window) sym sym
 
-  pub zeroing-to : may_zero op set window ≡ true → zeroing op set window z ≡ Some (zero_to op set window z)
+  pub zeroing-to : may_zero op set window ≡ true → zeroing op set window z ≡ Ok (zero_to op set window z)
   unfolding zeroing
   zeroing-to h = pick-t _ _ _ h

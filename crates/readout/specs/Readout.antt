@@ -1,5 +1,5 @@
 -- What a master asks of the box's parts (document 01, "On the line"; document 02, W2). Assumes nothing.
-use Rattle.std.specs.Prelude.{Bool, not, ◌&&◌, ◌||◌, ℕ, leb, eqb, Option, Some, None}
+use Rattle.std.specs.Prelude.{Bool, not, ◌&&◌, ◌||◌, ℕ, leb, eqb, Option, Some, None, Result, Ok, Err}
 use Rattle.laws.specs.Pick.{pick}
 use Rattle.settings.specs.declared.Settings.{Settings}
 use Rattle.window.specs.Window.{samples_of}
@@ -32,9 +32,9 @@ may_zero op set window = not (eqb op 0xC0) || zeroable set window
 unfoldable pub zero_to : ℕ → Settings → Window → Units → Units
 zero_to op set window z = pick (eqb op 0xC0) (units (filtered window set.p8)) z
 
--- Z after a request, none where the samples do not allow it
-unfoldable pub zeroing : ℕ → Settings → Window → Units → Option Units
-zeroing op set window z = pick (may_zero op set window) (Some (zero_to op set window z)) None
+-- Z after a request; what it would be, where the samples do not allow it
+unfoldable pub zeroing : ℕ → Settings → Window → Units → Result Units Units
+zeroing op set window z = pick (may_zero op set window) (Ok (zero_to op set window z)) (Err (zero_to op set window z))
 
 -- ---- a reply
 

@@ -13,24 +13,24 @@ use registers::Values;
 use settings::Settings;
 use single::Words;
 
-// Z after a request that the samples allow (`samples` and `held` stay two parameters: `Zeroed` promises for any two): C0 asks AL0 or AL1, a sample held, and -M < F < M, and then Z becomes F; no other request asks it, and Z stays.
+// Z after a request, or the F that the samples do not allow C0 to take (`samples` and `held` stay two parameters: `Zeroed` promises for any two): C0 asks AL0 or AL1, a sample held, and -M < F < M, and then Z becomes F; no other request asks it, and Z stays.
 pub fn zero_of(
     operation: u8,
     set: Settings,
     samples: &[i32],
     held: usize,
     z: Units,
-) -> Option<Units>
+) -> Result<Units, Units>
     ensures { Zeroed operation set (as_window samples.now held) z result }
 {
     if operation != C0 {
-        return Some(z);
+        return Ok(z);
     }
     let f = scale::mean_lent(samples, held, set.p8);
     if set.algorithm <= 1 && !scale::holds_none(samples, held) && dosing::near_zero(set, f) {
-        Some(f)
+        Ok(f)
     } else {
-        None
+        Err(f)
     }
 }
 

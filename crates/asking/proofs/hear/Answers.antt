@@ -1,19 +1,17 @@
 -- A body that the reader found stands in its array and splits.
-use Rattle.std.proofs.lemmas.Result.{err_from_is_err_and}
-use Rattle.asking.proofs.Laws.{found-body, heard-parts, always-parts, heard-refused}
+use Rattle.asking.proofs.Laws.{found-body, heard-parts, heard-unread}
 use Rattle.asking.proofs.hear.Goals as goal
 
--- R9, R6
-pub returns-in_err-found : goal.returns-in_err-found
-returns-in_err-found c =
-    let p = err_from_is_err_and c.from_residual.result c.from_residual.ensures.1 in
-    rw (p.1, p.2) (heard-refused _ _ c.in_err-found.ensures)
-
 pub shared_ref_as_front-split_body : goal.shared_ref_as_front-split_body
-shared_ref_as_front-split_body c = (found-body _ _ c.in_ok-found.ensures).small
+shared_ref_as_front-split_body c = (found-body _ _ c.in-Ok.ensures).small
 
-pub returns-in_default : goal.returns-in_default
-returns-in_default c = always-parts (found-body _ _ c.in_ok-found.ensures) _ c.in_default.ensures
+pub returns-in-Ok : goal.returns-in-Ok
+returns-in-Ok c = heard-parts (found-body _ _ c.in-Ok.ensures) c.split_body.result c.split_body.ensures
 
-pub returns : goal.returns
-returns c = heard-parts (found-body _ _ c.in_ok-found.ensures) c.in-Ok.parts c.in-Ok.ensures
+-- R6
+pub returns-in-Err-R6 : goal.returns-in-Err-R6
+returns-in-Err-R6 c = heard-unread _ (rw c.in-Err-R6.field-0-is at c.in-Err-R6.ensures)
+
+-- R9
+pub returns-in-Err-R9 : goal.returns-in-Err-R9
+returns-in-Err-R9 c = heard-unread _ (rw c.in-Err-R9.field-0-is at c.in-Err-R9.ensures)

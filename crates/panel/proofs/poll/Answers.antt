@@ -1,13 +1,30 @@
-use mathlib.Core.Path.{ap}
-use Rattle.std.specs.Prelude.{Ok, Err}
-use Rattle.panel.specs.Says.{says_poll}
-use Rattle.panel.proofs.Panels.{polls}
+-- R17, then the reply or R8.
+use Prim.Native.Nat.{◌≤◌}
+use borrow.Author.Rules.{rules}
+use Rattle.settings.specs.Good.{good-ranges}
+use Rattle.panel.proofs.Panels.{silent, registers-so, too_short, replied-to}
 use Rattle.panel.proofs.poll.Goals as goal
 
-pub returns-in-Ok : goal.returns-in-Ok
-returns-in-Ok c =
-    polls c.requires (Ok c.in-Ok.served) (rw c.in-Ok.is at c.reply_to.ensures) c.linked.ensures.0 (ap says_poll c.linked.ensures.1)
+-- an address is a byte
+pub overflow_cast-address : goal.overflow_cast-address
+overflow_cast-address c =
+    let small : c.args.c.set.address ≤ 127 = (good-ranges _ c.requires.set).address.1 in
+    search rules
 
-pub returns-in-Err : goal.returns-in-Err
-returns-in-Err c =
-    polls c.requires (Err c.in-Err.error) (rw c.in-Err.is at c.reply_to.ensures) c.linked-in-Err.ensures.0 (ap says_poll c.linked-in-Err.ensures.1)
+-- R17
+pub returns-in_default : goal.returns-in_default
+returns-in_default c =
+    silent _ _ _ c.requires c.hear.result c.hear.ensures c.in_default.not-Ok c.linked.ensures.0 c.linked.ensures.1
+
+-- R8
+pub returns-in_default-serve : goal.returns-in_default-serve
+returns-in_default-serve c =
+    too_short _ _ _ c.requires c.hear.result c.hear.ensures c.in-Ok.asked c.in-Ok.is
+    (registers-so _ c.requires c.table-words.ensures) c.serve.result c.serve.ensures
+    c.in_default-serve.not-Ok c.linked-in_default-serve.ensures.0 c.linked-in_default-serve.ensures.1
+
+pub returns : goal.returns
+returns c =
+    replied-to _ _ _ c.requires c.hear.result c.hear.ensures c.in-Ok.asked c.in-Ok.is
+    (registers-so _ c.requires c.table-words.ensures) c.serve.result c.serve.ensures
+    c.in-Ok-serve.is c.link_after-link.ensures c.linked-2.ensures.0 c.linked-2.ensures.1

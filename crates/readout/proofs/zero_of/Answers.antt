@@ -1,7 +1,7 @@
 use mathlib.Core.Path.{◌≡◌, refl, ap, ◌∙◌}
 use mathlib.Core.Bool.{true, false}
 use borrow.Author.Tests.{eq-eqb, ne_eqb, le-leb, lt-leb}
-use Rattle.std.specs.Prelude.{Some}
+use Rattle.std.specs.Prelude.{Ok, Err}
 use Rattle.laws.specs.Pick.{pick}
 use Rattle.dosing.specs.Rules.{units}
 use Rattle.scale.specs.Scale.{as_window}
@@ -23,7 +23,7 @@ returns-then-near_zero c =
     let t : zeroable a.set (as_window a.samples.now a.held) ≡ true =
     zeroable-by c.args.set _ f c.holds_none.ensures c.near_zero.ensures
     ∙ rw (le-leb _ _ c.if-set-le1.true, c.if-not-holds_none.true, c.if-near_zero.true) in
-    ap Some f ∙ rw (eq-eqb _ _ c.if-operation-ne-C0.false, t)
+    ap Ok f ∙ rw (eq-eqb _ _ c.if-operation-ne-C0.false, t)
 
 -- one of the three tests failed
 kept : (c : Joined-else-set-le1) → let a = c.args in zeroable a.set (as_window a.samples.now a.held) ≡ false
@@ -39,5 +39,7 @@ kept c =
     ]
 
 pub returns-else-set-le1 : goal.returns-else-set-le1
-unfolding zeroing may_zero pick
-returns-else-set-le1 c = rw (eq-eqb _ _ c.if-operation-ne-C0.false, kept c)
+unfolding zeroing may_zero zero_to pick
+returns-else-set-le1 c =
+    let f = c.mean_lent-f.ensures ∙ ap units (as-filtered _ _ _) in
+    ap Err f ∙ rw (eq-eqb _ _ c.if-operation-ne-C0.false, kept c)
