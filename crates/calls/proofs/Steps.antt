@@ -1,4 +1,5 @@
 -- The answer at a line's end, by its bytes, by a number more or none, and that of a whole line. Assumes nothing.
+use Rattle.std.proofs.Common.{◌≢◌}
 use mathlib.Core.Path.{◌≡◌, refl, sym, ap, ◌∙◌, subst}
 use mathlib.Core.Bool.{Bool, ◌&&◌}
 use mathlib.Core.List.{List, [], ◌∷◌}
@@ -19,7 +20,7 @@ use Rattle.operands.specs.Numbers.{signed_field, Signed, leads_signed, ReadsSign
 use Rattle.operands.specs.Bytes.{carried, carried-half}
 use Rattle.calls.specs.Call.{Call, request, modbus, bytes, greatest32, bytes_at, bytes_field, or_last, at_end, call_by, call_of}
 use Rattle.calls.specs.Reads.{as_call, size_of, Within, parts, bytes_in, read_in, ReadsCall, known}
-use Rattle.calls.specs.Reading.{leads_row, Counts, Ended, call_in, Asks, Carries}
+use Rattle.calls.specs.Reading.{leads_row, Counts, Ended, Asks, Carries}
 use Rattle.calls.specs.declared.Call as declared
 use Rattle.calls.specs.declared.Use.{Use}
 use Rattle.calls.specs.declared.Call.TheVariants as C
@@ -32,17 +33,14 @@ step {s} y e = y.reads ∙ ap (leads_signed s) e
 
 module _ {s : List ℕ} {rule : Parsed Call} where
   -- nothing good was read
-  pub unasked : rule ≡ bad → Asks s rule None
+  pub unasked : rule ≡ bad → Asks s rule C.Unknown
   unfolding as_call size_of Within at_end
   unasked e = record { reads = ap at_end e; carries = omega arith; within = tt }
 
-  pub passed : {r : Option declared.Call} → r ≡ None → rule ≡ bad → Asks s rule r
-  passed f e = subst (Asks s rule) (sym f) (unasked e)
-
   -- by what follows
-  pub asked : {call : Call} {e : ℕ} {d : declared.Call} {r : Option declared.Call} → Ended s e d r → rule ≡ good call (drop e s) → good call [] ≡ as_call (carried s) d → size_of d ≤ length (carried s) → Within d → Asks s rule r
+  pub asked : {call : Call} {e : ℕ} {d r : declared.Call} → Ended s e d r → rule ≡ good call (drop e s) → good call [] ≡ as_call (carried s) d → size_of d ≤ length (carried s) → Within d → Asks s rule r
   unfolding at_end as_call size_of Within
-  asked {call} {e} {d} x h a n w =
+  asked {call} {e} {d} {r} x h a n w =
       let end : (t : List ℕ) → drop e s ≡ t → at_end rule ≡ at_end (good call t) = λ t f. ap at_end (h ∙ ap (good call) f) in
       rw x.is
       (pick-if (Asks s rule) (leb (length s) e)
@@ -50,7 +48,7 @@ module _ {s : List ℕ} {rule : Parsed Call} where
       (λ t. record { reads = end _ (from_byte s e (leb-false _ _ t)); carries = omega arith; within = tt }))
 
   -- where the line ends
-  pub asked-last : {call : Call} {d : declared.Call} → rule ≡ good call [] → good call [] ≡ as_call (carried s) d → size_of d ≤ length (carried s) → Within d → Asks s rule (Some d)
+  pub asked-last : {call : Call} {d : declared.Call} → rule ≡ good call [] → good call [] ≡ as_call (carried s) d → size_of d ≤ length (carried s) → Within d → Asks s rule d
   unfolding at_end
   asked-last h a n w = record { reads = ap at_end h ∙ a; carries = n; within = w }
 
@@ -88,6 +86,11 @@ module _ {n number : ℕ} {r : declared.Call} (h : n ≤ 2048) where
 pub few : (s : List ℕ) {n : ℕ} → n ≡ length (carried s) → length s ≤ 4095 → n ≤ 2047
 few s e h = omega (arith, carried-half s)
 
+-- what is no Some is None
+pub none : {A : Type 0} (r : Option A) → ((x : A) → r ≢ Some x) → r ≡ None
+none (Some x) never = absurd (never x refl)
+none None never = refl
+
 -- ---- a row of numbers
 
 pub row : {s : List ℕ} {rule : Parsed (List ℕ)} {r r' : Option (List ℕ × ℕ)} → Counts s rule r → r ≡ r' → rule ≡ leads_row s r'
@@ -107,7 +110,7 @@ module _ (without : Call) (behind : ℕ → Call) (s : List ℕ) (next : ℕ) wh
 -- ---- the answer to a whole line
 
 -- by a letter that is k
-pub by_key : {s : List ℕ} {b : ℕ} (k : ℕ) (rule : ℕ → List ℕ → Parsed Call) {r : Option declared.Call} → b ≡ get_or s 0 0 → b ≡ k → rule k (drop 1 s) ≡ call_by k (drop 1 s) → Asks s (rule b (drop 1 s)) r
+pub by_key : {s : List ℕ} {b : ℕ} (k : ℕ) (rule : ℕ → List ℕ → Parsed Call) {r : declared.Call} → b ≡ get_or s 0 0 → b ≡ k → rule k (drop 1 s) ≡ call_by k (drop 1 s) → Asks s (rule b (drop 1 s)) r
     → Asks s (call_by (get_or s 0 0) (drop 1 s)) r
 by_key {s} {b} k rule {r} e f g a = subst (λ (p : Parsed Call). Asks s p r) (ap (λ (n : ℕ). rule n (drop 1 s)) f ∙ g ∙ ap (λ (n : ℕ). call_by n (drop 1 s)) (sym f ∙ e)) a
 
@@ -132,10 +135,9 @@ module _ {l old : List ℕ} where
   unfolding read_in
   unread-long h k = unread (pick-f _ _ _ (ap (λ (t : Bool). t && leb (length l) 4095) (le-leb _ _ h) ∙ lt-leb _ _ k))
 
-  pub stored : {new : List ℕ} {q : Option declared.Call} → Asks l (call_by (get_or l 0 0) (drop 1 l)) q → 2048 ≤ length old → length l ≤ 4095 → new ≡ sets old 0 (take (size_of (call_in q)) (carried l)) → ReadsCall l old new (call_in q)
+  pub stored : {new : List ℕ} {r : declared.Call} → Asks l (call_by (get_or l 0 0) (drop 1 l)) r → 2048 ≤ length old → length l ≤ 4095 → new ≡ sets old 0 (take (size_of r) (carried l)) → ReadsCall l old new r
   unfolding read_in over
-  stored {new} {q} a h k e =
-      let r = call_in q in
+  stored {new} {r} a h k e =
       let b = take (size_of r) (carried l) in
       let size : length b ≡ size_of r = length-take-le (size_of r) (carried l) a.carries in
       let few = (known r).few a.within in

@@ -75,7 +75,7 @@ pub const BYTES: usize = 2048;
 const LONGEST: usize = 4095;
 
 // The call of a line that is no tick and no line request, by its letter; its bytes are only looked at.
-fn call_of(line: &[u8]) -> Option<Call>
+fn call_of(line: &[u8]) -> Call
     requires line { length line.now ≤ 4095 }
     requires letter { (get_or line.now 0 0 ≡ 84 → ⊥) × (get_or line.now 0 0 ≡ 66 → ⊥) }
     ensures { Asks line.now (call_by (get_or line.now 0 0) (drop 1 line.now)) result }
@@ -102,7 +102,7 @@ fn call_of(line: &[u8]) -> Option<Call>
             |n, hour| Call::Bytes(Use::Hour, n, hour),
         ),
         b'j' => asks::room(line, 2000, |n, room| Call::Bytes(Use::Hours, n, room)),
-        _ => None,
+        _ => Call::Unknown,
     }
 }
 
@@ -130,14 +130,14 @@ pub fn read(line: &[u8], bytes: &mut [u8]) -> Call
     }
     let letter = text::byte_at(line, 0);
     if letter == b'T' {
-        return asks::tick(line).unwrap_or(Call::Unknown);
+        return asks::tick(line);
     }
     if letter == b'B' {
-        let call = asks::room(line, 64, |n, room| Call::Request(n, room)).unwrap_or(Call::Unknown);
+        let call = asks::room(line, 64, |n, room| Call::Request(n, room));
         fields::store(line, size_of(call), bytes);
         return call;
     }
-    let call = call_of(line).unwrap_or(Call::Unknown);
+    let call = call_of(line);
     fields::store(line, size_of(call), bytes);
     call
 }

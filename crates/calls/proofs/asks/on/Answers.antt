@@ -3,19 +3,19 @@ use native.Mathlib.Omega.{arith}
 use Rattle.calls.specs.Call.{on_at}
 use Rattle.calls.specs.Reads.{as_call, size_of, Within}
 use Rattle.operands.specs.Parsing.{on-good, on-bad, num}
-use Rattle.calls.proofs.Steps.{passed, asked}
+use Rattle.calls.proofs.Steps.{unasked, asked}
 use Rattle.calls.proofs.asks.on.Goals as goal
 
 pub returns : goal.returns
 unfolding on_at as_call size_of Within
 returns c =
-    let room = num c.field_at-2.ensures c.in_ok-room.was in
-    asked c.ended.ensures (on-good _ (num c.field_at.ensures c.in_ok-hour.was) ∙ on-good _ room) refl (omega arith) tt
+    let room = num c.field_at-2.ensures c.in-Some-field_at.is in
+    asked c.ended.ensures (on-good _ (num c.field_at.ensures c.in-Some.is) ∙ on-good _ room) refl (omega arith) tt
 
-pub returns-in_err-hour : goal.returns-in_err-hour
+pub returns-in_default : goal.returns-in_default
 unfolding on_at
-returns-in_err-hour c = passed c.from_residual.ensures (on-bad _ (num c.field_at.ensures c.in_err-hour.was))
+returns-in_default c = unasked (on-bad _ (num c.field_at.ensures c.in_default.is))
 
-pub returns-in_err-room : goal.returns-in_err-room
+pub returns-in_default-field_at : goal.returns-in_default-field_at
 unfolding on_at
-returns-in_err-room c = passed c.from_residual-in_err-room.ensures (on-good _ (num c.field_at.ensures c.in_ok-hour.was) ∙ on-bad _ (num c.field_at-2.ensures c.in_err-room.was))
+returns-in_default-field_at c = unasked (on-good _ (num c.field_at.ensures c.in-Some.is) ∙ on-bad _ (num c.field_at-2.ensures c.in_default-field_at.is))
