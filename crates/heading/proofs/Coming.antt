@@ -5,7 +5,7 @@ use mathlib.Core.List.{List, [], ◌∷◌, ◌++◌, append_assoc, append-nil}
 use mathlib.Core.Logic.{◌⊎◌, inl, inr}
 use Prim.Native.Nat.{ℕ, suc, ◌+◌, ◌-◌, ◌≤◌, ◌<◌}
 use native.Mathlib.Omega.{arith}
-use Rattle.std.specs.Prelude.{Option, Some, None}
+use Rattle.std.specs.Prelude.{Option, Some, None, Result, Ok, Err}
 use lib.Dec.{ltb}
 use lib.ListN.{length, take, drop, length-drop, length-append, length-replicate, drop_of_length-le}
 use lib.Seq.{drop-drop, take_at, take-add, length-take-le}
@@ -151,7 +151,7 @@ module _ (i : Intake) (buffer : List ℕ) where
   }
 
   -- one that does not reads on
-  pub turned_more : (t : Taken) (new : List ℕ) (r : Option Intake) (j : Intake) → HandsOver i buffer t → t.next ≡ None → Refills t.intake buffer new r → r ≡ Some j → Turns i buffer new (record { found = F.More; intake = j })
+  pub turned_more : (t : Taken) (new : List ℕ) (r : Result Intake Intake) (j : Intake) → HandsOver i buffer t → t.next ≡ None → Refills t.intake buffer new r → r ≡ Ok j → Turns i buffer new (record { found = F.More; intake = j })
   turned_more t new r j e n f h = subst (λ (k : Intake). Turns i buffer new (record { found = F.More; intake = k })) (held-is f h) (record {
     brought = f.got;
     heads = λ came b.
@@ -168,8 +168,8 @@ module _ (i : Intake) (buffer : List ℕ) where
   })
 
   -- where nothing came there is no line
-  pub turned_none : (t : Taken) (new : List ℕ) (r : Option Intake) (j : Intake) → HandsOver i buffer t → t.next ≡ None → Refills t.intake buffer new r → r ≡ None → Turns i buffer new (record { found = F.Nothing; intake = j })
-  turned_none t new r j e n f m = record {
+  pub turned_none : (t : Taken) (new : List ℕ) (r : Result Intake Intake) (k j : Intake) → HandsOver i buffer t → t.next ≡ None → Refills t.intake buffer new r → r ≡ Err k → Turns i buffer new (record { found = F.Nothing; intake = j })
+  turned_none t new r k j e n f m = record {
     brought = f.got;
     heads = λ came b. plain-both came f.got (left t e n came b).0 (subst Plain (sym (none-came f m)) tt);
   }

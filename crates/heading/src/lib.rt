@@ -40,11 +40,11 @@ fn turn(stdin: Stdin, intake: Intake, buffer: &mut [u8]) -> Headed
         };
     }
     match refill::refill(stdin, taken.intake, buffer) {
-        Some(intake) => Headed {
+        Ok(intake) => Headed {
             found: Found::More,
             intake,
         },
-        None => Headed {
+        Err(_) => Headed {
             found: Found::Nothing,
             intake: Intake::start(),
         },

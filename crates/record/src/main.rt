@@ -37,7 +37,7 @@ fn turn(
             intake: fed.intake,
         });
     }
-    let intake = refill::refill(stdin, fed.intake, input)?;
+    let intake = refill::refill(stdin, fed.intake, input).ok()?;
     Some(Turned {
         state: fed.next,
         intake,

@@ -16,15 +16,17 @@ fn read_behind(mut stdin: Stdin, buffer: &mut [u8], held: usize) -> usize
     stdin.read(&mut buffer[held..]).unwrap_or(0)
 }
 
-// Brings what is pending to the buffer's start and reads once behind it; none where nothing came.
-pub fn refill(stdin: Stdin, intake: Intake, buffer: &mut [u8]) -> Option<Intake>
+// Brings what is pending to the buffer's start and reads once behind it; answers what is pending then: Ok where something came, Err where nothing did, as at the end of the input.
+pub fn refill(stdin: Stdin, intake: Intake, buffer: &mut [u8]) -> Result<Intake, Intake>
     ensures { Refills intake buffer.old buffer.new result }
 {
     let held = lines::carry(buffer, intake.at, intake.have);
     let n = read_behind(stdin, buffer, held);
-    (0 < n).then_some(Intake {
+    let more = 0 < n;
+    let intake = Intake {
         at: 0,
         have: held + n,
         long: intake.long,
-    })
+    };
+    if more { Ok(intake) } else { Err(intake) }
 }

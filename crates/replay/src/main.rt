@@ -12,7 +12,7 @@ fn main(rt: HostRuntime) {
     let mut c = Controller::fresh();
     let mut held = Intake::start();
     for _ in 0..u64::MAX {
-        let Some(intake) = refill::refill(stdin, held, &mut input) else {
+        let Ok(intake) = refill::refill(stdin, held, &mut input) else {
             return;
         };
         let carried = blocks::answer(c, intake, &input, &mut output);

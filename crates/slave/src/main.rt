@@ -42,7 +42,7 @@ fn set_up(stdin: Stdin, input: &mut [u8]) -> Brought
 {
     let mut brought = at_start();
     for _ in 0..MANY {
-        let Some(intake) = refill::refill(stdin, brought.intake, input) else {
+        let Ok(intake) = refill::refill(stdin, brought.intake, input) else {
             return brought;
         };
         brought = preset::bring(brought.controller, intake, input);
