@@ -122,7 +122,8 @@ pub fn answer(
         let most = room as usize;
         pieces::lend(&mut reply, most);
         let asked = c.request(&bytes[..size], &mut reply[..most]);
+        let said = asked.answer;
         c = asked.next;
-        len = boxed::say_request(out, len, asked.answer, most, &reply);
+        len = boxed::say_request(out, len, said, most, &reply);
     }
 }
