@@ -309,7 +309,8 @@ fn bad_body(body: &[u8]) -> bool
     too_short(body) || check_byte(body) != 0
 }
 
-// Reads bytes up to the end of the first finished body, and answers that body or why there is none.
+// Reads bytes up to the end of the first finished body, and answers that body or why there is none. Part of its caller, so that a body is not copied out of the answer (docs/SPEED.md).
+#[inline(always)]
 pub fn read_frame(bytes: &[u8]) -> Result<Finished, ReadError>
     ensures { ReadsFrame bytes.now result }
 {
