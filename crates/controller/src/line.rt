@@ -27,6 +27,8 @@ impl Controller {
         requires { Sound self }
         ensures { Replies self bytes.now reply.old reply.new (requested self result) }
     {
+        // Taken here the samples are copied once, taken where they are used twice.
+        let window = self.window;
         let heard = asking::hear(bytes);
         let place = heard.place;
         let Some(body) = heard.body else {
@@ -43,7 +45,6 @@ impl Controller {
         let Ok(()) = asking::code_stage(place, parts) else {
             return Err(RequestError::R7(place));
         };
-        let window = self.window;
         let held = window.held;
         // C0 wants Ready; no other request does.
         let timely = (operation != asking::C0) | is_ready(self.condition, self.phase);
