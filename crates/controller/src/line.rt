@@ -27,7 +27,7 @@ impl Controller {
         requires { Sound self }
         ensures { Replies self bytes.now reply.old reply.new (requested self result) }
     {
-        // Taken here the samples are copied once, taken where they are used twice.
+        // Taken first of all the samples are copied once; later the compiler would copy them again.
         let window = self.window;
         let heard = asking::hear(bytes);
         let place = heard.place;
