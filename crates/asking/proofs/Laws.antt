@@ -30,7 +30,7 @@ use Rattle.message.specs.declared.BuildError.TheVariants as B
 use Rattle.message.specs.declared.Form.{Form}
 use Rattle.message.specs.declared.Parts.{Parts}
 use Rattle.asking.specs.Asking.{heard_of, framed_of}
-use Rattle.asking.specs.Says.{says_parts, says_sent, built_as, wrote_as}
+use Rattle.asking.specs.Says.{says_error, says_parts, says_sent, read_as, built_as, wrote_as}
 use Rattle.std.specs.Prelude.{Result, Ok, Err}
 
 -- ---- bytes in an array
@@ -78,18 +78,26 @@ found-body s f e =
     record { small = omega (arith, (done-whole s g k).sized.most); read = rw (stands.is, a) k; splits = rw stands.is (whole-splits s g k) })
 
 -- what was found splits, for it is never too short
+pub always-parts : {s array : List ℕ} {place len : ℕ} → Finds s array place len → (e : SplitError) → message.says_split (Err e) ≡ split_of (take len array) → {Q : Type 0} → Q
+always-parts finds P.R6 says = refused-done (says ∙ finds.splits)
+
 pub heard-parts : {s array : List ℕ} {place len : ℕ} → Finds s array place len → (p : Result Parts SplitError) → message.says_split p ≡ split_of (take len array) → says_parts place p ≡ heard_of s
 unfolding heard_of told
 heard-parts {s} {array} {place} {len} finds (Ok p) says =
     let same = says ∙ finds.splits in
     let q : p ≡ parts_of (take len array) = cc in
     rw (finds.read, q)
-heard-parts finds (Err P.R6) says = refused-done (says ∙ finds.splits)
+heard-parts finds (Err e) says = always-parts finds e says
 
 -- what the reader refuses
 pub heard-unread : (s : List ℕ) {n : ℕ} {vs : List ℕ} → refused n vs ≡ told handed (read_of s) → refused n vs ≡ heard_of s
 unfolding heard_of told
 heard-unread s {n} {vs} e = rw (told-refused handed (read_of s) n vs (sym e))
+
+-- and that it is heard so where a caller hands it on
+pub heard-refused : (s : List ℕ) (e : ReadError) → says_found (Err e) ≡ told handed (read_of s) → says_error (read_as e) ≡ heard_of s
+heard-refused s (F.R9 place) h = heard-unread s h
+heard-refused s (F.R6 place) h = heard-unread s h
 
 -- ---- what building handed over
 

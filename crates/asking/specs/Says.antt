@@ -9,6 +9,8 @@ use Rattle.message.specs.declared.Parts.{Parts}
 use Rattle.asking.specs.Asking.{heard_of, address_of, code_of, time_of, zero_of, reply_of}
 use Rattle.message.specs.declared.SplitError.{SplitError}
 use Rattle.message.specs.declared.SplitError.TheVariants as P
+use Rattle.frame.specs.declared.ReadError.{ReadError}
+use Rattle.frame.specs.declared.ReadError.TheVariants as F
 use Rattle.frame.specs.declared.WriteError.{WriteError}
 use Rattle.frame.specs.declared.WriteError.TheVariants as W
 use Rattle.message.specs.declared.BuildError.{BuildError}
@@ -53,7 +55,11 @@ says_sent (Err S.Improper) = refused improper []
 says_sent (Err S.R14) = refused R14 []
 says_sent (Err S.R8) = refused R8 []
 
--- a refusal of building and of the writer, as one of the reply
+-- a refusal of the reader, of building and of the writer, as one of the request or of the reply
+abbrev pub read_as : ReadError → RequestError
+read_as (F.R9 place) = E.R9 place
+read_as (F.R6 place) = E.R6 place
+
 abbrev pub built_as : BuildError → SendError
 built_as B.Improper = S.Improper
 built_as B.R14 = S.R14

@@ -4,7 +4,7 @@
 ghost use Rattle.std.specs.Prelude.{◌≡◌, length};
 ghost use Rattle.paper.specs.Answer.{Fills};
 ghost use Rattle.asking.specs.Asking.{ours, reply_bytes, framed_of};
-ghost use Rattle.asking.specs.Says.{Hears, Addresses, Codes, Times, Zeroes, Sends, Holds, says_sent, built_as, wrote_as};
+ghost use Rattle.asking.specs.Says.{Hears, Addresses, Codes, Times, Zeroes, Sends, Holds, says_sent, read_as, built_as, wrote_as};
 
 use field::Field;
 use frame::{ReadError, WriteError};
@@ -31,6 +31,18 @@ pub enum RequestError {
     R3(usize),
     R4(usize),
     R8(usize),
+}
+
+// For a caller that hands the reader's refusal on by `?`; `hear` keeps it beside the place.
+impl From<ReadError> for RequestError {
+    ghost from_gives = { λ e r. r ≡ read_as e };
+
+    fn from(e: ReadError) -> RequestError {
+        match e {
+            ReadError::R9(place) => RequestError::R9(place),
+            ReadError::R6(place) => RequestError::R6(place),
+        }
+    }
 }
 
 // What stands in the bytes offered: the first finished body, taken apart or R6, with the place of the second closing FF; or none, with R9's place.
@@ -193,4 +205,20 @@ pub fn write_reply(
 {
     let (values, len) = data_of(holds);
     frame_reply(form, operation, &values[..len], reply)
+}
+
+#[cfg(test)]
+mod tests {
+    use super::*;
+
+    #[test]
+    fn read_error_passes_through(rt: HostRuntime) {
+        for (read, request) in [
+            (ReadError::R9(0), RequestError::R9(0)),
+            (ReadError::R9(7), RequestError::R9(7)),
+            (ReadError::R6(9), RequestError::R6(9)),
+        ] {
+            assert_eq!(rt; RequestError::from(read), request);
+        }
+    }
 }

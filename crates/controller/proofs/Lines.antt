@@ -72,17 +72,17 @@ pub heard-parts : (s : List ℕ) (h : Heard) {r : P.Result Parts SplitError} {p 
 heard-parts s h e i k = sym (ap (says_parts h.place) k) ∙ heard-body s h e i
 
 -- R9, R6
-unheard : (c : Controller) (s : List ℕ) (e : RequestError) → says_error e ≡ heard_of s → asked_of c s ≡ says_error e
+pub not-heard : (c : Controller) (s : List ℕ) (e : RequestError) → says_error e ≡ heard_of s → asked_of c s ≡ says_error e
 unfolding asked_of ask_of
-unheard c s e h = rw (← h) (simp on-error)
+not-heard c s e h = rw (← h) (simp on-error)
 
 pub unfinished : (c : Controller) (s : List ℕ) {place : ℕ} (b : P.Option (P.Result Parts SplitError)) → ((r : P.Result Parts SplitError) → b ≢ P.Some r) → says_body place b ≡ heard_of s → asked_of c s ≡ refused R9 (place ∷ [])
 unfinished c s (P.Some r) never h = absurd (never r refl)
-unfinished c s {place} P.None never h = unheard c s (E.R9 place) h
+unfinished c s {place} P.None never h = not-heard c s (E.R9 place) h
 
 pub unfit : (c : Controller) (s : List ℕ) {place : ℕ} (r : P.Result Parts SplitError) → ((p : Parts) → r ≢ Ok p) → says_parts place r ≡ heard_of s → asked_of c s ≡ refused R6 (place ∷ [])
 unfit c s (Ok p) never h = absurd (never p refl)
-unfit c s {place} (P.Err B.R6) never h = unheard c s (E.R6 place) h
+unfit c s {place} (P.Err B.R6) never h = not-heard c s (E.R6 place) h
 
 module _ (c : Controller) (s : List ℕ) {place : ℕ} {p : Parts} (heard : done (place, p) ≡ heard_of s) where
   by-stages : asked_of c s

@@ -5,14 +5,33 @@ ghost use Rattle.std.specs.Prelude.{◌≡◌};
 ghost use Rattle.controller.specs.State.{with_link};
 ghost use Rattle.controller.specs.Sound.{Sound};
 ghost use Rattle.panel.specs.Says.{Polls};
+ghost use Rattle.panel.specs.declared.PollError.{PollError};
 
 use controller::Controller;
+use modbus::{HearError, SendError};
 
 // Why a MODBUS frame is refused: nothing is heard in it, or its reply has no room.
 #[derive(Clone, Copy, Debug, PartialEq, Eq)]
 pub enum PollError {
     R17,
     R8,
+}
+
+// For a caller that hands modbus's refusals on by `?`; `poll` takes each apart by itself.
+impl From<HearError> for PollError {
+    ghost from_gives = { λ _ e. e ≡ PollError.R17 };
+
+    fn from(_e: HearError) -> PollError {
+        PollError::R17
+    }
+}
+
+impl From<SendError> for PollError {
+    ghost from_gives = { λ _ e. e ≡ PollError.R8 };
+
+    fn from(_e: SendError) -> PollError {
+        PollError::R8
+    }
 }
 
 // The controller after a MODBUS frame, and the answer: the reply's length, 0 where there is none.
@@ -57,4 +76,15 @@ fn linked(mut c: Controller, link: bool, answer: Result<usize, PollError>) -> Po
 {
     c.link = link;
     Polled { next: c, answer }
+}
+
+#[cfg(test)]
+mod tests {
+    use super::*;
+
+    #[test]
+    fn modbus_errors_pass_through(rt: HostRuntime) {
+        assert_eq!(rt; PollError::from(HearError::R17), PollError::R17);
+        assert_eq!(rt; PollError::from(SendError::R8), PollError::R8);
+    }
 }
