@@ -81,6 +81,7 @@ found-body s f e =
 pub always-parts : {s array : List ℕ} {place len : ℕ} → Finds s array place len → (e : SplitError) → message.says_split (Err e) ≡ split_of (take len array) → {Q : Type 0} → Q
 always-parts finds P.R6 says = refused-done (says ∙ finds.splits)
 
+-- so its parts are heard, and R6 never
 pub heard-parts : {s array : List ℕ} {place len : ℕ} → Finds s array place len → (p : Result Parts SplitError) → message.says_split p ≡ split_of (take len array) → says_parts place p ≡ heard_of s
 unfolding heard_of told
 heard-parts {s} {array} {place} {len} finds (Ok p) says =
@@ -94,7 +95,7 @@ pub heard-unread : (s : List ℕ) {n : ℕ} {vs : List ℕ} → refused n vs ≡
 unfolding heard_of told
 heard-unread s {n} {vs} e = rw (told-refused handed (read_of s) n vs (sym e))
 
--- and that it is heard so where a caller hands it on
+-- as an error of the request it is what is heard
 pub heard-refused : (s : List ℕ) (e : ReadError) → says_found (Err e) ≡ told handed (read_of s) → says_error (read_as e) ≡ heard_of s
 heard-refused s (F.R9 place) h = heard-unread s h
 heard-refused s (F.R6 place) h = heard-unread s h
